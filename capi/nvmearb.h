@@ -68,7 +68,10 @@ extern "C" {
 #define NVMEARB_VERSION_PATCH 0
 #define NVMEARB_VERSION (NVMEARB_VERSION_MAJOR * 0x10000u + NVMEARB_VERSION_MINOR * 0x100u + NVMEARB_VERSION_PATCH)
 
-/* Returns the version of the library. */
+/*
+ * Returns the version of the library. If it isn't NVMEARB_VERSION, this header is that of another library, or nothing of
+ * the library is proved (NVMEARB_UNPROVED).
+ */
 uint32_t nvmearb_version(void);
 
 /* The states, by numbers for nvmearb_size. */

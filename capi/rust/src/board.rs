@@ -2,7 +2,7 @@
 //! The board.
 use crate::error::{checked, found, sure};
 use crate::{check_version, sys, Error, Mechanism, OneCaller, Pick, Priority};
-use std::fmt;
+use core::fmt;
 
 /// An arbiter with the open queues and the number of commands that wait in each. It picks what an
 /// [`Arbiter`](crate::Arbiter) picks that is shown the same queues.

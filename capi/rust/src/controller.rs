@@ -3,10 +3,10 @@
 use crate::error::{checked, found, rung, sure, written};
 use crate::sys::{self, nvmearb_ctrl, nvmearb_slot};
 use crate::{
-    check_version, Answer, DoorbellError, Error, Mechanism, OneCaller, Pick, Priority, Region, Seen, Sqe, Status,
+    check_version, DoorbellError, Error, Mechanism, OneCaller, Pick, Priority, Region, Seen, Slots, Sqe, Status, Step,
 };
-use crate::{CQE_BYTES, MAX_SLOTS, SQE_BYTES};
-use std::fmt;
+use crate::{CQE_BYTES, MAX_IO_QUEUES, MAX_QUEUES, SQE_BYTES};
+use core::fmt;
 
 /// What a controller is made with.
 #[derive(Clone, Copy, Debug, PartialEq, Eq, Hash)]
@@ -19,9 +19,9 @@ pub struct Config {
     pub mechanism: Mechanism,
     /// The Arbitration feature; bits 07:03 are ignored.
     pub cdw11: u32,
-    /// The most I/O submission queues, 1 to [`MAX_IO_QUEUES`](crate::MAX_IO_QUEUES).
+    /// The most I/O submission queues, 1 to [`MAX_IO_QUEUES`].
     pub nsq: u16,
-    /// The most I/O completion queues, 1 to [`MAX_IO_QUEUES`](crate::MAX_IO_QUEUES).
+    /// The most I/O completion queues, 1 to [`MAX_IO_QUEUES`].
     pub ncq: u16,
     /// The most commands of a queue that are fetched and not picked; above 256 it is 256.
     pub window: u16,
@@ -58,48 +58,22 @@ impl Placement {
     }
 }
 
-/// What a Create that made a queue asked for. After any other command all is 0.
-#[derive(Clone, Copy, Debug, Default, PartialEq, Eq, Hash)]
-pub struct Asked {
-    /// PRP1: where the ring lies.
-    pub address: u64,
-    /// QSIZE: its slots less 1.
-    pub qsize: u16,
-    /// IV of a completion queue; 0 of a submission queue.
-    pub vector: u16,
-    /// IEN of a completion queue; false of a submission queue.
-    pub interrupts: bool,
-}
+/// The name of a command from its fetch until its completion is posted. After a reset the same tags are those of other
+/// commands.
+#[derive(Clone, Copy, Debug, PartialEq, Eq, PartialOrd, Ord, Hash)]
+pub struct Tag(u16);
 
-impl Asked {
-    fn of(fields: &sys::nvmearb_asked) -> Asked {
-        let sys::nvmearb_asked { address, qsize, vector, interrupts } = *fields;
-        Asked { address, qsize, vector, interrupts: interrupts != 0 }
+impl Tag {
+    /// Its number: the index of the command's slot.
+    pub fn number(self) -> u16 {
+        self.0
     }
 }
 
-/// What a pick did.
-#[derive(Clone, Copy, Debug, PartialEq, Eq, Hash)]
-pub enum Step {
-    /// Commands of an I/O queue were picked: [`Controller::take`] gives them.
-    Picked(Pick),
-    /// A command of the admin queue was picked and carried out, and came to this. The caller ends a deletion
-    /// ([`Verdict::BeginDelete`](crate::Verdict::BeginDelete), by [`Controller::finish`]), and keeps what a Create asked
-    /// for that made a queue. Nothing else is left to do: its completion becomes ready by itself.
-    CarriedOut(Answer, Asked),
-    /// A command of the admin queue was picked that is the device's ([`Controller::own_opcode`],
-    /// [`Controller::own_feature`]): [`Controller::take`] gives it.
-    Passed(Pick),
-}
-
-impl Step {
-    fn of(fields: &sys::nvmearb_step) -> Step {
-        match fields.kind {
-            sys::NVMEARB_PICKED => Step::Picked(Pick::of(&fields.pick)),
-            sys::NVMEARB_CARRIED_OUT => Step::CarriedOut(Answer::of(&fields.answer), Asked::of(&fields.asked)),
-            sys::NVMEARB_PASSED => Step::Passed(Pick::of(&fields.pick)),
-            kind => panic!("libnvmearb told a step of the kind {kind}, which can't be"),
-        }
+/// As for a device that keeps its commands by number, or saves them. Calls refuse the tag of no command.
+impl From<u16> for Tag {
+    fn from(number: u16) -> Tag {
+        Tag(number)
     }
 }
 
@@ -111,12 +85,12 @@ pub struct Command {
     /// What the caller gave [`Controller::fetched`] with it, for example the number of its queue.
     pub cookie: u32,
     /// Its name until its completion is posted.
-    pub tag: u16,
+    pub tag: Tag,
 }
 
 impl Command {
     fn of(fields: &sys::nvmearb_command) -> Command {
-        Command { entry: Sqe::of(&fields.entry), cookie: fields.cookie, tag: fields.tag }
+        Command { entry: Sqe::of(&fields.entry), cookie: fields.cookie, tag: Tag(fields.tag) }
     }
 }
 
@@ -148,7 +122,7 @@ pub struct Post {
     /// The cookie of its command.
     pub cookie: u32,
     /// The tag of its command, free from now on.
-    pub tag: u16,
+    pub tag: Tag,
     /// The slot of the ring.
     pub slot: u16,
 }
@@ -156,7 +130,7 @@ pub struct Post {
 impl Post {
     fn of(fields: &sys::nvmearb_post) -> Post {
         let sys::nvmearb_post { bytes, cookie, tag, slot } = *fields;
-        Post { bytes, cookie, tag, slot }
+        Post { bytes, cookie, tag: Tag(tag), slot }
     }
 
     /// Its marks: those that the device gave, or for what the controller answers itself Do Not Retry where a retry
@@ -166,7 +140,8 @@ impl Post {
     }
 }
 
-/// The front of a whole controller, which is driven by calls. It owns its state and the slots that hold the commands.
+/// The front of a whole controller, which is driven by calls. It has its state, of 6,000 bytes, and the slots that hold
+/// the commands ([`Slots`]), and allocates nothing.
 ///
 /// The order of calls:
 ///
@@ -178,9 +153,10 @@ impl Post {
 ///    such as Identify.
 /// 3. At each doorbell write [`Controller::sq_tail`] or [`Controller::cq_head`].
 /// 4. For each queue, while [`Controller::fetch`] tells a slot: read the entry there, and [`Controller::fetched`].
+///    [`Controller::to_fetch`] tells all queues that have one.
 /// 5. While [`Controller::take`] gives a command, execute it. Where it has none, [`Controller::pick`], and begin again,
-///    until that picks nothing either. At a step that created a queue keep its [`Asked`] by the identifier, those of
-///    submission queues and of completion queues apart. At one that began a deletion do 8. at once.
+///    until that picks nothing either. At a step that created a queue keep its [`Asked`](crate::Asked) by the
+///    identifier, those of submission queues and of completion queues apart. At one that began a deletion do 8. at once.
 /// 6. [`Controller::complete`] or [`Controller::complete_with`] for each command that ends, in any order and at any
 ///    time.
 /// 7. For each completion queue, while [`Controller::post`] gives a completion: write it into the slot of the ring,
@@ -205,7 +181,7 @@ impl Post {
 /// It isn't `Clone`: two copies would post the same completions.
 ///
 /// ```
-/// use nvmearb::{admin_opcode, feature, Config, Controller, Cqe, Mechanism, Placement, Region, Sqe};
+/// use nvmearb::{admin_opcode, feature, Config, Controller, Cqe, Mechanism, Placement, Region, Slot, Sqe};
 ///
 /// let mut ctrl = Controller::anywhere(
 ///     &Config {
@@ -218,55 +194,51 @@ impl Post {
 ///         window: 8,
 ///     },
 ///     &Placement { page: 4096, mqes: 4095, vectors: 1 },
-///     5 * 8 + 256,
-/// )?;
+///     [Slot::EMPTY; 5 * 8 + 256],
+/// )
+/// .expect("its numbers are in their ranges");
 /// let entry =
 ///     Sqe { opcode: admin_opcode::GET_FEATURES, cid: 5, cdw10: feature::ARBITRATION.into(), ..Sqe::default() };
-/// ctrl.sq_tail(0, 1)?; // the host submitted a command to the admin queue
+/// ctrl.sq_tail(0, 1).expect("the ring has room"); // the host submitted a command to the admin queue
 /// assert_eq!(ctrl.fetch(0), Some(0)); // its entry is in slot 0
 /// ctrl.fetched(0, &entry.to_bytes(), 0)?;
 /// ctrl.pick()?; // the controller carries it out
 /// let post = ctrl.post(0).expect("its completion is ready");
 /// assert_eq!((post.slot, Cqe::from_bytes(&post.bytes)?.dw0), (0, 7));
-/// # Ok::<(), Box<dyn std::error::Error>>(())
+/// # Ok::<(), nvmearb::Error>(())
 /// ```
-pub struct Controller {
+pub struct Controller<S> {
     // These two go together: the library wrote what is in both, and nothing else writes into them.
-    ctrl: Box<nvmearb_ctrl>,
-    slots: Box<[nvmearb_slot]>,
+    pub(crate) ctrl: nvmearb_ctrl,
+    pub(crate) slots: S,
     one_caller: OneCaller,
 }
 
-impl Controller {
-    /// A controller with its admin queues alone, which are open, on region 0 of each kind. It has `slots` slots: one
-    /// holds one command from its fetch until its completion is posted, and nothing is fetched while none is free. With
-    /// `window` slots for each submission region, the admin queue's included, and 256 more, one is free for each command
-    /// that may be fetched otherwise, while no queue is being deleted. With fewer, commands of one queue may keep
-    /// those of another from being fetched. Commands that a deletion drops hold their slots until their completions are
-    /// posted.
+impl<S: Slots> Controller<S> {
+    /// A controller with its admin queues alone, which are open, on region 0 of each kind. One of the `slots` holds one
+    /// command from its fetch until its completion is posted, and nothing is fetched while none is free. With `window`
+    /// slots for each submission region, the admin queue's included, and 256 more, one is free for each command that may
+    /// be fetched otherwise, while no queue is being deleted. With fewer, commands of one queue may keep those of another
+    /// from being fetched. Commands that a deletion drops hold their slots until their completions are posted.
     ///
-    /// [`Error::Argument`]: `slots` isn't 1 to [`MAX_SLOTS`], `nsq` or `ncq` isn't 1 to
-    /// [`MAX_IO_QUEUES`](crate::MAX_IO_QUEUES), or `window` is 0. Otherwise the first of these: [`Error::Size`]: `asq`
-    /// doesn't have 2 to 4096 slots. [`Error::Used`]: `acq` has the address of `asq`. [`Error::Size`]: `acq` doesn't
-    /// have 2 to 4096 slots.
+    /// The call takes some 34 KB of stack, and each other call 1 KB.
+    ///
+    /// [`Error::Argument`]: there aren't 1 to [`MAX_SLOTS`](crate::MAX_SLOTS) slots, `nsq` or `ncq` isn't 1 to
+    /// [`MAX_IO_QUEUES`], or `window` is 0. Otherwise the first of these: [`Error::Size`]: `asq` doesn't have 2 to 4096
+    /// slots. [`Error::Used`]: `acq` has the address of `asq`. [`Error::Size`]: `acq` doesn't have 2 to 4096 slots.
     ///
     /// # Panics
     ///
     /// If the library isn't of this crate's version.
-    pub fn new(config: &Config, slots: usize) -> Result<Controller, Error> {
-        let mut controller = Controller::with_slots(slots)?;
+    pub fn new(config: &Config, slots: S) -> Result<Controller<S>, Error> {
+        check_version();
+        let mut controller = Controller::of(nvmearb_ctrl::default(), slots);
         controller.reset(config)?;
         Ok(controller)
     }
 
-    // One that isn't made yet.
-    fn with_slots(slots: usize) -> Result<Controller, Error> {
-        check_version();
-        if slots > MAX_SLOTS {
-            return Err(Error::Argument); // (before that much memory is asked for)
-        }
-        let slots = vec![nvmearb_slot::default(); slots].into_boxed_slice();
-        Ok(Controller { ctrl: Box::default(), slots, one_caller: OneCaller::default() })
+    pub(crate) fn of(ctrl: nvmearb_ctrl, slots: S) -> Controller<S> {
+        Controller { ctrl, slots, one_caller: OneCaller::default() }
     }
 
     /// Makes the controller anew with the slots that it has, as at a controller reset: nothing of before is left.
@@ -294,8 +266,9 @@ impl Controller {
     /// # Panics
     ///
     /// If the library isn't of this crate's version.
-    pub fn anywhere(config: &Config, placement: &Placement, slots: usize) -> Result<Controller, Error> {
-        let mut controller = Controller::with_slots(slots)?;
+    pub fn anywhere(config: &Config, placement: &Placement, slots: S) -> Result<Controller<S>, Error> {
+        check_version();
+        let mut controller = Controller::of(nvmearb_ctrl::default(), slots);
         controller.reset_anywhere(config, placement)?;
         Ok(controller)
     }
@@ -316,13 +289,13 @@ impl Controller {
     /// isn't 2 to 4096.
     pub fn add_sq_region(&mut self, address: u64, slots: u16) -> Result<u16, Error> {
         // SAFETY: references.
-        written(|number| unsafe { sys::nvmearb_ctrl_add_sq_region(&mut *self.ctrl, address, slots, number) })
+        written(|number| unsafe { sys::nvmearb_ctrl_add_sq_region(&mut self.ctrl, address, slots, number) })
     }
 
     /// Adds a completion region, as [`Controller::add_sq_region`] a submission region.
     pub fn add_cq_region(&mut self, address: u64, slots: u16) -> Result<u16, Error> {
         // SAFETY: references.
-        written(|number| unsafe { sys::nvmearb_ctrl_add_cq_region(&mut *self.ctrl, address, slots, number) })
+        written(|number| unsafe { sys::nvmearb_ctrl_add_cq_region(&mut self.ctrl, address, slots, number) })
     }
 
     /// From now on the admin commands of this opcode are the device's: they are picked in their turn
@@ -336,7 +309,7 @@ impl Controller {
     /// or 1 where it couldn't. One that isn't the device's is answered with 1 where no command waits.
     pub fn own_opcode(&mut self, opcode: u8) {
         // SAFETY: references.
-        sure(checked(unsafe { sys::nvmearb_ctrl_own_opcode(&mut *self.ctrl, opcode) }));
+        sure(checked(unsafe { sys::nvmearb_ctrl_own_opcode(&mut self.ctrl, opcode) }));
     }
 
     /// From now on Set Features and Get Features of this feature identifier are the device's, as
@@ -344,7 +317,7 @@ impl Controller {
     /// selects (SEL) another value than the current one.
     pub fn own_feature(&mut self, fid: u8) {
         // SAFETY: references.
-        sure(checked(unsafe { sys::nvmearb_ctrl_own_feature(&mut *self.ctrl, fid) }));
+        sure(checked(unsafe { sys::nvmearb_ctrl_own_feature(&mut self.ctrl, fid) }));
     }
 
     /// From now on no command of a submission queue is picked (`on`), or they are again. What waits in it stays there,
@@ -354,7 +327,7 @@ impl Controller {
     /// [`Error::Missing`]: the queue isn't open or is closing.
     pub fn hold(&mut self, qid: u16, on: bool) -> Result<(), Error> {
         // SAFETY: references.
-        checked(unsafe { sys::nvmearb_ctrl_hold(&mut *self.ctrl, qid, u8::from(on)) })
+        checked(unsafe { sys::nvmearb_ctrl_hold(&mut self.ctrl, qid, u8::from(on)) })
     }
 
     /// From now on an I/O submission queue has this priority class, whatever its Create asked for (QPRIO). Linux asks
@@ -365,7 +338,7 @@ impl Controller {
     /// isn't open or is closing.
     pub fn set_class(&mut self, qid: u16, priority: Priority) -> Result<(), Error> {
         // SAFETY: references.
-        checked(unsafe { sys::nvmearb_ctrl_set_class(&mut *self.ctrl, qid, priority as u16) })
+        checked(unsafe { sys::nvmearb_ctrl_set_class(&mut self.ctrl, qid, priority as u16) })
     }
 
     /// The host wrote the tail doorbell of a submission queue: `tail` is bits 15:00 of the value.
@@ -374,7 +347,7 @@ impl Controller {
     /// has no such slot, or hasn't as many free slots. A ring has one slot less of commands than it has slots.
     pub fn sq_tail(&mut self, qid: u16, tail: u16) -> Result<(), DoorbellError> {
         // SAFETY: references.
-        rung(unsafe { sys::nvmearb_ctrl_sq_tail(&mut *self.ctrl, qid, tail) })
+        rung(unsafe { sys::nvmearb_ctrl_sq_tail(&mut self.ctrl, qid, tail) })
     }
 
     /// The host wrote the head doorbell of a completion queue: `head` is bits 15:00 of the value.
@@ -383,7 +356,7 @@ impl Controller {
     /// slot, or not as many completions were posted.
     pub fn cq_head(&mut self, cqid: u16, head: u16) -> Result<(), DoorbellError> {
         // SAFETY: references.
-        rung(unsafe { sys::nvmearb_ctrl_cq_head(&mut *self.ctrl, cqid, head) })
+        rung(unsafe { sys::nvmearb_ctrl_cq_head(&mut self.ctrl, cqid, head) })
     }
 
     /// The slot of the ring of a submission queue whose entry is fetched next. None if the queue isn't open, the host
@@ -391,7 +364,7 @@ impl Controller {
     /// is free. A queue isn't open any more once its deletion began.
     pub fn fetch(&self, qid: u16) -> Option<u16> {
         // SAFETY: references.
-        sure(found(|slot| unsafe { sys::nvmearb_ctrl_fetch(&*self.ctrl, qid, slot) }))
+        sure(found(|slot| unsafe { sys::nvmearb_ctrl_fetch(&self.ctrl, qid, slot) }))
     }
 
     /// The entry in the slot that [`Controller::fetch`] tells was read: its command waits to be picked. `cookie` is
@@ -407,25 +380,27 @@ impl Controller {
     /// The pick that arbitration makes next of the commands that wait now, whether or not [`Controller::pick`] can make
     /// it already. None if no command waits but in queues that are held.
     pub fn peek(&self) -> Option<Pick> {
-        let (ctrl, slots) = (&*self.ctrl, &*self.slots);
+        let (ctrl, slots, count) = self.shared_parts();
         // SAFETY: references, and the slots are those of the state.
-        sure(found(|pick| unsafe { sys::nvmearb_ctrl_peek(ctrl, slots.as_ptr(), slots.len(), pick) }))
-            .as_ref()
-            .map(Pick::of)
+        sure(found(|pick| unsafe { sys::nvmearb_ctrl_peek(ctrl, slots, count, pick) })).as_ref().map(Pick::of)
     }
 
-    /// Makes the next pick of arbitration. None if no command waits but in queues that are held. An admin command that
-    /// isn't the device's is carried out at once: queues are created, a deletion begins and the waiting commands of its
-    /// queue are answered with [`Status::ABORTED_BY_DELETION`], a waiting command is aborted with
-    /// [`Status::ABORT_REQUESTED`], features are set and told.
+    /// Makes the next pick of arbitration, or tells by [`Step::Idle`], [`Step::Busy`] or [`Step::Full`] why there is
+    /// none yet. An admin command that isn't the device's is carried out at once: queues are created, a deletion begins
+    /// and the waiting commands of its queue are answered with [`Status::ABORTED_BY_DELETION`], a waiting command is
+    /// aborted with [`Status::ABORT_REQUESTED`], features are set and told.
     ///
-    /// [`Error::Busy`]: commands are picked and not taken. [`Error::Full`]: more than 256 commands would be picked, or
-    /// aborted by an Abort, and have no completion posted.
-    pub fn pick(&mut self) -> Result<Option<Step>, Error> {
+    /// [`Error::State`]: something outside of Rust's rules wrote into the controller.
+    pub fn pick(&mut self) -> Result<Step, Error> {
+        let mut step = sys::nvmearb_step::default();
         let (ctrl, slots, count) = self.parts();
         // SAFETY: references, and the slots are those of the state.
-        let step = found(|step| unsafe { sys::nvmearb_ctrl_pick(ctrl, slots, count, step) })?;
-        Ok(step.as_ref().map(Step::of))
+        match unsafe { sys::nvmearb_ctrl_pick(ctrl, slots, count, &mut step) } {
+            sys::NVMEARB_NONE => Ok(Step::Idle),
+            sys::NVMEARB_BUSY => Ok(Step::Busy),
+            sys::NVMEARB_FULL => Ok(Step::Full),
+            code => checked(code).map(|()| Step::of(&step)),
+        }
     }
 
     /// The device takes the oldest of the commands that are picked and not taken. None if all are taken.
@@ -439,20 +414,20 @@ impl Controller {
     /// The device completes a command, whose completion is ready then. `dw0` is its Command Dword 0.
     ///
     /// [`Error::Missing`]: the device has no command of this tag: none was taken under it, or it is completed already.
-    pub fn complete(&mut self, tag: u16, status: Status, dw0: u32) -> Result<(), Error> {
+    pub fn complete(&mut self, tag: Tag, status: Status, dw0: u32) -> Result<(), Error> {
         let (ctrl, slots, count) = self.parts();
         // SAFETY: references, and the slots are those of the state.
-        checked(unsafe { sys::nvmearb_ctrl_complete(ctrl, slots, count, tag, &status.fields(), dw0) })
+        checked(unsafe { sys::nvmearb_ctrl_complete(ctrl, slots, count, tag.0, &status.fields(), dw0) })
     }
 
     /// The device completes a command, with marks; [`Controller::complete`] gives it none.
     ///
     /// [`Error::Missing`]: as [`Controller::complete`].
-    pub fn complete_with(&mut self, tag: u16, status: Status, dw0: u32, marks: Marks) -> Result<(), Error> {
+    pub fn complete_with(&mut self, tag: Tag, status: Status, dw0: u32, marks: Marks) -> Result<(), Error> {
         let (ctrl, slots, count) = self.parts();
         let (status, marks) = (status.fields(), marks.number());
         // SAFETY: references, and the slots are those of the state.
-        checked(unsafe { sys::nvmearb_ctrl_complete_with(ctrl, slots, count, tag, &status, dw0, marks) })
+        checked(unsafe { sys::nvmearb_ctrl_complete_with(ctrl, slots, count, tag.0, &status, dw0, marks) })
     }
 
     /// The completion that became ready first in the completion queue `cqid`. None if the queue isn't open, if none is
@@ -474,52 +449,52 @@ impl Controller {
     }
 
     /// The command of a tag once more. None if the device has no command of this tag.
-    pub fn command(&self, tag: u16) -> Option<Command> {
-        let (ctrl, slots) = (&*self.ctrl, &*self.slots);
+    pub fn command(&self, tag: Tag) -> Option<Command> {
+        let (ctrl, slots, count) = self.shared_parts();
         // SAFETY: references, and the slots are those of the state.
-        sure(found(|command| unsafe { sys::nvmearb_ctrl_command(ctrl, slots.as_ptr(), slots.len(), tag, command) }))
+        sure(found(|command| unsafe { sys::nvmearb_ctrl_command(ctrl, slots, count, tag.0, command) }))
             .as_ref()
             .map(Command::of)
     }
 
     /// The tag of the command with the identifier `cid`, of the submission queue `qid`, that the device has, so that it
     /// finds what an Abort names. None if the device has no such command: it waits, say, or is completed.
-    pub fn named(&self, qid: u16, cid: u16) -> Option<u16> {
-        let (ctrl, slots) = (&*self.ctrl, &*self.slots);
+    pub fn named(&self, qid: u16, cid: u16) -> Option<Tag> {
+        let (ctrl, slots, count) = self.shared_parts();
         // SAFETY: references, and the slots are those of the state.
-        sure(found(|tag| unsafe { sys::nvmearb_ctrl_named(ctrl, slots.as_ptr(), slots.len(), qid, cid, tag) }))
+        sure(found(|tag| unsafe { sys::nvmearb_ctrl_named(ctrl, slots, count, qid, cid, tag) })).map(Tag)
     }
 
     /// The number of the region of a submission queue, which is `qid` where queues may lie anywhere. None if the queue
     /// isn't open or is closing.
     pub fn sq(&self, qid: u16) -> Option<u16> {
         // SAFETY: references.
-        sure(found(|region| unsafe { sys::nvmearb_ctrl_sq(&*self.ctrl, qid, region) }))
+        sure(found(|region| unsafe { sys::nvmearb_ctrl_sq(&self.ctrl, qid, region) }))
     }
 
     /// The number of the region of a completion queue, which is `cqid` where queues may lie anywhere. None if the queue
     /// isn't open.
     pub fn cq(&self, cqid: u16) -> Option<u16> {
         // SAFETY: references.
-        sure(found(|region| unsafe { sys::nvmearb_ctrl_cq(&*self.ctrl, cqid, region) }))
+        sure(found(|region| unsafe { sys::nvmearb_ctrl_cq(&self.ctrl, cqid, region) }))
     }
 
     /// How many commands of a submission queue were fetched and wait to be picked. None if the queue isn't open or is
     /// closing.
     pub fn waiting(&self, qid: u16) -> Option<u16> {
         // SAFETY: references.
-        sure(found(|count| unsafe { sys::nvmearb_ctrl_waiting(&*self.ctrl, qid, count) }))
+        sure(found(|count| unsafe { sys::nvmearb_ctrl_waiting(&self.ctrl, qid, count) }))
     }
 
     /// A command that waits in a submission queue, and what the caller keeps with it: the oldest, which is picked first,
     /// if `n` is 0, the next one if `n` is 1, and so on. None if the queue isn't open or is closing, or if at most `n`
     /// commands wait in it.
     pub fn waits(&self, qid: u16, n: u16) -> Option<(Sqe, u32)> {
-        let (ctrl, slots, mut cookie) = (&*self.ctrl, &*self.slots, 0);
-        let (at, count) = (slots.as_ptr(), slots.len());
+        let (ctrl, slots, count) = self.shared_parts();
+        let mut cookie = 0;
         // SAFETY: references, and the slots are those of the state.
         let entry =
-            sure(found(|entry| unsafe { sys::nvmearb_ctrl_waits(ctrl, at, count, qid, n, entry, &mut cookie) }))?;
+            sure(found(|entry| unsafe { sys::nvmearb_ctrl_waits(ctrl, slots, count, qid, n, entry, &mut cookie) }))?;
         Some((Sqe::of(&entry), cookie))
     }
 
@@ -528,26 +503,61 @@ impl Controller {
     /// isn't open or is closing.
     pub fn seen(&self, qid: u16) -> Option<Seen> {
         // SAFETY: references.
-        sure(found(|seen| unsafe { sys::nvmearb_ctrl_seen(&*self.ctrl, qid, seen) })).as_ref().map(Seen::of)
+        sure(found(|seen| unsafe { sys::nvmearb_ctrl_seen(&self.ctrl, qid, seen) })).as_ref().map(Seen::of)
     }
 
-    /// Whether the numbers of the controller and its slots are within their ranges. They are unless something outside of
-    /// Rust's rules wrote into them, such as a device of the machine: this finds most of that, and looks at each slot.
-    pub fn is_in_range(&self) -> bool {
-        let (ctrl, slots) = (&*self.ctrl, &*self.slots);
+    /// The submission queues whose hosts submitted more than was fetched, and that have room for it: the identifier of
+    /// each, and the slot that is fetched next.
+    pub fn to_fetch(&self) -> impl Iterator<Item = (u16, u16)> + '_ {
+        (0..MAX_QUEUES as u16).filter_map(move |qid| Some((qid, self.fetch(qid)?)))
+    }
+
+    /// The open submission queues, as the next pick is shown them.
+    pub fn queues(&self) -> impl Iterator<Item = Seen> + '_ {
+        (0..MAX_QUEUES as u16).filter_map(move |qid| self.seen(qid))
+    }
+
+    /// The completions that can be posted, each with the identifier of its completion queue: those of one queue after
+    /// those of another. Each is posted once it is told, as by [`Controller::post`].
+    pub fn posts(&mut self) -> impl Iterator<Item = (u16, Post)> + '_ {
+        let mut cqid = 0;
+        core::iter::from_fn(move || {
+            while cqid <= MAX_IO_QUEUES {
+                match self.post(cqid) {
+                    Some(post) => return Some((cqid, post)),
+                    None => cqid += 1,
+                }
+            }
+            None
+        })
+    }
+
+    /// Looks whether the numbers of the controller and its slots are within their ranges. They are unless something
+    /// outside of Rust's rules wrote into them, such as a device of the machine: this finds most of that, and looks at
+    /// each slot.
+    ///
+    /// [`Error::State`]: one is out of its range.
+    pub fn verify(&self) -> Result<(), Error> {
+        let (ctrl, slots, count) = self.shared_parts();
         // SAFETY: references.
-        unsafe { sys::nvmearb_ctrl_verify(ctrl, slots.as_ptr(), slots.len()) == sys::NVMEARB_OK }
+        checked(unsafe { sys::nvmearb_ctrl_verify(ctrl, slots, count) })
     }
 
     /// The state, the slots, and their number, as calls take them.
     fn parts(&mut self) -> (&mut nvmearb_ctrl, *mut nvmearb_slot, usize) {
-        let count = self.slots.len();
-        (&mut self.ctrl, self.slots.as_mut_ptr(), count)
+        let slots = self.slots.all_mut();
+        (&mut self.ctrl, slots.as_mut_ptr().cast(), slots.len())
+    }
+
+    /// The same where nothing is written.
+    fn shared_parts(&self) -> (&nvmearb_ctrl, *const nvmearb_slot, usize) {
+        let slots = self.slots.all();
+        (&self.ctrl, slots.as_ptr().cast(), slots.len())
     }
 }
 
-impl fmt::Debug for Controller {
+impl<S: Slots> fmt::Debug for Controller<S> {
     fn fmt(&self, f: &mut fmt::Formatter<'_>) -> fmt::Result {
-        f.debug_struct("Controller").field("slots", &self.slots.len()).finish_non_exhaustive()
+        f.debug_struct("Controller").field("slots", &self.slots.all().len()).finish_non_exhaustive()
     }
 }

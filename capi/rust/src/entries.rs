@@ -2,7 +2,7 @@
 //! Entries of queues, statuses, and the outcome of an I/O command.
 use crate::error::{sure, written};
 use crate::{sys, Error, CQE_BYTES, SQE_BYTES};
-use std::fmt;
+use core::fmt;
 
 /// The opcodes of I/O commands that the library knows.
 pub mod io_opcode {

@@ -1,7 +1,7 @@
 // SPDX-License-Identifier: MIT
 //! What a call refuses.
 use crate::sys;
-use std::fmt;
+use core::fmt;
 
 /// Why a call did nothing. Each method says which of these it answers, and when.
 #[derive(Clone, Copy, Debug, PartialEq, Eq, Hash)]
@@ -17,10 +17,8 @@ pub enum Error {
     TooMany,
     /// A region has 2 to 4096 slots. (`NVMEARB_ESIZE`)
     Size,
-    /// Nothing can be picked yet: commands are to be taken. (`NVMEARB_BUSY`)
-    Busy,
-    /// Nothing can be picked yet: too many commands were picked and aren't completed. (`NVMEARB_FULL`)
-    Full,
+    /// Something outside of Rust's rules wrote into the state. (`NVMEARB_ESTATE`)
+    State,
 }
 
 impl fmt::Display for Error {
@@ -31,16 +29,17 @@ impl fmt::Display for Error {
             Error::Used => "another region has this address",
             Error::TooMany => "no region of this kind can be added",
             Error::Size => "a region has 2 to 4096 slots",
-            Error::Busy => "commands are to be taken before the next pick",
-            Error::Full => "too many commands were picked and aren't completed",
+            Error::State => "something else wrote into the state",
         })
     }
 }
 
+#[cfg(feature = "std")]
 impl std::error::Error for Error {}
 
 /// Why a doorbell write is invalid. A controller tells its host so by an asynchronous event of the type Error status.
 #[derive(Clone, Copy, Debug, PartialEq, Eq, Hash)]
+#[non_exhaustive]
 pub enum DoorbellError {
     /// The doorbell is that of no open queue: Write to Invalid Doorbell Register.
     Register,
@@ -57,6 +56,7 @@ impl fmt::Display for DoorbellError {
     }
 }
 
+#[cfg(feature = "std")]
 impl std::error::Error for DoorbellError {}
 
 /// The answer of a call.
@@ -68,8 +68,7 @@ pub(crate) fn checked(code: u32) -> Result<(), Error> {
         sys::NVMEARB_EUSED => Error::Used,
         sys::NVMEARB_EMANY => Error::TooMany,
         sys::NVMEARB_ESIZE => Error::Size,
-        sys::NVMEARB_BUSY => Error::Busy,
-        sys::NVMEARB_FULL => Error::Full,
+        sys::NVMEARB_ESTATE => Error::State,
         _ => panic!("libnvmearb answered {code}, which can't be"),
     })
 }

@@ -39,33 +39,54 @@
 //!
 //! # The library
 //!
-//! `make -C capi install PREFIX=FOLDER` installs it, and `nvmearb = { path = "capi/rust" }` is the dependency. The
-//! build looks for `libnvmearb.a` in the folder that `NVMEARB_LIB_DIR` names, else by pkg-config. `make` builds it for
-//! x86-64.
+//! The build looks for `libnvmearb.a` in the folder that `NVMEARB_LIB_DIR` names, else by pkg-config.
 //!
 //! It allocates nothing, starts no thread and keeps no pointer: all states can be moved, and sent to other threads.
 //! Calls on one state run one after another, so no state is `Sync`. An [`Arbiter`], a [`Board`], a [`Table`] and a
-//! [`Controller`] are made only if the library is of this crate's version: else their making
+//! [`Controller`] are made only if the library is of this crate's version, and has states of its sizes: else their making
 //! panics ([`is_library_of_this_version`]).
+//!
+//! # Features
+//!
+//! The crate is `no_std`, and by default allocates nothing. With `alloc` a controller may have its slots on the heap
+//! (`boxed_slots`), and its snapshot is a `Vec` (`Controller::to_vec`). With `std` the errors are those of the standard
+//! library.
 //!
 //! # What a call promises
 //!
 //! A call that answers an error, or `None`, has changed nothing. No call blocks, and none panics over its arguments.
+#![no_std]
+#![warn(missing_docs)]
+#![warn(clippy::undocumented_unsafe_blocks)]
+
+#[cfg(feature = "alloc")]
+extern crate alloc;
+#[cfg(feature = "std")]
+extern crate std;
+
 mod admin;
 mod arbiter;
 mod board;
 mod controller;
 mod entries;
 mod error;
+mod slots;
+mod snapshot;
+mod step;
 pub mod sys;
 mod table;
 
 pub use admin::{Admin, Answer, Queue, Region, Verdict};
 pub use arbiter::{Arbiter, Mechanism, Pick, Priority, Seen, Settings};
 pub use board::Board;
-pub use controller::{Asked, Command, Config, Controller, Marks, Placement, Post, Step};
+pub use controller::{Command, Config, Controller, Marks, Placement, Post, Tag};
 pub use entries::{admin_opcode, feature, io_opcode, Cqe, Sqe, Status};
 pub use error::{DoorbellError, Error};
+#[cfg(feature = "alloc")]
+pub use slots::boxed_slots;
+pub use slots::{Slot, Slots};
+pub use snapshot::SnapshotError;
+pub use step::{Asked, Step};
 pub use sys::{
     NVMEARB_CQE_BYTES as CQE_BYTES, NVMEARB_MAX_COUNT as MAX_COUNT, NVMEARB_MAX_IO_QUEUES as MAX_IO_QUEUES,
     NVMEARB_MAX_NAMESPACES as MAX_NAMESPACES, NVMEARB_MAX_QUEUES as MAX_QUEUES, NVMEARB_MAX_REGIONS as MAX_REGIONS,
@@ -73,18 +94,20 @@ pub use sys::{
 };
 pub use table::Table;
 
-use std::cell::Cell;
-use std::marker::PhantomData;
+use core::cell::Cell;
+use core::marker::PhantomData;
+use core::mem::size_of;
 
 // How the safe types keep the rules of nvmearb.h, which the comments of `unsafe` blocks cite as "references": all
 // pointers to single objects come from references, and all pointers to arrays with their lengths from slices. So they
 // aren't null, are aligned, point to as many objects, and nothing else writes what they point to during the call, nor
 // reads it where it is written. The library keeps no pointer.
 
-/// Whether the library that is linked is of this crate's version, proved or not.
+/// Whether the library that is linked is of this crate's version, proved or not, and has states of its sizes.
 pub fn is_library_of_this_version() -> bool {
     // SAFETY: it has no argument.
-    unsafe { sys::nvmearb_version() & !sys::NVMEARB_UNPROVED == sys::NVMEARB_VERSION }
+    let version = unsafe { sys::nvmearb_version() } & !sys::NVMEARB_UNPROVED;
+    version == sys::NVMEARB_VERSION && SIZES.iter().all(|(state, _, size)| size_in_library(*state) == *size)
 }
 
 /// Whether the library that is linked was proved, other than one of `./build --unproved`.
@@ -93,10 +116,35 @@ pub fn is_library_proved() -> bool {
     unsafe { sys::nvmearb_version() & sys::NVMEARB_UNPROVED == 0 }
 }
 
+/// The states: their numbers for the library, their names, and their sizes here.
+const SIZES: [(u32, &str, usize); 5] = [
+    (sys::NVMEARB_STATE_ARBITER, "nvmearb_arbiter", size_of::<sys::nvmearb_arbiter>()),
+    (sys::NVMEARB_STATE_BOARD, "nvmearb_board", size_of::<sys::nvmearb_board>()),
+    (sys::NVMEARB_STATE_TABLE, "nvmearb_table", size_of::<sys::nvmearb_table>()),
+    (sys::NVMEARB_STATE_CTRL, "nvmearb_ctrl", size_of::<sys::nvmearb_ctrl>()),
+    (sys::NVMEARB_STATE_SLOT, "nvmearb_slot", size_of::<sys::nvmearb_slot>()),
+];
+
+fn size_in_library(state: u32) -> usize {
+    // SAFETY: numbers alone.
+    unsafe { sys::nvmearb_size(state) as usize }
+}
+
 /// Marks a state whose calls run one after another: it isn't `Sync`.
 type OneCaller = PhantomData<Cell<()>>;
 
 /// Panics if the library that is linked has states of another kind than this crate.
 fn check_version() {
-    assert!(is_library_of_this_version(), "libnvmearb.a isn't of version {}", env!("CARGO_PKG_VERSION"));
+    // SAFETY: it has no argument.
+    let version = unsafe { sys::nvmearb_version() };
+    let (major, minor, patch) = (version >> 16, version >> 8 & 0xff, version & 0xff);
+    assert!(
+        version == sys::NVMEARB_VERSION,
+        "libnvmearb is of version {major}.{minor}.{patch}, and not {}",
+        env!("CARGO_PKG_VERSION")
+    );
+    for (state, name, size) in SIZES {
+        let other = size_in_library(state);
+        assert!(other == size, "{name} has {other} bytes in libnvmearb, and not {size}");
+    }
 }

@@ -6,14 +6,20 @@
 //! accessed by nothing else during the call; a controller and its slots are written by the library alone.
 #![allow(non_camel_case_types, missing_docs)]
 
-use std::mem::{size_of, zeroed};
+use core::mem::{size_of, zeroed};
 
 pub const NVMEARB_VERSION_MAJOR: u32 = 0;
-pub const NVMEARB_VERSION_MINOR: u32 = 1;
+pub const NVMEARB_VERSION_MINOR: u32 = 2;
 pub const NVMEARB_VERSION_PATCH: u32 = 0;
 pub const NVMEARB_VERSION: u32 =
     NVMEARB_VERSION_MAJOR * 0x10000 + NVMEARB_VERSION_MINOR * 0x100 + NVMEARB_VERSION_PATCH;
 pub const NVMEARB_UNPROVED: u32 = 0x8000_0000;
+
+pub const NVMEARB_STATE_ARBITER: u32 = 1;
+pub const NVMEARB_STATE_BOARD: u32 = 2;
+pub const NVMEARB_STATE_TABLE: u32 = 3;
+pub const NVMEARB_STATE_CTRL: u32 = 4;
+pub const NVMEARB_STATE_SLOT: u32 = 5;
 
 pub const NVMEARB_OK: u32 = 0;
 pub const NVMEARB_NONE: u32 = 1;
@@ -411,6 +417,7 @@ type CqeBytes = [u8; NVMEARB_CQE_BYTES];
 #[rustfmt::skip]
 extern "C" {
     pub fn nvmearb_version() -> u32;
+    pub fn nvmearb_size(state: u32) -> u32;
 
     pub fn nvmearb_sqe_decode(bytes: *const SqeBytes, fields: *mut nvmearb_sqe);
     pub fn nvmearb_sqe_encode(fields: *const nvmearb_sqe, bytes: *mut SqeBytes);

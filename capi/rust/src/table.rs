@@ -2,7 +2,7 @@
 //! The queue table.
 use crate::error::{checked, found, sure, written};
 use crate::{check_version, sys, Answer, Error, OneCaller, Queue, Settings, SQE_BYTES};
-use std::fmt;
+use core::fmt;
 
 /// The regions, queues and features of a controller, and the answers to the admin commands that create, delete, set and
 /// get them.

@@ -170,5 +170,5 @@ fn settings_are_those_of_the_dword() {
 fn errors_are_told_in_words() {
     assert_eq!(Error::Used.to_string(), "another region has this address");
     assert_eq!(DoorbellError::Value.to_string(), "invalid doorbell write value");
-    let _: [Box<dyn std::error::Error + Send + Sync>; 2] = [Error::Full.into(), DoorbellError::Register.into()];
+    let _: [Box<dyn std::error::Error + Send + Sync>; 2] = [Error::State.into(), DoorbellError::Register.into()];
 }

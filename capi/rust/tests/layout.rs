@@ -66,6 +66,7 @@ macro_rules! constants {
 
 constants! {
     NVMEARB_VERSION_MAJOR NVMEARB_VERSION_MINOR NVMEARB_VERSION_PATCH NVMEARB_VERSION NVMEARB_UNPROVED
+    NVMEARB_STATE_ARBITER NVMEARB_STATE_BOARD NVMEARB_STATE_TABLE NVMEARB_STATE_CTRL NVMEARB_STATE_SLOT
     NVMEARB_OK NVMEARB_NONE NVMEARB_EARG NVMEARB_ESTATE NVMEARB_EUSED NVMEARB_EMANY NVMEARB_ESIZE
     NVMEARB_BUSY NVMEARB_FULL
     NVMEARB_SQE_BYTES NVMEARB_CQE_BYTES NVMEARB_MAX_NAMESPACES
@@ -98,7 +99,7 @@ fn printed(name: &str, statements: &str) -> String {
     std::fs::write(format!("{file}.c"), source).unwrap();
     let compiler = std::env::var("CC").unwrap_or_else(|_| "cc".into());
     let built = Command::new(compiler).args(["-o", &file, &format!("{file}.c")]).status();
-    assert!(built.is_ok_and(|status| status.success()), "{file}.c doesn't compile");
+    assert!(built.unwrap().success(), "{file}.c doesn't compile");
     String::from_utf8(Command::new(&file).output().unwrap().stdout).unwrap()
 }
 

@@ -1,8 +1,10 @@
 // SPDX-License-Identifier: MIT
 //! Random calls, with random arguments: none panics, and each command gets one completion, its own.
-use nvmearb::Verdict;
-use nvmearb::{Admin, Board, Config, Controller, Cqe, Marks, Mechanism, Priority, Region, Sqe, Status, Step, Table};
+use nvmearb::{boxed_slots, Slot, Tag, Verdict};
+use nvmearb::{Admin, Board, Config, Cqe, Marks, Mechanism, Priority, Region, Sqe, Status, Step, Table};
 use std::collections::HashMap;
+
+type Controller = nvmearb::Controller<Box<[Slot]>>;
 
 /// A fixed sequence of numbers (splitmix64).
 struct Drawn(u64);
@@ -58,7 +60,7 @@ impl Driven {
     fn new(mechanism: Mechanism) -> Driven {
         let (asq, acq) = (Region { address: 0x1000, slots: 8 }, Region { address: 0x2000, slots: 8 });
         let config = Config { asq, acq, mechanism, cdw11: 2, nsq: 4, ncq: 4, window: 4 };
-        let mut ctrl = Controller::new(&config, 24).unwrap();
+        let mut ctrl = Controller::new(&config, boxed_slots(24)).unwrap();
         for address in [0x3000, 0x4000, 0x5000] {
             ctrl.add_sq_region(address, 8).unwrap();
             ctrl.add_cq_region(address + 0x800, 8).unwrap();
@@ -67,7 +69,7 @@ impl Driven {
         ctrl.sq_tail(0, 2).unwrap();
         ctrl.fetched(0, &create(5, 0x3800, 1).to_bytes(), 0).unwrap();
         ctrl.fetched(0, &create(1, 0x3000, 0x0001_0001).to_bytes(), 0).unwrap();
-        while ctrl.pick().unwrap().is_some() {}
+        while ctrl.pick().unwrap().made().is_some() {}
         while ctrl.post(0).is_some() {}
         assert_eq!((ctrl.sq(1), ctrl.cq(1)), (Some(1), Some(1)));
         Driven { ctrl, open: HashMap::new(), cookie: 0, posts: [0; 2], passed: 0 }
@@ -105,18 +107,23 @@ impl Driven {
             3 | 4 => self.fetched(a, drawn),
             5 => {
                 let peeked = self.ctrl.peek().is_some();
-                assert!(peeked || !matches!(self.ctrl.pick(), Ok(Some(_))));
-                self.passed += u32::from(matches!(self.ctrl.pick(), Ok(Some(Step::Passed(_)))));
+                assert!(peeked || self.ctrl.pick().unwrap().made().is_none());
+                self.passed += u32::from(matches!(self.ctrl.pick(), Ok(Step::Passed(_))));
             }
             6 => {
                 if let Some(command) = self.ctrl.take() {
                     assert_eq!(self.open.get(&command.cookie), Some(&command.entry));
                 }
             }
-            7 => _ = self.ctrl.complete(drawn.below(24), Status::new(b as u8 % 8, a as u8).unwrap(), 0),
+            7 => _ = self.ctrl.complete(drawn.below(24).into(), Status::new(b as u8 % 8, a as u8).unwrap(), 0),
             8 => {
                 let marks = Marks { more: a % 2 == 1, do_not_retry: b % 2 == 1 };
-                _ = self.ctrl.complete_with(drawn.below(24), Status::new(b as u8 % 8, a as u8).unwrap(), 0, marks);
+                _ = self.ctrl.complete_with(
+                    drawn.below(24).into(),
+                    Status::new(b as u8 % 8, a as u8).unwrap(),
+                    0,
+                    marks,
+                );
             }
             9 | 10 => self.post(a),
             11 if a == 0 => {
@@ -131,10 +138,10 @@ impl Driven {
             }
             _ => {
                 self.ctrl.finish();
-                let (command, queue) = (self.ctrl.command(b), (self.ctrl.sq(a), self.ctrl.cq(a)));
+                let (command, queue) = (self.ctrl.command(b.into()), (self.ctrl.sq(a), self.ctrl.cq(a)));
                 assert_eq!(
-                    (command.map_or(b, |it| it.tag), queue.0.unwrap_or(0) / 4, queue.1.unwrap_or(0) / 4),
-                    (b, 0, 0)
+                    (command.map_or(Tag::from(b), |it| it.tag), queue.0.unwrap_or(0) / 4, queue.1.unwrap_or(0) / 4),
+                    (Tag::from(b), 0, 0)
                 );
                 assert_eq!(self.ctrl.waiting(a).is_some(), queue.0.is_some());
             }
@@ -149,7 +156,7 @@ fn controllers_answer_each_command_once() {
     for round in 0..1000 {
         let mut it = Driven::new(if round % 2 == 0 { Mechanism::RoundRobin } else { Mechanism::Weighted });
         (0..500).for_each(|_| it.step(&mut drawn));
-        assert!(it.ctrl.is_in_range());
+        assert_eq!(it.ctrl.verify(), Ok(()));
         posts = [posts[0] + it.posts[0], posts[1] + it.posts[1]];
         passed += it.passed;
     }
