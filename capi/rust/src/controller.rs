@@ -5,7 +5,7 @@ use crate::sys::{self, nvmearb_ctrl, nvmearb_slot};
 use crate::{
     check_version, DoorbellError, Error, Mechanism, OneCaller, Pick, Priority, Region, Seen, Slots, Sqe, Status, Step,
 };
-use crate::{CQE_BYTES, MAX_IO_QUEUES, MAX_QUEUES, SQE_BYTES};
+use crate::{CQE_BYTES, SQE_BYTES};
 use core::fmt;
 
 /// What a controller is made with.
@@ -19,9 +19,9 @@ pub struct Config {
     pub mechanism: Mechanism,
     /// The Arbitration feature; bits 07:03 are ignored.
     pub cdw11: u32,
-    /// The most I/O submission queues, 1 to [`MAX_IO_QUEUES`].
+    /// The most I/O submission queues, 1 to [`MAX_IO_QUEUES`](crate::MAX_IO_QUEUES).
     pub nsq: u16,
-    /// The most I/O completion queues, 1 to [`MAX_IO_QUEUES`].
+    /// The most I/O completion queues, 1 to [`MAX_IO_QUEUES`](crate::MAX_IO_QUEUES).
     pub ncq: u16,
     /// The most commands of a queue that are fetched and not picked; above 256 it is 256.
     pub window: u16,
@@ -224,8 +224,9 @@ impl<S: Slots> Controller<S> {
     /// The call takes some 34 KB of stack, and each other call 1 KB.
     ///
     /// [`Error::Argument`]: there aren't 1 to [`MAX_SLOTS`](crate::MAX_SLOTS) slots, `nsq` or `ncq` isn't 1 to
-    /// [`MAX_IO_QUEUES`], or `window` is 0. Otherwise the first of these: [`Error::Size`]: `asq` doesn't have 2 to 4096
-    /// slots. [`Error::Used`]: `acq` has the address of `asq`. [`Error::Size`]: `acq` doesn't have 2 to 4096 slots.
+    /// [`MAX_IO_QUEUES`](crate::MAX_IO_QUEUES), or `window` is 0. Otherwise the first of these: [`Error::Size`]: `asq`
+    /// doesn't have 2 to 4096 slots. [`Error::Used`]: `acq` has the address of `asq`. [`Error::Size`]: `acq` doesn't
+    /// have 2 to 4096 slots.
     ///
     /// # Panics
     ///
@@ -504,32 +505,6 @@ impl<S: Slots> Controller<S> {
     pub fn seen(&self, qid: u16) -> Option<Seen> {
         // SAFETY: references.
         sure(found(|seen| unsafe { sys::nvmearb_ctrl_seen(&self.ctrl, qid, seen) })).as_ref().map(Seen::of)
-    }
-
-    /// The submission queues whose hosts submitted more than was fetched, and that have room for it: the identifier of
-    /// each, and the slot that is fetched next.
-    pub fn to_fetch(&self) -> impl Iterator<Item = (u16, u16)> + '_ {
-        (0..MAX_QUEUES as u16).filter_map(move |qid| Some((qid, self.fetch(qid)?)))
-    }
-
-    /// The open submission queues, as the next pick is shown them.
-    pub fn queues(&self) -> impl Iterator<Item = Seen> + '_ {
-        (0..MAX_QUEUES as u16).filter_map(move |qid| self.seen(qid))
-    }
-
-    /// The completions that can be posted, each with the identifier of its completion queue: those of one queue after
-    /// those of another. Each is posted once it is told, as by [`Controller::post`].
-    pub fn posts(&mut self) -> impl Iterator<Item = (u16, Post)> + '_ {
-        let mut cqid = 0;
-        core::iter::from_fn(move || {
-            while cqid <= MAX_IO_QUEUES {
-                match self.post(cqid) {
-                    Some(post) => return Some((cqid, post)),
-                    None => cqid += 1,
-                }
-            }
-            None
-        })
     }
 
     /// Looks whether the numbers of the controller and its slots are within their ranges. They are unless something

@@ -70,6 +70,7 @@ mod board;
 mod controller;
 mod entries;
 mod error;
+mod queues;
 mod slots;
 mod snapshot;
 mod step;
@@ -82,6 +83,7 @@ pub use board::Board;
 pub use controller::{Command, Config, Controller, Marks, Placement, Post, Tag};
 pub use entries::{admin_opcode, feature, io_opcode, Cqe, Sqe, Status};
 pub use error::{DoorbellError, Error};
+pub use queues::{Posts, Queues, ToFetch};
 #[cfg(feature = "alloc")]
 pub use slots::boxed_slots;
 pub use slots::{Slot, Slots};

@@ -144,7 +144,12 @@ fn numbers_out_of_range_are_refused_behind_a_right_sum() {
 fn slots_may_be_borrowed() {
     let mut slots = [Slot::EMPTY; SLOTS];
     let mut ctrl = nvmearb::Controller::anywhere(&config(), &PLACEMENT, &mut slots[..]).unwrap();
-    assert_eq!((ctrl.sq_tail(0, 1), ctrl.fetch(0)), (Ok(()), Some(0)));
+    assert_eq!(ctrl.sq_tail(0, 3), Ok(()));
+    while let Some((qid, slot)) = ctrl.to_fetch().next() {
+        let entry = Sqe { opcode: io_opcode::READ, cid: slot, ..Sqe::default() };
+        assert_eq!((qid, ctrl.fetched(qid, &entry.to_bytes(), 0)), (0, Ok(())));
+    }
+    assert_eq!(ctrl.waiting(0), Some(3));
     assert_eq!(
         nvmearb::Controller::anywhere(&config(), &PLACEMENT, [Slot::EMPTY; 0]).map(|_| ()),
         Err(Error::Argument)
