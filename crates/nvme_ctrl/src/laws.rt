@@ -220,6 +220,8 @@ pub fn own_answers_are_marked()
     ensures invalid_queue_identifier { own_marks (code 1 0x01) ≡ not_retried }
     ensures invalid_queue_size { own_marks (code 1 0x02) ≡ not_retried }
     ensures feature_not_saveable { own_marks (code 1 0x0d) ≡ not_retried }
+    ensures prp_offset_invalid { own_marks (code 0 0x13) ≡ not_retried }
+    ensures invalid_interrupt_vector { own_marks (code 1 0x08) ≡ not_retried }
     ensures success { own_marks (code 0 0x00) ≡ unmarked }
     ensures abort_requested { own_marks (code 0 0x07) ≡ unmarked }
     ensures aborted_by_deletion { own_marks (code 0 0x08) ≡ unmarked }
