@@ -1,0 +1,262 @@
+# SPDX-License-Identifier: MIT
+"""The front of a whole controller, which is driven by calls."""
+from __future__ import annotations
+
+import ctypes
+from collections.abc import Iterator
+from ctypes import byref, c_size_t, c_uint8, c_uint16
+from typing import Any, NamedTuple, Optional, Union
+
+from .arbiter import Mechanism, Pick, Priority, Seen, pick_of
+from .entries import Sqe, Status, sized, sqe_of
+from .library import (
+    BUSY, FULL, NONE, OK, CommandFields, ConfigFields, CtrlState, PickFields, PlacementFields, PostFields, RegionFields,
+    SeenFields, SlotState, StatusFields, StepFields, checked, in_range, library, u8, u16, u32,
+)
+
+MAX_QUEUES, MAX_SLOTS = 65, 65535
+VERDICTS = ["done", "open_sq", "open_cq", "begin_delete", "close_cq", "set_arbitration", "abort"]
+
+
+class Config(NamedTuple):
+    """What a controller is made with: `asq` and `acq` are the addresses and the slots of the admin queues."""
+
+    asq: tuple[int, int] = (0x1000, 32)
+    acq: tuple[int, int] = (0x2000, 32)
+    mechanism: Mechanism = Mechanism.ROUND_ROBIN
+    cdw11: int = 0
+    nsq: int = 64
+    ncq: int = 64
+    window: int = 256
+
+
+class Placement(NamedTuple):
+    """What a Create may ask for: the memory page in bytes, CAP.MQES, and the number of interrupt vectors."""
+
+    page: int = 4096
+    mqes: int = 4095
+    vectors: int = 1
+
+
+class Picked(NamedTuple):
+    """Commands of an I/O queue were picked: `take` gives them."""
+
+    pick: Pick
+
+
+class CarriedOut(NamedTuple):
+    """An admin command was picked and carried out. `verdict` is one of VERDICTS, by the header's words: after open_sq
+    and open_cq `address`, `qsize`, `vector` and `interrupts` tell what the Create asked for."""
+
+    verdict: str
+    status: Status
+    dw0: int
+    qid: int
+    cqid: int
+    priority: Priority
+    cid: int
+    address: int
+    qsize: int
+    vector: int
+    interrupts: bool
+
+
+class Passed(NamedTuple):
+    """An admin command was picked that is the device's: `take` gives it."""
+
+    pick: Pick
+
+
+class Waits(NamedTuple):
+    """Nothing was picked. `why` is idle: no command waits but in queues that are held; busy: commands are to be taken
+    first; or full: more than 256 commands would be picked and have no completion posted."""
+
+    why: str
+
+
+Step = Union[Picked, CarriedOut, Passed, Waits]
+
+
+class Command(NamedTuple):
+    """A command that the device has, with what `fetched` was given, and its tag."""
+
+    entry: Sqe
+    cookie: int
+    tag: int
+
+
+class Post(NamedTuple):
+    """A completion to be written into a slot of a ring (`Cqe.from_bytes`)."""
+
+    entry: bytes
+    cookie: int
+    tag: int
+    slot: int
+
+
+class Controller:
+    """A controller whose queues may lie anywhere in memory, with its admin queues alone. `slots` is how many commands it
+    holds at once."""
+
+    def __init__(
+        self, config: Config = Config(), placement: Placement = Placement(), slots: Optional[int] = None
+    ) -> None:
+        count = min((config.nsq + 1) * config.window + 256, MAX_SLOTS) if slots is None else slots
+        if not 1 <= count <= MAX_SLOTS:
+            raise ValueError(f"slots is {count}, and not 1 to {MAX_SLOTS}")
+        self._ctrl, self._slots = CtrlState(), (SlotState * count)()
+        self.reset(config, placement)
+
+    def reset(self, config: Config = Config(), placement: Placement = Placement()) -> None:
+        """Makes the controller anew, as where CC.EN becomes 1: nothing of before is left."""
+        in_range(32, cdw11=config.cdw11, page=placement.page)
+        in_range(16, nsq=config.nsq, ncq=config.ncq, window=config.window)
+        in_range(16, mqes=placement.mqes, vectors=placement.vectors)
+        regions = []
+        for address, slots in (config.asq, config.acq):
+            in_range(64, address=address)
+            in_range(16, slots=slots)
+            regions.append(RegionFields(address, slots))
+        fields = ConfigFields(*regions, *config[2:])
+        checked(self._call("init_anywhere", byref(fields), byref(PlacementFields(*placement))))
+
+    def own_opcode(self, opcode: int) -> None:
+        """From now on the admin commands of this opcode are the device's."""
+        checked(self._alone("own_opcode", u8(opcode=opcode)))
+
+    def own_feature(self, fid: int) -> None:
+        """From now on Set and Get Features of this feature identifier are the device's."""
+        checked(self._alone("own_feature", u8(fid=fid)))
+
+    def hold(self, qid: int, on: bool) -> None:
+        """Leaves a queue out of arbitration, or takes it in again."""
+        checked(self._alone("hold", u16(qid=qid), u8(on=on)))
+
+    def set_class(self, qid: int, priority: Priority) -> None:
+        """Gives an I/O queue another priority class than its Create asked for."""
+        checked(self._alone("set_class", u16(qid=qid), u16(priority=priority)))
+
+    def sq_tail(self, qid: int, tail: int) -> None:
+        """The host wrote the tail doorbell of a submission queue. Refused as an invalid doorbell write is."""
+        checked(self._alone("sq_tail", u16(qid=qid), u16(tail=tail)))
+
+    def cq_head(self, cqid: int, head: int) -> None:
+        """The host wrote the head doorbell of a completion queue. Refused as an invalid doorbell write is."""
+        checked(self._alone("cq_head", u16(cqid=cqid), u16(head=head)))
+
+    def fetch(self, qid: int) -> Optional[int]:
+        """The slot of the ring of a submission queue whose entry is fetched next, if there is one."""
+        return self._number("fetch", u16(qid=qid))
+
+    def to_fetch(self) -> Iterator[tuple[int, int]]:
+        """The submission queues that have an entry to fetch, each with its slot."""
+        for qid in range(MAX_QUEUES):
+            while (slot := self.fetch(qid)) is not None:
+                yield qid, slot
+
+    def fetched(self, qid: int, entry: bytes, cookie: int = 0) -> None:
+        """The entry in the slot that `fetch` told was read: its command waits to be picked."""
+        data = (c_uint8 * 64)(*sized(entry, 64))
+        checked(self._call("fetched", u16(qid=qid), data, u32(cookie=cookie)))
+
+    def peek(self) -> Optional[Pick]:
+        """The pick that arbitration makes next, whether or not it can be made already."""
+        pick = PickFields()
+        return pick_of(pick) if self._found("peek", byref(pick)) else None
+
+    def pick(self) -> Step:
+        """Makes the next pick of arbitration. An admin command that isn't the device's is carried out at once."""
+        step = StepFields()
+        code = self._call("pick", byref(step))
+        if code in (NONE, BUSY, FULL):
+            return Waits({NONE: "idle", BUSY: "busy", FULL: "full"}[code])
+        checked(code)
+        return step_of(step)
+
+    def picks(self) -> Iterator[Step]:
+        """Picks as long as something can be picked."""
+        while not isinstance(step := self.pick(), Waits):
+            yield step
+
+    def take(self) -> Optional[Command]:
+        """The device takes the oldest of the commands that are picked and not taken."""
+        command = CommandFields()
+        found = self._found("take", byref(command))
+        return Command(sqe_of(command.entry), command.cookie, command.tag) if found else None
+
+    def complete(
+        self, tag: int, status: Status = Status(), dw0: int = 0, do_not_retry: bool = False, more: bool = False
+    ) -> None:
+        """The device completes a command, whose completion is ready then."""
+        marks = do_not_retry + 2 * more
+        in_range(8, sct=status.sct, sc=status.sc)
+        fields = StatusFields(*status)
+        checked(self._call("complete_with", u16(tag=tag), byref(fields), u32(dw0=dw0), u8(marks=marks)))
+
+    def post(self, cqid: int) -> Optional[Post]:
+        """The completion that became ready first in a completion queue, if it has room for it."""
+        post = PostFields()
+        found = self._found("post", u16(cqid=cqid), byref(post))
+        return Post(bytes(post.bytes), post.cookie, post.tag, post.slot) if found else None
+
+    def posts(self) -> Iterator[tuple[int, Post]]:
+        """The completions that can be posted, each with its completion queue."""
+        for cqid in range(MAX_QUEUES):
+            while (post := self.post(cqid)) is not None:
+                yield cqid, post
+
+    def finish(self) -> Optional[int]:
+        """Finishes a deletion of a submission queue, all of whose commands have their completions posted."""
+        qid = c_uint16()
+        return qid.value if self._found("finish", byref(qid)) else None
+
+    def named(self, qid: int, cid: int) -> Optional[int]:
+        """The tag of the command of this queue and command identifier that the device has."""
+        tag = c_uint16()
+        return tag.value if self._found("named", u16(qid=qid), u16(cid=cid), byref(tag)) else None
+
+    def waiting(self, qid: int) -> Optional[int]:
+        """How many commands of an open submission queue were fetched and wait to be picked."""
+        return self._number("waiting", u16(qid=qid))
+
+    def seen(self) -> list[Seen]:
+        """The open submission queues as the next pick is shown them, so that a `Judge` can look at it."""
+        found, fields = [], SeenFields()
+        for qid in range(MAX_QUEUES):
+            if self._alone("seen", u16(qid=qid), byref(fields)) == OK:
+                found.append(Seen(fields.qid, Priority(fields.priority), fields.count))
+        return found
+
+    def verify(self) -> None:
+        """Looks whether something was written into the controller by mistake. Refused if so."""
+        checked(self._call("verify"))
+
+    def _alone(self, name: str, *words: Any) -> int:
+        return getattr(library(), f"nvmearb_ctrl_{name}")(byref(self._ctrl), *words)
+
+    def _call(self, name: str, *words: Any) -> int:
+        return self._alone(name, self._slots, c_size_t(len(self._slots)), *words)
+
+    def _found(self, name: str, *words: Any) -> bool:
+        """Whether a call answered something."""
+        code = self._call(name, *words)
+        if code != NONE:
+            checked(code)
+        return code == OK
+
+    def _number(self, name: str, qid: ctypes.c_uint16) -> Optional[int]:
+        number = c_uint16()
+        code = self._alone(name, qid, byref(number))
+        if code != NONE:
+            checked(code)
+        return number.value if code == OK else None
+
+
+def step_of(step: StepFields) -> Step:
+    if step.kind != 2:
+        return (Picked if step.kind == 1 else Passed)(pick_of(step.pick))
+    it, asked = step.answer, step.asked
+    return CarriedOut(
+        VERDICTS[it.verdict], Status(it.status.sct, it.status.sc), it.dw0, it.qid, it.cqid, Priority(it.priority),
+        it.cid, asked.address, asked.qsize, asked.vector, bool(asked.interrupts),
+    )
