@@ -1,35 +1,8 @@
 -- Worked examples, for which the definitions compute.
 use Rattle.std.specs.Prelude.{◌≡◌, ℕ, List, [], ◌∷◌, map}
 use Rattle.nvme_entry.specs.Status.{StatusCode, success, invalid_opcode, invalid_field, invalid_namespace, lba_out_of_range}
+use Rattle.nvme_entry.specs.Examples.{command, Case, gives, flush, write, read}
 use Rattle.nvme_entry.specs.declared.submission.Sqe.{Sqe}
-
--- a command by its opcode, its flags, NSID and Command Dwords 10 to 12
-abbrev pub command : (opcode flags nsid cdw10 cdw11 cdw12 : ℕ) → Sqe
-command opcode flags nsid cdw10 cdw11 cdw12 = record {
-  opcode = opcode;
-  flags = flags;
-  cid = 0;
-  nsid = nsid;
-  cdw2 = 0;
-  cdw3 = 0;
-  mptr = 0;
-  prp1 = 0;
-  prp2 = 0;
-  cdw10 = cdw10;
-  cdw11 = cdw11;
-  cdw12 = cdw12;
-  cdw13 = 0;
-  cdw14 = 0;
-  cdw15 = 0;
-}
-
--- a command, and the status that answers it
-pub record Case : Type 0 where
-  pub entry : Sqe
-  pub status : StatusCode
-
-abbrev pub gives : Sqe → StatusCode → Case
-gives entry status = record { entry = entry; status = status }
 
 abbrev pub AreAnswered : (Sqe → List ℕ → StatusCode) → List ℕ → List Case → Type 0
 AreAnswered answer sizes cases = map {A = Case} {B = StatusCode} (λ c. answer c.entry sizes) cases ≡ map {A = Case} {B = StatusCode} (λ c. c.status) cases
@@ -37,16 +10,6 @@ AreAnswered answer sizes cases = map {A = Case} {B = StatusCode} (λ c. answer c
 -- NSID 2 is inactive, and the third namespace has 2 to the power of 32 blocks
 abbrev pub three_namespaces : List ℕ
 three_namespaces = 1000 ∷ 0 ∷ 0x100000000 ∷ []
-
-abbrev pub flush : (flags nsid : ℕ) → Sqe
-flush flags nsid = command 0x00 flags nsid 0 0 0
-
--- Write, which has the same fields
-abbrev pub write : (flags nsid cdw10 cdw11 cdw12 : ℕ) → Sqe
-write flags nsid cdw10 cdw11 cdw12 = command 0x01 flags nsid cdw10 cdw11 cdw12
-
-abbrev pub read : (flags nsid cdw10 cdw11 cdw12 : ℕ) → Sqe
-read flags nsid cdw10 cdw11 cdw12 = command 0x02 flags nsid cdw10 cdw11 cdw12
 
 -- a Flush: of each namespace that is active, or of all
 abbrev pub flushes : List Case
