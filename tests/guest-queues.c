@@ -241,7 +241,7 @@ void refusals(void)
         {"Set Features 01h, saved", 0x09, 0, 1u << 31 | 1, 0, 0x10d},
         {"Set Features 0Bh, saved", 0x09, 0, 1u << 31 | 11, 0, 0x10d},
         {"Get Features 7Fh", 0x0a, 0, 0x7f, 0, 0x002},
-        {"Identify of namespace 3", 0x06, 3, 0, 0, 0x00b},
+        {"Identify of namespace 4", 0x06, 4, 0, 0, 0x00b},
         {"Identify of CNS 1Ch", 0x06, 0, 0x1c, 0, 0x002},
         {"Get Log Page 55h", 0x02, 0xffffffff, 1023 << 16 | 0x55, 0, 0x109},
         {"Security Send", 0x81, 0, 0, 0, 0x001},

@@ -26,10 +26,12 @@
 #define MOST (1 << 20) /* the longest request: 1 MiB */
 
 static const struct disk {
-    const char *name, *path, *nguid;
+    const char *name, *path;
     unsigned mib, block;
-} disks[] = {{"nvme0n1", "/dev/nvme0n1", "6c69626e-766d-6561-7262-000001000000", 64, 512},
-             {"nvme0n2", "/dev/nvme0n2", "6c69626e-766d-6561-7262-000002000000", 32, 4096}};
+} disks[] = {{"nvme0n1", "/dev/nvme0n1", 64, 512}, /* in memory; so is the next one, and the last one is a file */
+             {"nvme0n2", "/dev/nvme0n2", 32, 4096},
+             {"nvme0n3", "/dev/nvme0n3", 24, 512}};
+enum { DISKS = sizeof disks / sizeof disks[0] };
 
 /* ---- Rows ---- */
 
@@ -173,8 +175,7 @@ void reset(void)
 
 static void identity(void)
 {
-    for (const struct disk *d = disks; d < disks + 2; d++) {
-        char path[64];
+    for (const struct disk *d = disks; d < disks + DISKS; d++) {
         uint64_t bytes = 0;
         int block = 0, fd = open(d->path, O_RDONLY);
         CHECK(fd >= 0, "%s: %s", d->path, strerror(errno));
@@ -182,15 +183,14 @@ static void identity(void)
         ioctl(fd, _IO(0x12, 104), &block);          /* BLKSSZGET */
         CHECK(bytes == (uint64_t)d->mib << 20, "%s has %llu bytes", d->name, (unsigned long long)bytes);
         CHECK(block == (int)d->block, "%s has blocks of %d", d->name, block);
-        snprintf(path, sizeof path, "/sys/block/%s/nguid", d->name);
-        CHECK(!strcmp(line_of(path), d->nguid), "%s is %s", d->name, line_of(path));
     }
     CHECK(!strcmp(line_of("/sys/class/nvme/nvme0/model"), "libnvmearb example"), "the model");
     CHECK(!strcmp(line_of("/sys/class/nvme/nvme0/serial"), "1"), "the serial number");
     CHECK(!strcmp(line_of("/sys/class/nvme/nvme0/firmware_rev"), "0.1"), "the firmware revision");
     CHECK(!strcmp(line_of("/sys/class/nvme/nvme0/queue_count"), "6"), "%s queues",
           line_of("/sys/class/nvme/nvme0/queue_count"));
-    good("%u MiB and %u MiB, six queues, enabled %u times", disks[0].mib, disks[1].mib, choose(RESETS, 0, 0));
+    good("%u, %u and %u MiB, six queues, enabled %u times", disks[0].mib, disks[1].mib, disks[2].mib,
+         choose(RESETS, 0, 0));
 }
 
 /* Random requests with patterns, and at the end the whole disk, against what was written. */
@@ -229,8 +229,8 @@ static unsigned patterns_of(const struct disk *d, unsigned requests)
 
 static void patterns(void)
 {
-    unsigned first = patterns_of(&disks[0], 300), second = patterns_of(&disks[1], 150);
-    good("450 requests of 512 bytes to 1 MiB, %u and %u MiB, and both disks compared", first, second);
+    unsigned first = patterns_of(&disks[0], 300), second = patterns_of(&disks[1], 150), file = patterns_of(&disks[2], 150);
+    good("600 requests of 512 bytes to 1 MiB, %u, %u and %u MiB, and the disks compared", first, second, file);
 }
 
 /* Starts fio with these words, and its report in this file. */
@@ -356,8 +356,8 @@ static double reads_of(const char *report, int line)
 static void linux_shares(void)
 {
     choose(WEIGHTED, 1, 0);
-    choose(PRIORITY, 1, 4);
-    choose(PRIORITY, 2, 2);
+    choose(CLASS, 1, 4);
+    choose(CLASS, 2, 2);
     reset();
     set_arbitration(0x07030103);
     choose(RATE, 800, 0);

@@ -19,8 +19,8 @@ uint64_t random_below(uint64_t limit);
 /* Sends an admin command, and returns its status with Do Not Retry (4000h). `data` has 4096 bytes, if it isn't NULL. */
 int admin(uint8_t opcode, uint32_t nsid, void *data, uint32_t cdw10, uint32_t cdw11, uint32_t cdw12, uint32_t *dw0);
 
-/* What the device lets a guest choose, and counts: numbers of choose() in capi/examples/qemu.c. */
-enum { RATE, BAD_BLOCK, WEIGHTED, PRIORITY, BAD_READS, ABORTED, RESETS };
+/* What the device lets a guest choose, and counts: numbers of capi/examples/knobs.c. */
+enum { RATE, BAD_BLOCK, WEIGHTED, CLASS, BAD_READS, ABORTED, RESETS, LATE, LATE_ONES, MOST, RESIZE, MOVE, INTERRUPTS };
 uint32_t choose(uint32_t what, uint32_t first, uint32_t second);
 
 /* Sets the Arbitration feature. */

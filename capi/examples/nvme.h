@@ -1,7 +1,20 @@
 /*
- * An NVMe device over nvmearb_ctrl, to be copied: registers, Identify, log pages, features, Asynchronous Event
- * Requests, data by PRPs, interrupts, and blocks in memory. What fetches, arbitrates and posts is the library's
- * controller. admin.c has what the device tells of itself.
+ * An NVMe device over nvmearb_ctrl, to be copied. What fetches, arbitrates and posts is the library's controller, and
+ * what drives it is nvme.c, which an emulator can keep as it is. The other files are what one writes anew:
+ *
+ *   registers.c   the registers of BAR 0, doorbells, enabling, resets and shutdowns
+ *   prp.c         guest memory that PRPs name
+ *   admin.c       features, Abort and Asynchronous Event Requests; pages.c: Identify and log pages
+ *   io.c          the commands of the NVM command set, as requests to a backend
+ *   memory.c      a backend that executes at once, over memory
+ *   disk.c        a backend over a file, with many requests at a time: by io_uring (uring.c) or by threads
+ *
+ * The machine is around it: qemu.c serves the device to QEMU as a process of its own, and qemu/ has it in QEMU's tree.
+ *
+ * What is in flight has a limit, `most`. A pick hands commands to a backend, which serves what it has in an order of its
+ * own. If it may have all 256 commands that a controller allows, hardly any wait to be picked, and weights are without
+ * effect, though each pick is lawful. So nothing is picked for a namespace that has as many as its backend needs to be
+ * busy. Its queues are held meanwhile, and those of other namespaces go on.
  */
 #ifndef NVME_H
 #define NVME_H
@@ -10,70 +23,144 @@
 
 #include <nvmearb.h>
 
+#define NVME_PAGE 4096u
 #define NVME_QUEUES NVMEARB_MAX_IO_QUEUES             /* the most I/O queues of a kind */
 #define NVME_COMMANDS ((NVME_QUEUES + 1) * 256 + 256) /* the slots of the controller */
-#define NVME_NAMESPACES 2
-#define NVME_VECTORS 1               /* the interrupt vectors: that of a pin */
-#define NVME_BAR_BYTES 0x4000        /* the size of the registers, doorbells included */
-#define NVME_ARBITRATION 0x07030103u /* after a reset: burst 8; weights: high 8, medium 4, low 2 */
-#define NVME_EVENT_REQUEST 0x0cu     /* the opcode of Asynchronous Event Request */
+#define NVME_NAMESPACES 16                            /* the most namespaces */
+#define NVME_SERIAL 20                                /* the most characters of a serial number */
+#define NVME_MOST_BYTES (256 * NVME_PAGE)             /* the most bytes of one transfer (MDTS) */
+#define NVME_PIECES 257                               /* the most pieces of guest memory of one */
+#define NVME_BAR_BYTES 0x4000                         /* the size of the registers, doorbells included */
+#define NVME_ARBITRATION 0x07030103u                  /* after a reset: burst 8; weights: high 8, medium 4, low 2 */
+
+struct nvme;
+struct nvme_request;
 
 /* What the device needs of the machine around it. */
 struct nvme_host {
     void *context; /* handed to each of these */
-    /* Returns these bytes of guest memory, which don't cross a page, or NULL where they aren't memory. */
-    void *(*memory)(void *context, uint64_t address, size_t length);
-    /* The vectors whose interrupt is asserted from now on: bit 0 is vector 0, that of a pin. */
-    void (*interrupt)(void *context, uint32_t vectors);
+    /* Copies to or from guest memory, within a page. Returns 0 where it isn't memory, or bus mastering is off. */
+    int (*copy)(void *context, uint64_t address, void *bytes, size_t length, int to_guest);
+    /* Whether the pin is asserted from now on. */
+    void (*interrupt)(void *context, int is_asserted);
+    /* NULL, or sends a message: entries were posted to a completion queue of this vector. */
+    void (*message)(void *context, uint16_t vector);
+    /* NULL, or sees to nvme_turn being called soon, so that who writes a doorbell needn't wait for it. */
+    void (*later)(void *context);
+    /* Waits until each request that was begun has ended. NULL if no backend leaves any. */
+    void (*settle)(void *context);
     /* The time in nanoseconds, from any beginning. */
     uint64_t (*now)(void *context);
+    /* NULL, or whether the next pick of I/O commands may be made now. */
+    int (*may_pick)(void *context, const nvmearb_pick *next);
     /* Executes an admin command of opcode C0h. NULL: there is none. */
     nvmearb_status (*vendor)(void *context, const nvmearb_sqe *entry, uint32_t *dw0);
-    /* Both, or neither, for a trace: what the controller was made with when it was enabled, and each pick. */
+    /* NULL, or what the controller was made with when it was enabled; and each pick, for a trace. */
     void (*enabled)(void *context, const nvmearb_config *config);
     void (*picked)(void *context, const struct trace_view *view, const nvmearb_step *step);
 };
 
-/* A namespace: `blocks` blocks of 2^shift bytes. */
+/* What executes requests on a namespace. */
+struct nvme_backend {
+    /* Begins a request. nvme_end is called once it ended: now or later, and always on the thread of the device. */
+    void (*begin)(struct nvme_request *request);
+    /* NULL, or takes a request back that nothing was done of yet. Returns 0 if it can't. nvme_end isn't called then. */
+    int (*cancel)(struct nvme_request *request);
+};
+
+/* A namespace: `blocks` blocks of 2^shift bytes. Its identifier is its place plus 1. */
 struct nvme_namespace {
-    uint8_t *bytes;
-    uint64_t blocks;
-    unsigned shift; /* 9 to 12 */
+    const struct nvme_backend *backend;
+    void *of;        /* the backend's own: what it needs to find the blocks */
+    uint64_t blocks; /* 0: it isn't active */
+    unsigned shift;  /* 9 to 12 */
+};
+
+/* What a backend is asked for. Of zeroed and discarded bytes zeros are read. */
+enum nvme_what { NVME_READ, NVME_WRITE, NVME_FLUSH, NVME_ZERO, NVME_DISCARD };
+
+/* Bytes of guest memory, which don't cross a page. */
+struct nvme_piece {
+    uint64_t address;
+    uint32_t length;
+};
+
+/* A request to a backend: a part of a command, or all of it. */
+struct nvme_request {
+    struct nvme *device;
+    struct nvme_namespace *on;
+    enum nvme_what what;
+    uint64_t at, length; /* the bytes of the namespace. Read, Write: at most NVME_MOST_BYTES */
+    uint8_t *bytes;      /* Read, Write: the data. These belong to the request, so guest memory isn't touched */
+    /* The backend's own. */
+    struct nvme_request *next;
+    uint64_t done;
+    int error;
+    /* The device's own: those in flight, the command, and whether it was answered already. */
+    struct nvme_request *before, *after;
+    nvmearb_sqe entry;
+    uint16_t tag, step, count;
+    uint8_t is_own, is_dropped, is_durable;
+    struct nvme_piece pieces[NVME_PIECES];
 };
 
 /* A ring in guest memory. That of a completion queue has its interrupt too. */
 struct nvme_ring {
     uint64_t address;
     uint16_t slots, tail, head, vector;
-    uint8_t has_interrupt;
+    uint8_t has_interrupt, has_news;
 };
 
-struct nvme {
-    struct nvme_host host;
-    struct nvme_namespace namespaces[NVME_NAMESPACES];
-    /* From the next reset on: weighted round robin whatever CC.AMS says, and priorities by queue instead of QPRIO. */
-    uint8_t is_weighted, priorities[NVME_QUEUES + 1]; /* NVMEARB_URGENT .. NVMEARB_LOW, or 0 */
-    /* At any time: the most I/O commands picked in a second (0: no limit), and a block whose Reads fail (0: none). */
-    uint32_t rate, bad_nsid;
-    uint64_t bad_block;
-    /* Counts since nvme_init. */
-    uint32_t bad_reads, aborted, resets;
-    /* The device's own. */
+/* What the device tells of what it did: the SMART / Health Information log, and resets and Aborts for tests. */
+struct nvme_counts {
+    uint64_t sectors_read, sectors_written, reads, writes; /* sectors of 512 bytes */
+    uint64_t media_errors, begun;                          /* when the device was made: of `now` */
+    uint32_t unsafe_shutdowns, resets, aborted;
+};
+
+/* What the device remembers: numbers without a pointer. */
+struct nvme_state {
     nvmearb_ctrl ctrl;
     nvmearb_slot slots[NVME_COMMANDS];
     struct nvme_ring sqs[NVME_QUEUES + 1], cqs[NVME_QUEUES + 1]; /* by identifier */
-    uint64_t now, due;
-    uint32_t registers[16], masked, asserted, features[16];
-    uint16_t held[4], held_count; /* Asynchronous Event Requests */
-    uint8_t pending, is_told;     /* error events; whether one was told and the log not read since */
+    uint32_t registers[28], masked, features[32], recovery[NVME_NAMESPACES];
+    uint8_t uncoalesced[NVME_QUEUES + 1]; /* by vector: CD of Interrupt Vector Configuration */
+    uint8_t held_queues[NVME_QUEUES + 1]; /* queues that are held, since a namespace is busy */
+    uint8_t is_asserted, is_stopping;     /* the pin; CC.EN is 0, and Writes are in flight */
+    uint16_t held[4], held_count;         /* Asynchronous Event Requests */
+    uint32_t pending, told;               /* events, and those whose log wasn't read since they were told */
+    uint32_t changed;                     /* namespaces that changed since their log was read: bit 0 is namespace 1 */
     struct {
         uint64_t count;
         uint16_t qid;
     } errors[4]; /* the newest first */
+    struct nvme_counts counts;
 };
 
-/* Makes a device, which isn't enabled. It must be zero but for namespaces and what may be chosen. */
-void nvme_init(struct nvme *device, const struct nvme_host *host);
+struct nvme {
+    /* Chosen before nvme_init. */
+    struct nvme_host host;
+    struct nvme_namespace namespaces[NVME_NAMESPACES];
+    uint32_t count;                /* of namespaces */
+    uint16_t vid, ssvid;           /* the vendor identifiers of the PCI header */
+    uint16_t cntlid;               /* by which controllers of one NQN differ */
+    uint16_t vectors;              /* the interrupt vectors: 1 for a pin, at most NVME_QUEUES + 1 */
+    uint16_t most;                 /* the most I/O commands of a namespace in flight. 0: no limit of the device's */
+    char serial[NVME_SERIAL + 1];  /* of which NQN, NGUID and EUI64 are made: no two devices have the same */
+    /*
+     * From the next enabling on: weighted round robin whatever CC.AMS says, and classes by queue instead of QPRIO
+     * (NVMEARB_URGENT .. NVMEARB_LOW, or 0). Linux asks for round robin, and for urgent in all queues.
+     */
+    uint8_t is_weighted, classes[NVME_QUEUES + 1];
+    /* The device's own. */
+    struct nvme_state state;
+    struct nvme_request *requests; /* those in flight */
+    uint16_t in_flight[NVME_NAMESPACES];
+    uint8_t has_ended; /* whether any ended since queues were held */
+};
+
+/* Makes a device, which isn't enabled. It must be zero but for what is chosen. */
+void nvme_init(struct nvme *device);
 
 /* Reads 1 to 8 bytes of the registers. */
 uint64_t nvme_read(struct nvme *device, uint64_t offset, unsigned size);
@@ -81,18 +168,24 @@ uint64_t nvme_read(struct nvme *device, uint64_t offset, unsigned size);
 /* Writes 4 or 8 bytes of the registers. Others are ignored. */
 void nvme_write(struct nvme *device, uint64_t offset, uint64_t value, unsigned size);
 
-/* Goes on with what waits for time. Returns the milliseconds after which to call it again, or -1. */
-int nvme_turn(struct nvme *device);
+/* Goes on: to be called after nvme_end, and where `may_pick` refused a pick and wouldn't now. */
+void nvme_turn(struct nvme *device);
 
-/* Between nvme.c and admin.c: copies between the device's bytes and those that the PRPs of a command name. */
-nvmearb_status nvme_transfer(struct nvme *device, const nvmearb_sqe *entry, uint8_t *bytes, size_t length,
-                             int to_guest);
+/* A backend has ended a request: `error` is 0 or a number of errno.h. The request isn't valid any more. */
+void nvme_end(struct nvme_request *request, int error);
 
-/* Tells the controller which admin commands are the device's, and executes one of them, but for Event Requests. */
-void nvme_own(struct nvme *device);
-nvmearb_status nvme_admin(struct nvme *device, const nvmearb_sqe *entry, uint32_t *dw0);
+/* A reset of the function, as by the bus: no register and no queue is kept. Waits for what is in flight. */
+void nvme_reset(struct nvme *device);
 
-/* The value of a feature after a reset. */
-uint32_t nvme_feature_default(uint32_t fid, uint32_t cdw11);
+/* A namespace has another size from now on: the host is told. No request beyond it is in flight. */
+void nvme_resize(struct nvme *device, uint32_t nsid, uint64_t blocks);
+
+/*
+ * Save and restore, once `settle` has waited, so that nothing is in flight: the state's bytes are all that is to be moved,
+ * and nvme_turn then goes on. What was chosen is the same on both sides, and so is the version of the library.
+ * nvme_restore returns 0, and changes nothing, where the bytes aren't a state.
+ */
+void nvme_save(const struct nvme *device, struct nvme_state *to);
+int nvme_restore(struct nvme *device, const struct nvme_state *from);
 
 #endif

@@ -1,0 +1,9 @@
+/* A backend over memory, which executes each request at once: `of` of its namespace is where block 0 is. */
+#ifndef MEMORY_H
+#define MEMORY_H
+
+#include "nvme.h"
+
+extern const struct nvme_backend memory_backend;
+
+#endif

@@ -1,0 +1,198 @@
+/*
+ * The registers of the device of nvme.h: BAR 0 of a PCI function. To be written anew for another transport, or where a
+ * device has registers of its own: a Controller Memory Buffer, say, or shadow doorbells.
+ */
+#include "parts.h"
+
+#include <string.h>
+
+enum { MQES = 4095, DOORBELLS = 0x1000, TIMEOUT = 20 }; /* the largest QSIZE; units of 500 ms */
+
+/* CC.EN becomes 1. CSTS says failed unless all is as CAP allows: CSS and MPS are 0, AMS is 0 or 1. */
+static void enable(struct nvme *d)
+{
+    struct nvme_state *s = &d->state;
+    const uint32_t *r = s->registers;
+    nvmearb_region asq = {(uint64_t)r[ASQ_HIGH] << 32 | r[ASQ], (uint16_t)((r[AQA] & 0xfff) + 1)};
+    nvmearb_region acq = {(uint64_t)r[ACQ_HIGH] << 32 | r[ACQ], (uint16_t)((r[AQA] >> 16 & 0xfff) + 1)};
+    uint32_t ams = r[CC] >> 11 & 7, mechanism = d->is_weighted || ams ? NVMEARB_WEIGHTED : NVMEARB_ROUND_ROBIN;
+    nvmearb_config config = {asq, acq, mechanism, NVME_ARBITRATION, NVME_QUEUES, NVME_QUEUES, 256};
+    nvmearb_placement placement = {NVME_PAGE, MQES, d->vectors};
+    s->sqs[0] = (struct nvme_ring){.address = asq.address, .slots = asq.slots};
+    s->cqs[0] = (struct nvme_ring){.address = acq.address, .slots = acq.slots, .has_interrupt = 1};
+    s->counts.resets++;
+    s->registers[CSTS] = CFS;
+    if (r[CC] & 0x7f0 || ams > 1 ||
+        nvmearb_ctrl_init_anywhere(&s->ctrl, s->slots, NVME_COMMANDS, &config, &placement) != NVMEARB_OK)
+        return;
+    nvme_own(d);
+    if (d->host.enabled)
+        d->host.enabled(d->host.context, &config);
+    s->registers[CSTS] = RDY;
+}
+
+/* No queue is there any more. Errors, counts and what was changed stay. */
+static void forget(struct nvme *d)
+{
+    struct nvme_state *s = &d->state;
+    memset(&s->ctrl, 0, sizeof s->ctrl); /* the library refuses every call on zeros */
+    memset(s->sqs, 0, sizeof s->sqs);
+    memset(s->cqs, 0, sizeof s->cqs);
+    memset(s->held_queues, 0, sizeof s->held_queues);
+    s->masked = 0;
+    s->held_count = 0;
+    s->pending = s->told = 0;
+    nvme_reset_features(d);
+}
+
+/* CC.EN becomes 0. CSTS.RDY follows in nvme_stop. */
+static void disable(struct nvme *d)
+{
+    forget(d);
+    nvme_drop(d);
+    d->state.is_stopping = 1;
+}
+
+void nvme_stop(struct nvme *d)
+{
+    if (!d->state.is_stopping || !nvme_is_quiet(d))
+        return;
+    d->state.is_stopping = 0;
+    d->state.registers[CSTS] = 0;
+    if (d->state.registers[CC] & 1) /* the host didn't wait */
+        enable(d);
+}
+
+static void write_cc(struct nvme *d, uint32_t value)
+{
+    uint32_t was = d->state.registers[CC];
+    d->state.registers[CC] = value;
+    if (value & ~was & 1 && !d->state.is_stopping)
+        enable(d);
+    if (~value & was & 1)
+        disable(d);
+    if (value >> 14 & 3 && !(was >> 14 & 3)) /* SHN */
+        nvme_shut_down(d);
+}
+
+/* The doorbells of a queue are one after the other, that of its submission queue first. */
+static void ring_doorbell(struct nvme *d, uint64_t index, uint32_t value)
+{
+    nvmearb_ctrl *ctrl = &d->state.ctrl;
+    uint16_t qid = (uint16_t)(index / 2), to = (uint16_t)value;
+    uint32_t told = index % 2 ? nvmearb_ctrl_cq_head(ctrl, qid, to) : nvmearb_ctrl_sq_tail(ctrl, qid, to);
+    if (told == NVMEARB_OK && index % 2)
+        d->state.cqs[qid].head = to;
+    if (told == NVMEARB_NONE || told == NVMEARB_EARG)
+        nvme_note_error(d, qid, told == NVMEARB_NONE ? INVALID_REGISTER : INVALID_VALUE);
+}
+
+static void write_register(struct nvme *d, uint64_t offset, uint32_t value)
+{
+    uint32_t *r = d->state.registers;
+    switch (offset / 4) {
+    case INTMS:
+        d->state.masked |= value;
+        break;
+    case INTMC:
+        d->state.masked &= ~value;
+        break;
+    case CC:
+        write_cc(d, value);
+        break;
+    case AQA: /* to ACQ */
+    case ASQ:
+    case ASQ_HIGH:
+    case ACQ:
+    case ACQ_HIGH:
+        if (!(r[CC] & 1))
+            r[offset / 4] = offset / 4 == ASQ || offset / 4 == ACQ ? value & ~(NVME_PAGE - 1) : value;
+        break;
+    default:
+        if (offset >= DOORBELLS)
+            ring_doorbell(d, (offset - DOORBELLS) / 4, value);
+    }
+}
+
+void nvme_write(struct nvme *d, uint64_t offset, uint64_t value, unsigned size)
+{
+    if (offset % 4 || (size != 4 && size != 8) || offset >= NVME_BAR_BYTES)
+        return;
+    write_register(d, offset, (uint32_t)value);
+    if (size == 8)
+        write_register(d, offset + 4, (uint32_t)(value >> 32));
+    if (d->host.later)
+        d->host.later(d->host.context);
+    else
+        nvme_turn(d);
+}
+
+uint64_t nvme_read(struct nvme *d, uint64_t offset, unsigned size)
+{
+    uint32_t *r = d->state.registers;
+    uint64_t value = 0;
+    r[INTMS] = r[INTMC] = d->state.masked;
+    if (size <= 8 && offset <= sizeof d->state.registers - size)
+        memcpy(&value, (const uint8_t *)r + offset, size);
+    return value;
+}
+
+void nvme_init(struct nvme *d)
+{
+    uint32_t *r = d->state.registers;
+    memset(r, 0, sizeof d->state.registers);
+    /* CAP: 4096 slots, contiguous queues, weighted round robin, the NVM command set, ready with media (CRMS). */
+    r[CAP_LOW] = MQES | 1u << 16 | 1u << 17 | (uint32_t)TIMEOUT << 24;
+    r[CAP_HIGH] = 1u << 5 | 1u << 27;
+    r[VS] = 0x20000;
+    r[CRTO] = TIMEOUT;
+    d->state.counts.begun = d->host.now(d->host.context);
+    forget(d);
+}
+
+void nvme_reset(struct nvme *d)
+{
+    struct nvme_state *s = &d->state;
+    uint64_t begun = s->counts.begun;
+    s->counts.unsafe_shutdowns += s->registers[CSTS] & RDY && !(s->registers[CSTS] & SHUT_DOWN);
+    nvme_drop(d);
+    if (d->host.settle)
+        d->host.settle(d->host.context);
+    if (s->is_asserted)
+        d->host.interrupt(d->host.context, 0);
+    s->is_asserted = s->is_stopping = 0;
+    nvme_init(d);
+    s->counts.begun = begun;
+}
+
+/* ---- Save and restore. Power-on time goes on from what it was. ---- */
+
+void nvme_save(const struct nvme *d, struct nvme_state *to)
+{
+    *to = d->state;
+    to->counts.begun = d->host.now(d->host.context) - d->state.counts.begun;
+}
+
+/* Whether each ring that will be used has slots, and each number that is an index is one. */
+static int is_sound(const struct nvme_state *s)
+{
+    int is_off = !(s->registers[CSTS] & RDY) || s->is_stopping;
+    for (int k = 0; k <= NVME_QUEUES && !is_off; k++) {
+        uint16_t region, qid = (uint16_t)k;
+        if (nvmearb_ctrl_cq(&s->ctrl, qid, &region) == NVMEARB_OK && s->cqs[k].slots == 0)
+            return 0;
+    }
+    return s->held_count <= sizeof s->held / sizeof s->held[0] &&
+           (is_off || nvmearb_ctrl_verify(&s->ctrl, s->slots, NVME_COMMANDS) == NVMEARB_OK);
+}
+
+int nvme_restore(struct nvme *d, const struct nvme_state *from)
+{
+    if (!is_sound(from))
+        return 0;
+    d->state = *from;
+    d->state.counts.begun = d->host.now(d->host.context) - from->counts.begun;
+    d->state.is_asserted = 0; /* so that the next turn tells it */
+    d->has_ended = 1;         /* no namespace is busy */
+    return 1;
+}
