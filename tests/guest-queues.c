@@ -12,20 +12,14 @@
 #include <sys/wait.h>
 #include <unistd.h>
 
-#define FIRST_OWN 3 /* the queues that Linux makes and never uses: those of its polls but the first */
 #define OWN 3
-#define ROUNDS 300        /* more than there are identifiers, and the rings lie in the same memory */
+#define ROUNDS 300 /* more than there are identifiers, and the rings lie in the same memory */
 #define REMADE 50
-#define BURST 8           /* of a pick, at first */
-#define DATA (256 * PAGE) /* where data is in the memory of these queues; rings are before it */
+#define BURST 8 /* of a pick, at first */
 
-struct own {
-    uint16_t qid, slots, cq_slots, tail, head, phase;
-    uint8_t *sq;
-    volatile uint32_t *cq;
-};
-static uint8_t *memory;   /* 2 MiB, in one piece of physical memory */
-static uint64_t physical; /* its address */
+uint8_t *memory;
+uint64_t physical;
+volatile uint8_t *registers;
 static volatile uint32_t *doorbells;
 
 /* Takes memory and doorbells, and deletes the queues of Linux' that are used here. */
@@ -37,9 +31,10 @@ static void begin(void)
         mmap(NULL, 2 << 20, PROT_READ | PROT_WRITE, MAP_PRIVATE | MAP_ANONYMOUS | MAP_HUGETLB | MAP_POPULATE, -1, 0);
     CHECK(memory != MAP_FAILED, "memory: %s", strerror(errno));
     memset(memory, 0, 2 << 20);
+    madvise(memory, 2 << 20, MADV_DONTFORK); /* or a write after a fork would move it */
     CHECK(pread(map, &entry, 8, (off_t)((uintptr_t)memory / PAGE * 8)) == 8 && entry >> 63, "no physical address");
     physical = (entry & ((1ull << 55) - 1)) * PAGE;
-    uint8_t *registers = mmap(NULL, 0x4000, PROT_READ | PROT_WRITE, MAP_SHARED, bar, 0);
+    registers = mmap(NULL, 0x4000, PROT_READ | PROT_WRITE, MAP_SHARED, bar, 0);
     CHECK(registers != MAP_FAILED, "registers: %s", strerror(errno));
     doorbells = (volatile uint32_t *)(registers + 0x1000);
     for (uint32_t qid = FIRST_OWN; qid < FIRST_OWN + OWN; qid++) {
@@ -48,8 +43,7 @@ static void begin(void)
     }
 }
 
-/* Begins tests of queues of its own anew: after a reset all queues are those of Linux. */
-static void begin_anew(void)
+void begin_anew(void)
 {
     choose(RATE, 0, 0);
     reset();
@@ -72,8 +66,7 @@ static int create_sq(struct own *q, uint16_t qid, uint16_t cqid, uint32_t qprio)
     return admin(0x01, 0, q->sq, 63u << 16 | qid, (uint32_t)cqid << 16 | qprio << 1 | 1, 0, NULL);
 }
 
-/* Makes a pair of queues. */
-static void create(struct own *q, uint16_t qid, uint16_t cq_slots)
+void create(struct own *q, uint16_t qid, uint16_t cq_slots)
 {
     *q = (struct own){.qid = qid, .phase = 1};
     int status = create_cq(q, qid, cq_slots);
@@ -82,15 +75,20 @@ static void create(struct own *q, uint16_t qid, uint16_t cq_slots)
     CHECK(status == 0, "Create SQ %u: %x", qid, status);
 }
 
-/* Puts a command on namespace 1 into the ring. */
-static void put(struct own *q, uint16_t cid, uint32_t opcode, uint32_t first, uint32_t blocks, uint64_t prp1,
-                uint64_t prp2)
+void put_on(struct own *q, uint32_t nsid, uint16_t cid, uint32_t opcode, uint32_t first, uint32_t blocks, uint64_t prp1,
+            uint64_t prp2)
 {
-    uint32_t entry[16] = {opcode | (uint32_t)cid << 16, 1, [10] = first, 0, blocks - 1};
+    uint32_t entry[16] = {opcode | (uint32_t)cid << 16, nsid, [10] = first, 0, blocks - 1};
     memcpy(entry + 6, &prp1, 8);
     memcpy(entry + 8, &prp2, 8);
     memcpy(q->sq + q->tail * 64, entry, 64);
     q->tail = (uint16_t)((q->tail + 1) % q->slots);
+}
+
+static void put(struct own *q, uint16_t cid, uint32_t opcode, uint32_t first, uint32_t blocks, uint64_t prp1,
+                uint64_t prp2)
+{
+    put_on(q, 1, cid, opcode, first, blocks, prp1, prp2);
 }
 
 /* Puts a Read of one block, at a block that is its identifier. */
@@ -99,18 +97,13 @@ static void put_read(struct own *q, uint16_t cid)
     put(q, cid, 0x02, cid, 1, physical + DATA + cid % 128 * PAGE, 0);
 }
 
-static void ring(const struct own *q)
+void ring(const struct own *q)
 {
     __sync_synchronize();
     doorbells[2 * q->qid] = q->tail;
 }
 
-struct ended {
-    uint16_t sqid, cid, status, sqhd;
-};
-
-/* Takes the next completion of the completion queue of `q`. Returns 0 if none comes within so many milliseconds. */
-static int take(struct own *q, struct ended *it, unsigned ms)
+int take(struct own *q, struct ended *it, unsigned ms)
 {
     double end = seconds() + ms / 1e3;
     volatile uint32_t *entry = q->cq + 4 * q->head;
@@ -126,8 +119,7 @@ static int take(struct own *q, struct ended *it, unsigned ms)
     return 1;
 }
 
-/* Deletes a submission queue, from a process beside this one, which goes on meanwhile. */
-static pid_t delete_sq(uint16_t qid)
+int delete_sq(uint16_t qid)
 {
     pid_t child = fork();
     if (child == 0)

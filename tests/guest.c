@@ -23,15 +23,10 @@
 #include <time.h>
 #include <unistd.h>
 
-#define MOST (1 << 20) /* the longest request: 1 MiB */
+#define LONGEST (1 << 20) /* a request: 1 MiB */
 
-static const struct disk {
-    const char *name, *path;
-    unsigned mib, block;
-} disks[] = {{"nvme0n1", "/dev/nvme0n1", 64, 512}, /* in memory; so is the next one, and the last one is a file */
-             {"nvme0n2", "/dev/nvme0n2", 32, 4096},
-             {"nvme0n3", "/dev/nvme0n3", 24, 512}};
-enum { DISKS = sizeof disks / sizeof disks[0] };
+const struct disk disks[DISKS] = {
+    {"nvme0n1", "/dev/nvme0n1", 64, 512}, {"nvme0n2", "/dev/nvme0n2", 32, 4096}, {"nvme0n3", "/dev/nvme0n3", 24, 512}};
 
 /* ---- Rows ---- */
 
@@ -108,8 +103,7 @@ uint64_t random_below(uint64_t limit)
     return random_state % limit;
 }
 
-/* Reads a file of one line. */
-static const char *line_of(const char *path)
+const char *line_of(const char *path)
 {
     static char line[256];
     int fd = open(path, O_RDONLY);
@@ -131,24 +125,48 @@ static void write_line(const char *path, const char *line)
 
 /* ---- Admin commands ---- */
 
-int admin(uint8_t opcode, uint32_t nsid, void *data, uint32_t cdw10, uint32_t cdw11, uint32_t cdw12, uint32_t *dw0)
+/* Sends a command by a call of Linux' to a file. */
+static int command(int fd, unsigned long call, uint8_t opcode, uint32_t nsid, void *data, uint32_t length,
+                   const uint32_t cdw[6], uint32_t *dw0)
 {
-    static int fd = -1;
-    struct nvme_admin_cmd it = {.opcode = opcode,
-                                .nsid = nsid,
-                                .addr = (uintptr_t)data,
-                                .data_len = data ? PAGE : 0,
-                                .cdw10 = cdw10,
-                                .cdw11 = cdw11,
-                                .cdw12 = cdw12,
-                                .timeout_ms = 20000};
-    if (fd < 0)
-        fd = open("/dev/nvme0", O_RDWR);
-    int status = ioctl(fd, NVME_IOCTL_ADMIN_CMD, &it);
-    CHECK(status >= 0, "admin command %02xh: %s", opcode, strerror(errno));
+    struct nvme_passthru_cmd it = {.opcode = opcode,
+                                   .nsid = nsid,
+                                   .addr = (uintptr_t)data,
+                                   .data_len = length,
+                                   .cdw10 = cdw[0],
+                                   .cdw11 = cdw[1],
+                                   .cdw12 = cdw[2],
+                                   .cdw13 = cdw[3],
+                                   .cdw14 = cdw[4],
+                                   .cdw15 = cdw[5],
+                                   .timeout_ms = 20000};
+    int status = ioctl(fd, call, &it);
+    CHECK(status >= 0, "command %02xh: %s", opcode, strerror(errno));
     if (dw0)
         *dw0 = it.result;
     return status & 0x47ff;
+}
+
+int admin_of(uint8_t opcode, uint32_t nsid, void *data, uint32_t length, const uint32_t cdw[6], uint32_t *dw0)
+{
+    static int fd = -1;
+    if (fd < 0)
+        fd = open("/dev/nvme0", O_RDWR);
+    return command(fd, NVME_IOCTL_ADMIN_CMD, opcode, nsid, data, length, cdw, dw0);
+}
+
+int admin(uint8_t opcode, uint32_t nsid, void *data, uint32_t cdw10, uint32_t cdw11, uint32_t cdw12, uint32_t *dw0)
+{
+    return admin_of(opcode, nsid, data, data ? PAGE : 0, (uint32_t[6]){cdw10, cdw11, cdw12}, dw0);
+}
+
+int disk_command(const char *path, uint8_t opcode, void *data, uint32_t length, const uint32_t cdw[6])
+{
+    int fd = open(path, O_RDWR);
+    uint32_t nsid = (uint32_t)ioctl(fd, NVME_IOCTL_ID);
+    int status = command(fd, NVME_IOCTL_IO_CMD, opcode, nsid, data, length, cdw, NULL);
+    close(fd);
+    return status;
 }
 
 uint32_t choose(uint32_t what, uint32_t first, uint32_t second)
@@ -199,10 +217,10 @@ static unsigned patterns_of(const struct disk *d, unsigned requests)
     size_t size = (size_t)d->mib << 20, total = 0;
     int fd = open(d->path, O_RDWR | O_DIRECT);
     uint8_t *want = mmap(NULL, size, PROT_READ | PROT_WRITE, MAP_PRIVATE | MAP_ANONYMOUS, -1, 0);
-    uint8_t *room = aligned_alloc(PAGE, MOST + PAGE);
+    uint8_t *room = aligned_alloc(PAGE, LONGEST + PAGE);
     CHECK(fd >= 0, "%s: %s", d->path, strerror(errno));
-    for (size_t at = 0; at < size; at += MOST)
-        CHECK(pread(fd, want + at, MOST, (off_t)at) == MOST, "the first read at %zu: %s", at, strerror(errno));
+    for (size_t at = 0; at < size; at += LONGEST)
+        CHECK(pread(fd, want + at, LONGEST, (off_t)at) == LONGEST, "the first read at %zu: %s", at, strerror(errno));
     for (unsigned k = 0; k < requests; k++) {
         size_t most = (size_t)d->block << random_below(d->block == 512 ? 12 : 9);
         size_t length = (1 + random_below(most / d->block)) * d->block;
@@ -222,8 +240,8 @@ static unsigned patterns_of(const struct disk *d, unsigned requests)
         }
         total += length;
     }
-    for (size_t at = 0; at < size; at += MOST)
-        CHECK(pread(fd, room, MOST, (off_t)at) == MOST && !memcmp(room, want + at, MOST), "the last read at %zu", at);
+    for (size_t at = 0; at < size; at += LONGEST)
+        CHECK(pread(fd, room, LONGEST, (off_t)at) == LONGEST && !memcmp(room, want + at, LONGEST), "the last read at %zu", at);
     return (unsigned)(total >> 20);
 }
 
@@ -276,21 +294,50 @@ static void verified(void)
     good("56 MiB by fio, with crc32c");
 }
 
-static void resets(void)
+/* Resets, under fio, whose data is verified. */
+static void resets_under(const char *words)
 {
     uint32_t before = choose(RESETS, 0, 0);
-    choose(RATE, 400, 0);
-    pid_t child = fio("/tmp/1", VERIFIED "nvme0n1 --bsrange=512-64k --size=24m");
+    pid_t child = fio("/tmp/1", words);
     for (int k = 0; k < 6; k++) {
         usleep(300000);
         reset();
     }
     CHECK(waitpid(child, NULL, WNOHANG) == 0, "fio ended before the resets");
     choose(RATE, 0, 0);
+    choose(LATE, 0, 0);
     fio_ends(child, "/tmp/1");
     uint32_t count = choose(RESETS, 0, 0) - before;
     CHECK(count == 6, "%u resets of 6", count);
     good("%u under fio, no error", count);
+}
+
+static void resets(void)
+{
+    choose(RATE, 400, 0);
+    resets_under(VERIFIED "nvme0n1 --bsrange=512-64k --size=24m");
+}
+
+static void late_resets(void)
+{
+    choose(LATE, 3, 30);
+    resets_under(VERIFIED "nvme0n3 --bsrange=512-64k --size=20m");
+}
+
+/* The device is saved and restored, under fio, whose data is verified. */
+static void moved(void)
+{
+    enum { TIMES = 20 };
+    choose(RATE, 400, 0);
+    pid_t child = fio("/tmp/1", VERIFIED "nvme0n3 --bsrange=512-64k --size=20m");
+    for (int k = 0; k < TIMES; k++) {
+        usleep(50000);
+        choose(MOVE, 0, 0);
+    }
+    CHECK(waitpid(child, NULL, WNOHANG) == 0, "fio ended before that");
+    choose(RATE, 0, 0);
+    fio_ends(child, "/tmp/1");
+    good("%d times under fio, no error", TIMES);
 }
 
 static void failing(void)
@@ -349,23 +396,41 @@ static double reads_of(const char *report, int line)
     return atof(it);
 }
 
-#define READS                                                                                                          \
-    "--rw=randread --bs=512 --iodepth=64 --size=16m --time_based --ramp_time=1 --runtime=4 --filename=/dev/nvme0n1 "
+#define READS(disk)                                                                                                    \
+    "--rw=randread --bs=512 --iodepth=64 --size=16m --time_based --ramp_time=1 --runtime=4 --filename=/dev/" disk      \
+    " --name=low --ioengine=libaio --name=high --ioengine=io_uring --hipri=1"
 
 /* The queue that Linux polls has priority high, the other one low, and both always have commands. */
-static void linux_shares(void)
+static void shares_of(const char *words)
 {
     choose(WEIGHTED, 1, 0);
     choose(CLASS, 1, 4);
     choose(CLASS, 2, 2);
     reset();
     set_arbitration(0x07030103);
-    choose(RATE, 800, 0);
-    fio_ends(fio("/tmp/1", READS "--name=low --ioengine=libaio --name=high --ioengine=io_uring --hipri=1"), "/tmp/1");
-    choose(RATE, 0, 0);
+    fio_ends(fio("/tmp/1", words), "/tmp/1");
+    choose(CLASS, 1, 0);
+    choose(CLASS, 2, 0);
     double low = reads_of("/tmp/1", 0), high = reads_of("/tmp/1", 1), share = high / low;
     CHECK(share > 3.6 && share < 4.4, "%.0f to %.0f reads a second", high, low);
     good("%.0f to %.0f reads a second, so %.2f for weights 8 to 2", high, low, share);
+}
+
+static void linux_shares(void)
+{
+    choose(RATE, 800, 0);
+    shares_of(READS("nvme0n1"));
+    choose(RATE, 0, 0);
+}
+
+/* The same where the disk is the bottleneck: the limit on what is in flight keeps commands waiting. */
+static void disk_shares(void)
+{
+    choose(MOST, 16, 0);
+    choose(LATE, 3, 20);
+    shares_of(READS("nvme0n3"));
+    choose(LATE, 0, 0);
+    choose(MOST, 32, 0);
 }
 
 int main(void)
@@ -377,18 +442,32 @@ int main(void)
     setvbuf(stdout, NULL, _IOLBF, 0);
     printf("\nbegin\n");
     row("identity", identity, 20);
+    row("names of two devices", names, 20);
     row("patterns", patterns, 60);
     row("fio", verified, 60);
+    row("commands", commands, 30);
+    row("counters", counters, 20);
+    row("another size", resized, 20);
     row("a failing read", failing, 20);
     row("resets", resets, 60);
+    row("resets of a late disk", late_resets, 60);
+    row("saved and restored", moved, 60);
     row("Aborts by Linux", linux_aborts, 40);
     row("shares of Linux' queues", linux_shares, 40);
+    row("shares of a late disk", disk_shares, 40);
     row("queues made and deleted", rounds, 60);
     row("Aborts", own_aborts, 20);
+    row("a late disk", late_disk, 30);
+    row("Aborts of what is at a disk", aborts_at_disk, 30);
+    row("a deletion of what is at a disk", deleted_at_disk, 30);
     row("data by lists", lists, 20);
     row("a full completion queue", full, 20);
     row("refused admin commands", refusals, 20);
     row("features", features, 20);
+    row("features by namespace, vector and sensor", more_features, 20);
+    row("log pages", log_pages, 20);
+    row("version 2.0", identified, 20);
+    row("bus mastering", bus_mastering, 20);
     row("shares", shares, 30);
     row("everything at once", mixture, 60);
     row("bad doorbells", doorbell_events, 30);

@@ -85,6 +85,7 @@ static void release(struct nvme *d)
     if (!d->has_ended)
         return;
     d->has_ended = 0;
+    memset(d->is_busy, 0, sizeof d->is_busy);
     for (uint16_t qid = 1; qid <= NVME_QUEUES; qid++)
         if (d->state.held_queues[qid]) {
             d->state.held_queues[qid] = 0;
@@ -94,17 +95,20 @@ static void release(struct nvme *d)
 
 /*
  * Whether the namespace of a queue's next command has room for a whole pick of it, or nothing in flight. A pick hands
- * over all of a burst, so a burst above the limit passes it.
+ * over all of a burst, so a burst above the limit passes it. A namespace without room for one is busy for all queues:
+ * otherwise one with a smaller pick would overtake.
  */
-static int has_room(const struct nvme *d, const nvmearb_pick *next)
+static int has_room(struct nvme *d, const nvmearb_pick *next)
 {
     nvmearb_sqe entry;
-    uint32_t cookie;
-    if (nvmearb_ctrl_waits(&d->state.ctrl, d->state.slots, NVME_COMMANDS, next->qid, 0, &entry, &cookie) != NVMEARB_OK ||
-        entry.nsid - 1 >= d->count)
-        return 1; /* it goes to no namespace, or to all */
-    unsigned has = d->in_flight[entry.nsid - 1];
-    return has == 0 || has + next->n <= d->most;
+    uint32_t cookie, k;
+    if (nvmearb_ctrl_waits(&d->state.ctrl, d->state.slots, NVME_COMMANDS, next->qid, 0, &entry, &cookie) != NVMEARB_OK)
+        return 1;
+    k = entry.nsid - 1;
+    if (k >= d->count) /* it goes to no namespace, or to all */
+        return 1;
+    d->is_busy[k] |= d->in_flight[k] && d->in_flight[k] + next->n > d->most;
+    return !d->is_busy[k];
 }
 
 /* Whether a pick may be made. Queues whose namespace is busy are left out of arbitration until a request ends. */

@@ -156,7 +156,7 @@ struct nvme {
     struct nvme_state state;
     struct nvme_request *requests; /* those in flight */
     uint16_t in_flight[NVME_NAMESPACES];
-    uint8_t has_ended; /* whether any ended since queues were held */
+    uint8_t is_busy[NVME_NAMESPACES], has_ended; /* of which queues are held; whether a request ended since */
 };
 
 /* Makes a device, which isn't enabled. It must be zero but for what is chosen. */
