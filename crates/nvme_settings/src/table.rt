@@ -27,7 +27,11 @@ fn put_burst<W: Write>(cdw11: u32, writer: &mut W) -> Result<(), WriteFault> {
     let field = Piece::Number(u128::from(code));
     match Settings::from_cdw11(cdw11).burst() {
         Some(1) => put_line(
-            &[name, field, Piece::Words("  a pick takes at most 1 command")],
+            &[
+                name,
+                field,
+                Piece::Words("  a pick takes at most 1 command"),
+            ],
             writer,
         ),
         Some(burst) => put_line(
@@ -105,11 +109,7 @@ fn put_options<W: Write>(
 }
 
 // Writes the line of a short file's keys that say these settings, in which the burst has these words.
-fn put_keys<W: Write>(
-    burst: Piece,
-    settings: &Settings,
-    writer: &mut W,
-) -> Result<(), WriteFault> {
+fn put_keys<W: Write>(burst: Piece, settings: &Settings, writer: &mut W) -> Result<(), WriteFault> {
     let (high, medium, low) = weights_of(settings);
     put_line(
         &[
