@@ -44,10 +44,10 @@
  *     signal handler makes no call on an object that the call which it interrupts was given.
  *
  * Numbers are in the machine's byte order, and bytes of entries in the specification's. The library is built for x86-64
- * (x86-64-v2, System V calling convention), and for AArch64 (README, "Install"). On x86-64 it uses SSE
- * registers and the red zone: a kernel saves these registers before a call, and an interrupt handler runs on a stack of
- * its own. nvmearb_ctrl_init and nvmearb_ctrl_init_anywhere take 34 KB of stack at most, and every other call 1 KB.
- * Link with -lnvmearb; the only other symbols are memcpy and memset. The archive has an object for each section below.
+ * (x86-64-v2, System V calling convention) and for AArch64 (README, "Install"). On x86-64 it uses SSE registers and the
+ * red zone: a kernel saves these registers before a call, and takes no interrupt on the stack of a call.
+ * nvmearb_ctrl_init and nvmearb_ctrl_init_anywhere take 34 KB of stack at most, and every other call 1 KB. Link with
+ * -lnvmearb; the only other symbols are memcpy and memset. The archive has an object for each section below.
  */
 #ifndef NVMEARB_H
 #define NVMEARB_H
