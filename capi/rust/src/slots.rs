@@ -27,8 +27,9 @@ impl Default for Slot {
     }
 }
 
-/// Memory for the slots of a controller: `[Slot; N]`, `&mut [Slot]`, or with the feature `alloc` `Box<[Slot]>`
-/// (`boxed_slots`). Other crates can't implement it: a controller trusts that it gets the same slots each time.
+/// Memory for the slots of a controller: `[Slot; N]`, which lies in the controller and moves with it, `&mut [Slot]`, as
+/// where it is static, or with the feature `alloc` `Box<[Slot]>` (`boxed_slots`). Other crates can't implement it: a
+/// controller trusts that it gets the same slots each time.
 pub trait Slots: sealed::Slots {}
 
 pub(crate) mod sealed {
