@@ -3,8 +3,8 @@
  * liburing was there when it was built (NVME_URING) and the machine allows it, else by threads. Flush is fdatasync. Of a
  * file system it needs holes, as ext4, XFS, Btrfs and tmpfs have them: Write Zeroes and Deallocate make some.
  */
-#ifndef DISK_H
-#define DISK_H
+#ifndef NVME_DISK_H
+#define NVME_DISK_H
 
 #include "nvme.h"
 

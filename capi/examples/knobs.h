@@ -2,8 +2,8 @@
  * What tests choose of a device, and count: a limit on the rate of picks, a block whose Reads fail, a namespace that
  * answers late, and an admin command of opcode C0h by which a guest does so. No part of a device.
  */
-#ifndef KNOBS_H
-#define KNOBS_H
+#ifndef NVME_KNOBS_H
+#define NVME_KNOBS_H
 
 #include "nvme.h"
 

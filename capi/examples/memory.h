@@ -1,6 +1,6 @@
 /* A backend over memory, which executes each request at once: `of` of its namespace is where block 0 is. */
-#ifndef MEMORY_H
-#define MEMORY_H
+#ifndef NVME_MEMORY_H
+#define NVME_MEMORY_H
 
 #include "nvme.h"
 

@@ -1,6 +1,6 @@
 /* Between the files of the device of nvme.h. */
-#ifndef PARTS_H
-#define PARTS_H
+#ifndef NVME_PARTS_H
+#define NVME_PARTS_H
 
 #include "nvme.h"
 
