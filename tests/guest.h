@@ -13,6 +13,13 @@ _Noreturn void bad(const char *format, ...);
 /* Tells the figures of the test that is going on. */
 void good(const char *format, ...);
 
+/* Runs a test in a process of its own, of at most so many seconds. */
+void row(const char *name, void (*test)(void), unsigned seconds);
+
+/* Mounts what a guest has; says how many tests there were, and ends it. */
+void begin_guest(void);
+void end_guest(void);
+
 double seconds(void);
 uint64_t random_below(uint64_t limit);
 
@@ -23,16 +30,29 @@ int admin(uint8_t opcode, uint32_t nsid, void *data, uint32_t cdw10, uint32_t cd
 int admin_of(uint8_t opcode, uint32_t nsid, void *data, uint32_t length, const uint32_t cdw[6], uint32_t *dw0);
 int disk_command(const char *path, uint8_t opcode, void *data, uint32_t length, const uint32_t cdw[6]);
 
-/* Reads a file of one line, into static memory. */
+/* Reads a file of one line, into static memory. Writes one. */
 const char *line_of(const char *path);
+void write_line(const char *path, const char *line);
 
-/* The disks: in memory, in memory, and in a file. */
+/* Starts fio with these words, and its report in this file. Waits until it ends well. The reads in a second of a job. */
+int fio(const char *report, const char *words);
+void fio_ends(int child, const char *report);
+double reads_of(const char *report, int job);
+#define VERIFIED                                                                                                       \
+    "--ioengine=libaio --rw=randwrite --verify=crc32c --verify_fatal=1 --iodepth=16 --name=job --filename=/dev/"
+
 struct disk {
     const char *name, *path;
     unsigned mib, block;
 };
-enum { DISKS = 3 };
-extern const struct disk disks[DISKS];
+
+/* Random requests with patterns, and at the end the whole disk, against what was written. Returns the MiB of them. */
+unsigned patterns_of(const struct disk *d, unsigned requests);
+
+/* The disks of a guest, and its controller that admin commands go to. */
+extern const struct disk disks[];
+extern const unsigned disk_count;
+extern const char *controller;
 
 /* What the device lets a guest choose, and counts: numbers of capi/examples/knobs.c. */
 enum { RATE, BAD_BLOCK, WEIGHTED, CLASS, BAD_READS, ABORTED, RESETS, LATE, LATE_ONES, MOST, RESIZE, MOVE, INTERRUPTS };
@@ -82,7 +102,10 @@ void rounds(void), own_aborts(void), lists(void), full(void), refusals(void), fe
 void names(void), more_features(void), log_pages(void), counters(void), identified(void), bus_mastering(void),
     resized(void);
 
-/* The tests of commands of the NVM command set, and of a disk that answers late: guest-disk.c. */
-void commands(void), late_disk(void), aborts_at_disk(void), deleted_at_disk(void);
+/* The tests of a disk that answers late: guest-disk.c. */
+void late_disk(void), aborts_at_disk(void), deleted_at_disk(void);
+
+/* The tests of commands of the NVM command set, of each disk: guest-commands.c. */
+void commands(void);
 
 #endif

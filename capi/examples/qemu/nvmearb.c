@@ -152,8 +152,6 @@ static void nvmearb_begin(struct nvme_request *r)
         blk_aio_flush(blk, nvmearb_done, it);
         break;
     case NVME_ZERO:
-        blk_aio_pwrite_zeroes(blk, r->at, r->length, BDRV_REQ_MAY_UNMAP, nvmearb_done, it);
-        break;
     case NVME_DISCARD: /* of what is discarded zeros are to be read */
         blk_aio_pwrite_zeroes(blk, r->at, r->length, BDRV_REQ_MAY_UNMAP, nvmearb_done, it);
         break;
