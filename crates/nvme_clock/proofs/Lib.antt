@@ -1,0 +1,5 @@
+pub mod Digits
+pub mod EventOrder
+pub mod Fairness
+pub mod Sorting
+pub mod Turns
