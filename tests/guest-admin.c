@@ -68,7 +68,8 @@ void names(void)
     uint8_t *page = page_of();
     CHECK(admin(IDENTIFY, 0, page, 1, 0, 0, NULL) == 0, "Identify");
     CHECK(number(page, 2) == strtoul(told("/sys/class/nvme/%s/device/vendor", "nvme0"), NULL, 16), "VID");
-    CHECK(number(page + 2, 2) == strtoul(told("/sys/class/nvme/%s/device/subsystem_vendor", "nvme0"), NULL, 16), "SSVID");
+    CHECK(number(page + 2, 2) == strtoul(told("/sys/class/nvme/%s/device/subsystem_vendor", "nvme0"), NULL, 16),
+          "SSVID");
     good("eight identifiers, two NQNs, VID %04x", (unsigned)number(page, 2));
 }
 
@@ -147,7 +148,8 @@ void log_pages(void)
     CHECK(number(page + 4 * 5, 4) >> 20 == 1 && number(page + 4 * 4, 4) >> 20 == 2, "log 12h: what features belong to");
     CHECK(get_log(page, 1, 0, 2 * PAGE, 0) == 0, "log 01h of 8192 bytes");
     CHECK(get_log(page, 3, 0, 8, 8) == 0 && !memcmp(page, "0.1     ", 8), "log 03h from its byte 8 on");
-    CHECK(get_log(page, 3, 0, 8, 516) == 0x4002 && get_log(page, 3, 0, 8, 2) == 0x4002, "log 03h from beyond its end on");
+    CHECK(get_log(page, 3, 0, 8, 516) == 0x4002 && get_log(page, 3, 0, 8, 2) == 0x4002,
+          "log 03h from beyond its end on");
     CHECK(get_log(page, 2, 5, 512, 0) == 0x4002, "log 02h of a namespace");
     CHECK(get_log(page, 4, 0, PAGE, 0) == 0 && number(page, 4) == 0, "log 04h");
     good("%zu pages, and what three of them tell", sizeof pages);
@@ -165,7 +167,8 @@ void counters(void)
               strerror(errno));
     CHECK(get_log(after, 2, (uint32_t)ALL, 512, 0) == 0, "the log");
     for (int at = 32; at <= 48; at += 16) {
-        uint64_t units = number(after + at, 8) - number(before + at, 8), commands = number(after + at + 32, 8) - number(before + at + 32, 8);
+        uint64_t units = number(after + at, 8) - number(before + at, 8),
+                 commands = number(after + at + 32, 8) - number(before + at + 32, 8);
         CHECK(units == TIMES * BYTES / 512000 || units == TIMES * BYTES / 512000 + 1, "%u units", (unsigned)units);
         CHECK(commands == TIMES, "%u commands", (unsigned)commands);
     }

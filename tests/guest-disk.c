@@ -82,7 +82,8 @@ void aborts_at_disk(void)
         usleep(50000);
     put_on(&q[0], SLOW, 3, READ, 4000, 1, physical + DATA, 0);
     ring(&q[0]);
-    CHECK(take(&q[0], &it, 2000) && it.cid == 3 && it.status == 0 && memory[DATA] != 0x77, "what was aborted is written");
+    CHECK(take(&q[0], &it, 2000) && it.cid == 3 && it.status == 0 && memory[DATA] != 0x77,
+          "what was aborted is written");
     good("a Write and a Read, at once");
 }
 

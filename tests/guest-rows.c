@@ -255,7 +255,8 @@ unsigned patterns_of(const struct disk *d, unsigned requests)
         total += length;
     }
     for (size_t at = 0; at < size; at += LONGEST)
-        CHECK(pread(fd, room, LONGEST, (off_t)at) == LONGEST && !memcmp(room, want + at, LONGEST), "the last read at %zu", at);
+        CHECK(pread(fd, room, LONGEST, (off_t)at) == LONGEST && !memcmp(room, want + at, LONGEST),
+              "the last read at %zu", at);
     return (unsigned)(total >> 20);
 }
 

@@ -1,7 +1,7 @@
 /*
- * The first process of the guest of tests/qemu: tests the device of capi/examples/qemu, which is in QEMU's own tree, through
- * Linux on four processors. Its lines are those of guest.c. Of two devices that with the serial number 2 has a slow disk,
- * high priority for queue 1 and low priority for queue 2.
+ * The first process of the guest of tests/qemu: tests the device of capi/examples/qemu, which is in QEMU's own tree,
+ * through Linux on four processors. Its lines are those of guest.c. Of two devices that with the serial number 2 has a
+ * slow disk, high priority for queue 1 and low priority for queue 2.
  */
 #define _GNU_SOURCE
 #include "guest.h"

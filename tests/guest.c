@@ -51,7 +51,8 @@ static void identity(void)
 
 static void patterns(void)
 {
-    unsigned first = patterns_of(&disks[0], 300), second = patterns_of(&disks[1], 150), file = patterns_of(&disks[2], 150);
+    unsigned first = patterns_of(&disks[0], 300), second = patterns_of(&disks[1], 150),
+             file = patterns_of(&disks[2], 150);
     good("600 requests of 512 bytes to 1 MiB, %u, %u and %u MiB, and the disks compared", first, second, file);
 }
 

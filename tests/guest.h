@@ -34,7 +34,8 @@ int disk_command(const char *path, uint8_t opcode, void *data, uint32_t length, 
 const char *line_of(const char *path);
 void write_line(const char *path, const char *line);
 
-/* Starts fio with these words, and its report in this file. Waits until it ends well. The reads in a second of a job. */
+/* Starts fio with these words, and its report in this file. Waits until it ends well. The reads in a second of a job.
+ */
 int fio(const char *report, const char *words);
 void fio_ends(int child, const char *report);
 double reads_of(const char *report, int job);

@@ -1,7 +1,7 @@
 /*
- * The admin commands of the device of nvme.h: Set and Get Features, Abort, Asynchronous Event Request, as the NVM Express
- * Base Specification 2.0 has them. To be written anew where a device has other features or events: each feature has a row
- * in `features` below.
+ * The admin commands of the device of nvme.h: Set and Get Features, Abort, Asynchronous Event Request, as the NVM
+ * Express Base Specification 2.0 has them. To be written anew where a device has other features or events: each feature
+ * has a row in `features` below.
  */
 #include "parts.h"
 
@@ -112,8 +112,8 @@ static nvmearb_status set_feature(struct nvme *d, const nvmearb_sqe *entry, cons
         return nvme_invalid_field;
     if (fid == NVME_RECOVERY)
         for (uint32_t k = 0; k < d->count; k++)
-            d->state.recovery[k] = entry->nsid == UINT32_MAX || entry->nsid == k + 1 ? cdw11 & it->bits
-                                                                                     : d->state.recovery[k];
+            d->state.recovery[k] =
+                entry->nsid == UINT32_MAX || entry->nsid == k + 1 ? cdw11 & it->bits : d->state.recovery[k];
     else if (fid == NVME_VECTOR)
         d->state.uncoalesced[cdw11 & 0xffff] = cdw11 >> 16 & 1;
     else

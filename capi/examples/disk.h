@@ -1,7 +1,8 @@
 /*
- * A backend over a file, or a block device, that has many requests at a time and ends them in any order: by io_uring where
- * liburing was there when it was built (NVME_URING) and the machine allows it, else by threads. Flush is fdatasync. Of a
- * file system it needs holes, as ext4, XFS, Btrfs and tmpfs have them: Write Zeroes and Deallocate make some.
+ * A backend over a file, or a block device, that has many requests at a time and ends them in any order: by io_uring
+ * where liburing was there when it was built (NVME_URING) and the machine allows it, else by threads. Flush is
+ * fdatasync. Of a file system it needs holes, as ext4, XFS, Btrfs and tmpfs have them: Write Zeroes and Deallocate make
+ * some.
  */
 #ifndef NVME_DISK_H
 #define NVME_DISK_H

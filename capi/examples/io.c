@@ -1,7 +1,7 @@
 /*
  * The commands of the NVM command set, as requests to a backend: Flush, Write, Read, Compare, Write Zeroes, Dataset
- * Management and Verify. To be written anew for another command set, or for a backend that takes guest memory itself: here
- * data goes through memory of the request, so that guest memory is touched at the beginning and at the end alone.
+ * Management and Verify. To be written anew for another command set, or for a backend that takes guest memory itself:
+ * here data goes through memory of the request, so that guest memory is touched at the beginning and at the end alone.
  */
 #include "parts.h"
 
@@ -318,8 +318,8 @@ static int take_back(struct nvme_request *r)
 }
 
 /*
- * A command that its backend hasn't begun is taken back. Of one that reads, what comes later is dropped. One that writes
- * goes on, since it may still change what the host writes after it.
+ * A command that its backend hasn't begun is taken back. Of one that reads, what comes later is dropped. One that
+ * writes goes on, since it may still change what the host writes after it.
  */
 int nvme_abort(struct nvme *d, uint16_t tag)
 {

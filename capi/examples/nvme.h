@@ -11,10 +11,10 @@
  *
  * The machine is around it: qemu.c serves the device to QEMU as a process of its own, and qemu/ has it in QEMU's tree.
  *
- * What is in flight has a limit, `most`. A pick hands commands to a backend, which serves what it has in an order of its
- * own. If it may have all 256 commands that a controller allows, hardly any wait to be picked, and weights are without
- * effect, though each pick is lawful. So nothing is picked for a namespace that has as many as its backend needs to be
- * busy. Its queues are held meanwhile, and those of other namespaces go on.
+ * What is in flight has a limit, `most`. A pick hands commands to a backend, which serves what it has in an order of
+ * its own. If it may have all 256 commands that a controller allows, hardly any wait to be picked, and weights are
+ * without effect, though each pick is lawful. So nothing is picked for a namespace that has as many as its backend
+ * needs to be busy. Its queues are held meanwhile, and those of other namespaces go on.
  */
 #ifndef NVME_H
 #define NVME_H
@@ -141,12 +141,12 @@ struct nvme {
     /* Chosen before nvme_init. */
     struct nvme_host host;
     struct nvme_namespace namespaces[NVME_NAMESPACES];
-    uint32_t count;                /* of namespaces */
-    uint16_t vid, ssvid;           /* the vendor identifiers of the PCI header */
-    uint16_t cntlid;               /* by which controllers of one NQN differ */
-    uint16_t vectors;              /* the interrupt vectors: 1 for a pin, at most NVME_QUEUES + 1 */
-    uint16_t most;                 /* the most I/O commands of a namespace in flight. 0: no limit of the device's */
-    char serial[NVME_SERIAL + 1];  /* of which NQN, NGUID and EUI64 are made: no two devices have the same */
+    uint32_t count;               /* of namespaces */
+    uint16_t vid, ssvid;          /* the vendor identifiers of the PCI header */
+    uint16_t cntlid;              /* by which controllers of one NQN differ */
+    uint16_t vectors;             /* the interrupt vectors: 1 for a pin, at most NVME_QUEUES + 1 */
+    uint16_t most;                /* the most I/O commands of a namespace in flight. 0: no limit of the device's */
+    char serial[NVME_SERIAL + 1]; /* of which NQN, NGUID and EUI64 are made: no two devices have the same */
     /*
      * From the next enabling on: weighted round robin whatever CC.AMS says, and classes by queue instead of QPRIO
      * (NVMEARB_URGENT .. NVMEARB_LOW, or 0). Linux asks for round robin, and for urgent in all queues.
@@ -181,8 +181,8 @@ void nvme_reset(struct nvme *device);
 void nvme_resize(struct nvme *device, uint32_t nsid, uint64_t blocks);
 
 /*
- * Save and restore, once `settle` has waited, so that nothing is in flight: the state's bytes are all that is to be moved,
- * and nvme_turn then goes on. What was chosen is the same on both sides, and so is the version of the library.
+ * Save and restore, once `settle` has waited, so that nothing is in flight: the state's bytes are all that is to be
+ * moved, and nvme_turn then goes on. What was chosen is the same on both sides, and so is the version of the library.
  * nvme_restore returns 0, and changes nothing, where the bytes aren't a state.
  */
 void nvme_save(const struct nvme *device, struct nvme_state *to);

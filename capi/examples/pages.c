@@ -18,9 +18,10 @@ static const struct {
     uint8_t opcode, changes;
 } io_commands[] = {{NVMEARB_OPC_FLUSH, 0}, {NVMEARB_OPC_WRITE, 1},       {NVMEARB_OPC_READ, 0}, {NVME_COMPARE, 0},
                    {NVME_WRITE_ZEROES, 1}, {NVME_DATASET_MANAGEMENT, 1}, {NVME_VERIFY, 0}};
-static const uint8_t admin_commands[] = {
-    NVMEARB_OPC_DELETE_SQ, NVMEARB_OPC_CREATE_SQ, NVME_GET_LOG_PAGE,        NVMEARB_OPC_DELETE_CQ,   NVMEARB_OPC_CREATE_CQ,
-    NVME_IDENTIFY,         NVMEARB_OPC_ABORT,     NVMEARB_OPC_SET_FEATURES, NVMEARB_OPC_GET_FEATURES, NVME_EVENT_REQUEST};
+static const uint8_t admin_commands[] = {NVMEARB_OPC_DELETE_SQ, NVMEARB_OPC_CREATE_SQ,    NVME_GET_LOG_PAGE,
+                                         NVMEARB_OPC_DELETE_CQ, NVMEARB_OPC_CREATE_CQ,    NVME_IDENTIFY,
+                                         NVMEARB_OPC_ABORT,     NVMEARB_OPC_SET_FEATURES, NVMEARB_OPC_GET_FEATURES,
+                                         NVME_EVENT_REQUEST};
 
 /* Puts a number of so many bytes, the least significant first. */
 static void put(uint8_t *to, uint64_t value, int bytes)
@@ -73,7 +74,7 @@ static void identify_controller(const struct nvme *d, uint8_t *page)
     put_text(page + 4, d->serial, 20);
     put_text(page + 24, MODEL, 40);
     put_text(page + 64, FIRMWARE, 8);
-    page[72] = 3; /* RAB: a burst of 8 */
+    page[72] = 3;                                                             /* RAB: a burst of 8 */
     memcpy(page + 73, (const uint8_t[]){oui[2], oui[1], oui[0]}, sizeof oui); /* IEEE */
     page[77] = 8;                                                             /* MDTS: 256 pages */
     put(page + 78, d->cntlid, 2);

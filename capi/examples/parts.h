@@ -21,21 +21,7 @@ enum {
 };
 
 /* The registers, by their number of four bytes, and bits of CSTS. */
-enum {
-    CAP_LOW,
-    CAP_HIGH,
-    VS,
-    INTMS,
-    INTMC,
-    CC,
-    CSTS = 7,
-    AQA = 9,
-    ASQ,
-    ASQ_HIGH,
-    ACQ,
-    ACQ_HIGH,
-    CRTO = 26
-};
+enum { CAP_LOW, CAP_HIGH, VS, INTMS, INTMC, CC, CSTS = 7, AQA = 9, ASQ, ASQ_HIGH, ACQ, ACQ_HIGH, CRTO = 26 };
 enum { RDY = 1, CFS = 2, SHUTTING_DOWN = 4, SHUT_DOWN = 8 };
 
 /* Events, by their bits in `pending` and `told`. Those of errors are first. */

@@ -1,6 +1,6 @@
 /*
- * Guest memory that PRPs name. To be written anew where a device takes SGLs, or maps guest memory to hand pieces of it to
- * its backend; where it has another page size than 4 KiB, too.
+ * Guest memory that PRPs name. To be written anew where a device takes SGLs, or maps guest memory to hand pieces of it
+ * to its backend; where it has another page size than 4 KiB, too.
  */
 #include "parts.h"
 
