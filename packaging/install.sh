@@ -17,7 +17,7 @@ fail() {
 
 # The files that are installed, by their names below PREFIX.
 files() {
-    (cd "$here" && find bin include lib share ! -type d | LC_ALL=C sort)
+    sed 's/^[0-9a-f]*  //' "$here/SHA256SUMS" | grep -E '^(bin|include|lib|share)/'
 }
 
 # put FILE: copies a file, or a link as a link. The .pc files get the prefix.
