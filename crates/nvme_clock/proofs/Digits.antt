@@ -1,9 +1,8 @@
 -- One digit more.
-use Rattle.std.proofs.Common.{◌≡◌, ◌∙◌, ℕ, ◌+◌, ◌-◌, ◌*◌, ◌/◌, ◌<◌, ◌^◌, Bool, true, false, nat_lt, List, length, drop, get_or, Err, sym, ap, refl, arith, rules}
+use Rattle.std.proofs.Common.{◌≡◌, ◌∙◌, ℕ, ◌+◌, ◌-◌, ◌*◌, ◌/◌, ◌<◌, ◌^◌, true, false, nat_lt, List, length, drop, get_or, sym, ap, refl, arith, rules}
 use Rattle.std.specs.Char.{is_ascii_digit}
 use Rattle.std.proofs.lemmas.List.{drop_more}
 use Rattle.nvme_clock.specs.Durations.{is_finer, number_from, part_from}
-use Rattle.nvme_clock.specs.declared.durations.DurationFault.TheVariants as fault
 
 lt_true : (a b : ℕ) → a < b → nat_lt a b ≡ true
 lt_true a b h = search (rules, arith)

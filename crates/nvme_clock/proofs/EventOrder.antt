@@ -128,7 +128,7 @@ module _ {E : Type 0} where
       sym (sorted_permutation comes_before same_number turn flip trans (events_in old) (x.0 ∷ events_in new) d q)
       ∙ sorted_first comes_before x.0 (events_in new)
       (all_before x new (IsDistinct-head same_number x.0 (events_in new)
-        (IsDistinct-IsPermutation same_number turn (events_in old) (x.0 ∷ events_in new) q d)) t)
+      (IsDistinct-IsPermutation same_number turn (events_in old) (x.0 ∷ events_in new) q d)) t)
 
   -- ---- a push
 

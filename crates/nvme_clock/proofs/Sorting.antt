@@ -30,10 +30,9 @@ pub sorted_first : {X : Type 0} (R : X → X → Bool) (x : X) (ys : List X) →
 sorted_first R x ys h = before_all R x (sorted R ys) (all_sorted R (λ y. R x y ≡ true) ys h)
 
 module _ {X : Type 0} (R : X → X → Bool) (same : X → X → Bool)
-  (turn : (x y : X) → same x y ≡ same y x)
-  (flip : (x y : X) → same x y ≡ false → R y x ≡ not (R x y))
-  (trans : (x y z : X) → R x y ≡ true → R y z ≡ true → R x z ≡ true) where
-
+    (turn : (x y : X) → same x y ≡ same y x)
+    (flip : (x y : X) → same x y ≡ false → R y x ≡ not (R x y))
+    (trans : (x y z : X) → R x y ≡ true → R y z ≡ true → R x z ≡ true) where
   -- two that differ are inserted in either order
   inserted_swap : (a b : X) (ys : List X) → same a b ≡ false → inserted R a (inserted R b ys) ≡ inserted R b (inserted R a ys)
   inserted_swap a b [] d = choose (R a b) (R b a) (a ∷ b ∷ []) (b ∷ a ∷ []) (flip a b d)
@@ -42,13 +41,16 @@ module _ {X : Type 0} (R : X → X → Bool) (same : X → X → Bool)
       not_both : R a y ≡ true → R b y ≡ false → (r : Bool) → R b a ≡ r → r ≡ false
       not_both p q false e = refl
       not_both p q true e = sym (trans b a y e p) ∙ q
+
       nor_both : R a y ≡ false → R b y ≡ true → (r : Bool) → R a b ≡ r → r ≡ false
       nor_both p q false e = refl
       nor_both p q true e = sym (trans a b y e q) ∙ p
+
       both : (r : Bool) → R a b ≡ r → R b a ≡ not r → R a y ≡ true → R b y ≡ true
           → inserted R a (inserted R b (y ∷ ys)) ≡ inserted R b (inserted R a (y ∷ ys))
       both true e f p q = simp (p, q, e, f)
       both false e f p q = simp (p, q, e, f)
+
       go : (u v : Bool) → R a y ≡ u → R b y ≡ v → inserted R a (inserted R b ys) ≡ inserted R b (inserted R a ys)
           → inserted R a (inserted R b (y ∷ ys)) ≡ inserted R b (inserted R a (y ∷ ys))
       go true true p q more = both (R a b) refl (flip a b d) p q
@@ -86,6 +88,7 @@ module _ {X : Type 0} (R : X → X → Bool) (same : X → X → Bool)
   pub sorted_permutation : (xs ys : List X) → IsDistinct same xs → IsPermutation xs ys → sorted R ys ≡ sorted R xs
   sorted_permutation xs ys a p =
       (IsPermutation-keeps xs (λ l. IsDistinct same l × (sorted R l ≡ sorted R xs)) (a, refl)
-        (λ l i j li lj h.
-        (IsDistinct-IsPermutation same turn l (swap l i j) (IsPermutation-swap l (swap l i j) i j li lj refl) h.0,
-        sorted_swap l i j li lj h.0 ∙ h.1)) ys p).1
+      (λ l i j li lj h. (
+        IsDistinct-IsPermutation same turn l (swap l i j) (IsPermutation-swap l (swap l i j) i j li lj refl) h.0,
+        sorted_swap l i j li lj h.0 ∙ h.1,
+      )) ys p).1

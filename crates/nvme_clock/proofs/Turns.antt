@@ -1,5 +1,5 @@
 -- One turn more of a jump or a draw.
-use Rattle.std.proofs.Common.{◌≡◌, ◌∙◌, ℕ, suc, ◌+◌, ◌-◌, ◌*◌, ◌%◌, ◌<◌, Bool, true, false, not, nat_lt, List, sym, ap, ap₂, refl, arith}
+use Rattle.std.proofs.Common.{◌≡◌, ◌∙◌, ℕ, suc, ◌+◌, ◌-◌, ◌*◌, ◌%◌, ◌<◌, Bool, true, false, not, nat_lt, List, ap, refl, arith}
 use Rattle.rand_core.specs.Stream.{Stream, next_u64}
 use Rattle.rand_xoshiro.specs.Xoshiro256.{jump}
 use Rattle.nvme_clock.specs.Draws.{accepted_below, exponential_from, part_of, run_behind, run_from, uniform_from}

@@ -40,9 +40,9 @@ words ws = stream_of listed ws
 pub record DrawExamples : Type 0 where
   pub run_of_one : (exponential_from 2 100_000 0 (words (0x8000_0000_0000_0000 ∷ 0x8000_0000_0000_0000 ∷ []))).0 ≡ 50_000
   pub run_of_two : (exponential_from 2 100_000 0 (words (0x8000_0000_0000_0000 ∷ 0x4000_0000_0000_0000 ∷ 0x4000_0000_0000_0000
-    ∷ 0x4000_0000_0000_0000 ∷ 0x8000_0000_0000_0000 ∷ []))).0 ≡ 125_000
+      ∷ 0x4000_0000_0000_0000 ∷ 0x8000_0000_0000_0000 ∷ []))).0 ≡ 125_000
   pub run_of_three : (exponential_from 2 100_000 0 (words (0x8000_0000_0000_0000 ∷ 0x4000_0000_0000_0000 ∷ 0x2000_0000_0000_0000
-    ∷ 0x8000_0000_0000_0000 ∷ []))).0 ≡ 50_000
+      ∷ 0x8000_0000_0000_0000 ∷ []))).0 ≡ 50_000
   pub remainder : (uniform_from 2 6 (words (0xffff_ffff_ffff_fffb ∷ []))).0 ≡ 5
   pub rejected : (uniform_from 2 6 (words (0xffff_ffff_ffff_fffc ∷ 7 ∷ []))).0 ≡ 1
   pub lowest : quantile (10 ∷ 20 ∷ 40 ∷ []) 0 ≡ 10

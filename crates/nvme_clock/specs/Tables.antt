@@ -1,5 +1,5 @@
 -- Tables of quantiles: two or more, which don't fall. (profile)
-use Rattle.std.specs.Prelude.{◌≡◌, ℕ, ◌+◌, ◌-◌, ◌<◌, ◌≤◌, List, length, slice_index}
+use Rattle.std.specs.Prelude.{ℕ, ◌+◌, ◌-◌, ◌<◌, ◌≤◌, List, length, slice_index}
 use Rattle.nvme_clock.specs.declared.quantiles.TableFault.{TableFault}
 use Rattle.nvme_clock.specs.declared.quantiles.TableFault.TheVariants.{Short, Falls}
 

@@ -133,7 +133,8 @@ fn letter_place(text: &[u8]) -> Option<usize>
     ensures value { result ≡ position is_of_unit text.now }
     ensures within { IfSome result (λ i. i < length text.now) }
 {
-    text.iter().position(|c| !(c.is_ascii_digit() || *c == b'.'))
+    text.iter()
+        .position(|c| !(c.is_ascii_digit() || *c == b'.'))
 }
 
 // How many bytes stand before the unit.

@@ -1,4 +1,4 @@
-use Rattle.std.proofs.Common.{◌≡◌, ◌∙◌, ℕ, ◌+◌, ◌-◌, ◌*◌, true, false, ap, sym, arith, rules}
+use Rattle.std.proofs.Common.{◌≡◌, ◌∙◌, ℕ, ◌+◌, ◌-◌, ◌*◌, true, false, ap, arith, rules}
 use Rattle.nvme_clock.specs.Draws.{exponential_from}
 use Rattle.nvme_clock.proofs.Turns.{exponential_even, exponential_full, exponential_odd}
 use Rattle.nvme_clock.proofs.draws.exponential.Goals as goal

@@ -1,4 +1,4 @@
-use Rattle.std.proofs.Common.{◌≡◌, ◌∙◌, ℕ, ◌-◌, true, false, nat_lt, ap, sym, arith}
+use Rattle.std.proofs.Common.{◌≡◌, ◌∙◌, ℕ, ◌-◌, true, false, nat_lt, ap, arith}
 use Rattle.std.proofs.lemmas.Bool.Decides.{nat_tests}
 use Rattle.nvme_clock.specs.Draws.{accepted_below, uniform_from}
 use Rattle.nvme_clock.proofs.Turns.{uniform_hit, uniform_last, uniform_miss}

@@ -1,4 +1,4 @@
-use Rattle.std.proofs.Common.{◌∙◌, refl}
+use Rattle.std.proofs.Common.{refl}
 use Rattle.nvme_clock.specs.Streams.{jumps}
 use Rattle.nvme_clock.proofs.Turns.{jumps_more}
 use Rattle.nvme_clock.proofs.streams.skip_queues.Goals as goal

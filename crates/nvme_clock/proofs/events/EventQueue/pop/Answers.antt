@@ -19,9 +19,9 @@ pub returns-clause-value : goal.returns-clause-value
 returns-clause-value g c =
     ap (λ (es : List (Event g.row.E.Denot)). first_of (held c.args.self.now) es)
     (sym (popped_order c.in-Some.field-0 (heap_items c.args.self.now.heap) (heap_items c.pop.new.self) c.args.self.now.distinct
-      c.in-Some.ensures.permutation (c.in-Some.ensures.below_top c.args.self.now.ordered)))
+    c.in-Some.ensures.permutation (c.in-Some.ensures.below_top c.args.self.now.ordered)))
 
 pub returns-clause-forward : goal.returns-clause-forward
 returns-clause-forward g c =
     popped_first (λ (e : Event g.row.E.Denot). c.args.self.now.time ≤ e.at) c.in-Some.field-0 (heap_items c.args.self.now.heap)
-      (heap_items c.pop.new.self) c.in-Some.ensures.permutation c.args.self.now.to_come
+    (heap_items c.pop.new.self) c.in-Some.ensures.permutation c.args.self.now.to_come

@@ -24,8 +24,9 @@ pub returns-clause-ok : goal.returns-clause-ok
 returns-clause-ok g c =
     let x : Reverse (Event g.row.E.Denot) = record { 0 = record { at = c.args.at; number = c.args.self.now.next; what = c.args.what } } in
     elim c.match-push.branch [
-      in-Ok w ↦ rw (w.result-is, w.self-is)
+      | in-Ok w ↦ rw (w.result-is, w.self-is)
           (ap (holding c.args.self.now.time (c.args.self.now.next + 1))
           (pushed_order x (heap_items c.args.self.now.heap) (heap_items c.push.new.self)
-            c.args.self.now.numbered c.args.self.now.distinct w.in-Ok.ensures.permutation))
-    | in-Err w ↦ rw w.result-is tt ]
+          c.args.self.now.numbered c.args.self.now.distinct w.in-Ok.ensures.permutation))
+      | in-Err w ↦ rw w.result-is tt
+    ]
