@@ -12,8 +12,8 @@
  * The machine is around it: qemu.c serves the device to QEMU as a process of its own, and qemu/ has it in QEMU's tree.
  *
  * What is in flight has a limit, `most`. A pick hands commands to a backend, which serves what it has in an order of
- * its own. If it may have all 256 commands that a controller allows, hardly any wait to be picked, and weights are
- * without effect, though each pick is lawful. So nothing is picked for a namespace that has as many as its backend
+ * its own. If it may have all 256 commands that a controller allows, few wait to be picked, and weights are without
+ * effect, though each pick is lawful. So nothing is picked for a namespace that has as many as its backend
  * needs to be busy. Its queues are held meanwhile, and those of other namespaces go on.
  */
 #ifndef NVME_H
