@@ -173,17 +173,20 @@ void nvme_save(const struct nvme *d, struct nvme_state *to)
     to->counts.begun = d->host.now(d->host.context) - d->state.counts.begun;
 }
 
-/* Whether each ring that will be used has slots, and each number that is an index is one. */
+/* Whether the library can be called with these bytes, and each open completion queue has slots. */
 static int is_sound(const struct nvme_state *s)
 {
-    int is_off = !(s->registers[CSTS] & RDY) || s->is_stopping;
-    for (int k = 0; k <= NVME_QUEUES && !is_off; k++) {
-        uint16_t region, qid = (uint16_t)k;
-        if (nvmearb_ctrl_cq(&s->ctrl, qid, &region) == NVMEARB_OK && s->cqs[k].slots == 0)
+    uint16_t region;
+    if (s->held_count > sizeof s->held / sizeof s->held[0])
+        return 0;
+    if (s->ctrl.mark == 0) /* it isn't enabled: every call refuses it */
+        return 1;
+    if (nvmearb_ctrl_verify(&s->ctrl, s->slots, NVME_COMMANDS) != NVMEARB_OK)
+        return 0;
+    for (uint16_t qid = 0; qid <= NVME_QUEUES; qid++)
+        if (nvmearb_ctrl_cq(&s->ctrl, qid, &region) == NVMEARB_OK && s->cqs[qid].slots == 0)
             return 0;
-    }
-    return s->held_count <= sizeof s->held / sizeof s->held[0] &&
-           (is_off || nvmearb_ctrl_verify(&s->ctrl, s->slots, NVME_COMMANDS) == NVMEARB_OK);
+    return 1;
 }
 
 int nvme_restore(struct nvme *d, const struct nvme_state *from)
