@@ -47,9 +47,11 @@ pub struct Quantiles {
 }
 
 impl Quantiles {
+    ghost use Rattle.nvme_clock.specs.Quantiles.{values_of};
+
     /// A table of these values, which are two or more and don't fall.
     pub fn new(values: Vec<u64>) -> Result<Quantiles, TableFault>
-        ensures ok { IfOk result (λ q. q.values.items ≡ values.items) }
+        ensures ok { IfOk result (λ q. values_of q ≡ values.items) }
         ensures table { OnOk result (IsTable values.items) }
         ensures err { IfErr result (λ e. TellsFault values.items e) }
     {
@@ -64,7 +66,9 @@ impl Quantiles {
 
     /// The quantile of a word, which counts 2^64ths: between its two neighbours in the table by equal steps, rounded down.
     pub fn draw<R: Rng>(&self, rng: &mut R) -> u64
-        ensures { (result, R.stream rng.new) ≡ drawn_from self.now.values.items (R.stream rng.old) }
+        ensures value { (result, R.stream rng.new) ≡ drawn_from (values_of self.now) (R.stream rng.old) }
+        ensures at_least { slice_index (values_of self.now) 0 ≤ result }
+        ensures at_most { result ≤ slice_index (values_of self.now) (length (values_of self.now) - 1) }
     {
         let word = rng.next_u64();
         let steps = self.values.len() - 1;
