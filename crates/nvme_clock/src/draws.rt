@@ -26,7 +26,7 @@ pub fn uniform<R: Rng>(rng: &mut R, bound: u64) -> u64
     ensures below { result < bound }
 {
     let accepted_below = u64::MAX - u64::MAX % bound;
-    for turn in 0..TURNS {
+    for _turn in 0..TURNS {
         let word = rng.next_u64();
         if word < accepted_below {
             return word % bound;
@@ -41,7 +41,7 @@ fn run<R: Rng>(rng: &mut R, first: u64) -> bool
 {
     let mut last = first;
     let mut odd = true;
-    for turn in 0..TURNS {
+    for _turn in 0..TURNS {
         let word = rng.next_u64();
         if word >= last {
             return odd;
@@ -58,7 +58,7 @@ fn run<R: Rng>(rng: &mut R, first: u64) -> bool
 /// x^n / n!, so it is odd with 1 - x + x^2 / 2! - .. = e^-x. The first word of an odd run so has the density e^-x on 0 to
 /// 1, but for a constant, and a run is even with probability e^-1. So the even runs before the first odd one count the
 /// whole means of an exponential time, and the first word of that one is its part of a mean. Each time is rounded down.
-/// A run is cut after 65 words, which has a probability below 1 / 65!, and 64 even runs answer 64 means: e^-64.
+/// A run is cut after 65 words, which has a probability of 1 / 65!. 64 even runs answer 64 means, with one of e^-64.
 pub fn exponential<R: Rng>(rng: &mut R, mean: u64) -> u64
     requires in_range { mean ≤ MAX_MEAN }
     ensures value { (result, R.stream rng.new) ≡ exponential mean (R.stream rng.old) }

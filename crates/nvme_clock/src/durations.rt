@@ -57,10 +57,10 @@ fn number(digits: &[u8]) -> Result<u64, DurationFault>
         if !digit.is_ascii_digit() {
             return Err(DurationFault::Digits);
         }
-        let Some(more) = fitting(number, 10, u64::from(*digit - b'0')) else {
+        let Some(next) = fitting(number, 10, u64::from(*digit - b'0')) else {
             return Err(DurationFault::TooLong);
         };
-        number = more;
+        number = next;
     }
     Ok(number)
 }
@@ -86,10 +86,10 @@ fn with_part(whole: u64, unit: u64, digits: &[u8]) -> Result<u64, DurationFault>
         if is_finer(*digit, place) {
             return Err(DurationFault::Part);
         }
-        let Some(more) = fitting(u64::from(*digit - b'0'), place, duration) else {
+        let Some(next) = fitting(u64::from(*digit - b'0'), place, duration) else {
             return Err(DurationFault::TooLong);
         };
-        duration = more;
+        duration = next;
     }
     Ok(duration)
 }

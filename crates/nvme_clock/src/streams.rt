@@ -38,7 +38,7 @@ fn seeded(seed: u64) -> Xoshiro256PlusPlus
 fn skip_queues(rng: &mut Xoshiro256PlusPlus, count: u64)
     ensures { rng.new ≡ jumps long_jump_polynomial count rng.old }
 {
-    for queue in 0..count {
+    for _queue in 0..count {
         rng.long_jump();
     }
 }
@@ -47,7 +47,7 @@ fn skip_queues(rng: &mut Xoshiro256PlusPlus, count: u64)
 fn skip_purposes(rng: &mut Xoshiro256PlusPlus, count: u64)
     ensures { rng.new ≡ jumps jump_polynomial count rng.old }
 {
-    for purpose in 0..count {
+    for _purpose in 0..count {
         rng.jump();
     }
 }

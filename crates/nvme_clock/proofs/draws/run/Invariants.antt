@@ -4,4 +4,4 @@ use Rattle.nvme_clock.proofs.draws.run.Given as goal
 
 -- the run goes on from here
 abbrev pub invariant-loop-turn : goal.invariant-loop-turn
-invariant-loop-turn g l = run_from (64 - l.turn) l.odd l.last (g.R.Rng.stream l.rng) ≡ run_behind l.first (g.R.Rng.stream l.fn.rng)
+invariant-loop-turn g l = run_from (64 - l._turn) l.odd l.last (g.R.Rng.stream l.rng) ≡ run_behind l.first (g.R.Rng.stream l.fn.rng)

@@ -7,15 +7,15 @@ use Rattle.nvme_clock.proofs.draws.uniform.Goals as goal
 pub returns-then-word-accepted_below-clause-value : goal.returns-then-word-accepted_below-clause-value
 returns-then-word-accepted_below-clause-value g c =
     let hit : nat_lt c.next_u64-word.result (accepted_below c.args.bound) ≡ true = grind (arith, nat_tests) in
-    uniform_hit c.loop-turn.turn c.args.bound c.next_u64-word.result _ _ (omega arith) c.next_u64-word.ensures hit ∙ c.loop-turn.invariant
+    uniform_hit c.loop-turn._turn c.args.bound c.next_u64-word.result _ _ (omega arith) c.next_u64-word.ensures hit ∙ c.loop-turn.invariant
 
 pub loop-turn-preserved : goal.loop-turn-preserved
 loop-turn-preserved g c =
     let miss : nat_lt c.next_u64-word.result (accepted_below c.args.bound) ≡ false = grind (arith, nat_tests) in
-    uniform_miss c.loop-turn.turn c.args.bound c.next_u64-word.result _ _ (omega arith) c.next_u64-word.ensures miss ∙ c.loop-turn.invariant
+    uniform_miss c.loop-turn._turn c.args.bound c.next_u64-word.result _ _ (omega arith) c.next_u64-word.ensures miss ∙ c.loop-turn.invariant
 
 pub returns-clause-value : goal.returns-clause-value
 returns-clause-value g c =
-    let done : 0 ≡ 64 - c.loop-turn.turn = omega arith in
+    let done : 0 ≡ 64 - c.loop-turn._turn = omega arith in
     uniform_last c.args.bound c.next_u64.result _ _ c.next_u64.ensures
     ∙ (ap (λ (n : ℕ). uniform_from n c.args.bound (g.R.Rng.stream c.loop-turn.rng)) done ∙ c.loop-turn.invariant)

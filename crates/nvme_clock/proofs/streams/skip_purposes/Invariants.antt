@@ -4,4 +4,4 @@ use Rattle.nvme_clock.specs.Streams.{jumps}
 use Rattle.nvme_clock.proofs.streams.skip_purposes.Given as goal
 
 abbrev pub invariant-loop-purpose : goal.invariant-loop-purpose
-invariant-loop-purpose l = l.rng ≡ jumps jump_polynomial l.purpose l.fn.rng
+invariant-loop-purpose l = l.rng ≡ jumps jump_polynomial l._purpose l.fn.rng
