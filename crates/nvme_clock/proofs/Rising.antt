@@ -32,5 +32,5 @@ highest xs i low high part t l is next within =
     let f : get_or xs (i + 1) high ≡ slice_index xs (i + 1) = get_or_default xs (i + 1) high 0 l in
     let step : slice_index xs i ≤ slice_index xs (i + 1) = t.rises i l in
     let up : slice_index xs (i + 1) ≤ slice_index xs (length xs - 1) =
-        rises_from xs (length xs) (i + 1) (length xs - 1) t.rises (omega (arith, l)) (omega (arith, l)) in
+    rises_from xs (length xs) (i + 1) (length xs - 1) t.rises (omega (arith, l)) (omega (arith, l)) in
     omega (arith, e, f, step, up, is, next, within)

@@ -1,7 +1,8 @@
 // Expected words and times are those of a second reading in Python of the published generators and of von Neumann's
 // method. The bounds of the statistics are four standard errors around what an exponential time of this mean has.
 use crate::{
-    EventQueue, Purpose, PushFault, Quantiles, TableFault, TwoPoints, duration_in, exponential, stream, uniform,
+    EventQueue, Purpose, PushFault, Quantiles, TableFault, TwoPoints, duration_in, exponential,
+    stream, uniform,
 };
 use rand_core::Rng;
 use std::test::Fail;
@@ -9,9 +10,24 @@ use std::test::Fail;
 #[test]
 fn streams_have_their_words(rt: HostRuntime) {
     for (queue, purpose, first, second) in [
-        (0, Purpose::Arrivals, 1021219803524665661, 3174977118032272916),
-        (0, Purpose::Services, 17670575670617547464, 7642216521307084040),
-        (1, Purpose::Arrivals, 215316657740975168, 2213038965468257198),
+        (
+            0,
+            Purpose::Arrivals,
+            1021219803524665661,
+            3174977118032272916,
+        ),
+        (
+            0,
+            Purpose::Services,
+            17670575670617547464,
+            7642216521307084040,
+        ),
+        (
+            1,
+            Purpose::Arrivals,
+            215316657740975168,
+            2213038965468257198,
+        ),
         (3, Purpose::Sizes, 61589385597497669, 12474770762443865613),
     ] {
         let mut rng = stream(7, queue, purpose);
@@ -95,11 +111,20 @@ fn events_come_in_order(rt: HostRuntime) -> Result<(), Fail> {
 #[test]
 fn faults_read_well(rt: HostRuntime) -> Result<(), Fail> {
     for (text, fault) in [
-        ("80", "expected a number and a unit of ps, ns, us, ms or s, as in 80us or 1.5ms"),
+        (
+            "80",
+            "expected a number and a unit of ps, ns, us, ms or s, as in 80us or 1.5ms",
+        ),
         ("1.us", "expected digits, or digits, a point and digits"),
         ("0.5ps", "expected no part of a picosecond"),
-        ("300days", "expected a number and a unit of ps, ns, us, ms or s, as in 80us or 1.5ms"),
-        ("19000000s", "expected less than 2^64 picoseconds, which are 213 days"),
+        (
+            "300days",
+            "expected a number and a unit of ps, ns, us, ms or s, as in 80us or 1.5ms",
+        ),
+        (
+            "19000000s",
+            "expected less than 2^64 picoseconds, which are 213 days",
+        ),
     ] {
         match duration_in(text) {
             Ok(_) => return Err(Fail::new("a duration")),
