@@ -69,8 +69,8 @@ static void compare(const loop_case *of, unsigned long count, int is_counted)
     if (is_counted) {
         printf("%s|%s|%.0f\n%s|%s|%.0f\n", name, both[0]->name, commands, name, both[1]->name, commands);
     } else {
-        printf("%s: %s %.0f ns, %s %.0f ns, %.2f times, checksum %016" PRIx64 "\n", name, both[0]->name, least[0] / commands,
-               both[1]->name, least[1] / commands, least[1] / least[0], sums[0]);
+        printf("%s: %s %.0f ns, %s %.0f ns, %.2f times, checksum %016" PRIx64 "\n", name, both[0]->name,
+               least[0] / commands, both[1]->name, least[1] / commands, least[1] / least[0], sums[0]);
     }
 }
 
