@@ -128,7 +128,7 @@ static void loop_refuse(uint16_t closed)
 }
 
 /* Makes a controller whose I/O queues have the four classes in turn. */
-static void loop_make(const loop_case *of)
+static uint64_t loop_make(const loop_case *of)
 {
     nvmearb_config config = {{SQS, RING}, {CQS, RING}, of->mechanism, CDW11, 64, 64, NVMEARB_MAX_COUNT};
     memset(&it, 0, sizeof it);
@@ -150,6 +150,9 @@ static void loop_make(const loop_case *of)
     it.ctrl.mark ^= 1;
     loop_refuse(of->queues + 1);
     it.ctrl.mark ^= 1;
+    uint64_t refusals = it.sum;
+    it.sum = 0;
+    return refusals;
 }
 
 /* The host of a queue rings its doorbell, and the entries are read. */

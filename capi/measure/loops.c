@@ -34,19 +34,24 @@ static double now(void)
     return (double)t.tv_sec * 1e9 + (double)t.tv_nsec;
 }
 
-/* Runs both, in turn, `runs` times. Keeps the least time of each, and its checksum. */
-static void run_both(const loop_case *of, unsigned long rounds, int runs, double least[2], uint64_t sums[2])
+/* The results of one of the two. */
+typedef struct results {
+    double least; /* the time of its fastest run */
+    uint64_t refusals, sum;
+} results;
+
+/* Runs both, in turn, `runs` times. */
+static void run_both(const loop_case *of, unsigned long rounds, int runs, results of_both[2])
 {
     for (int k = 0; k < 2; k++) {
-        both[k]->make(of);
-        least[k] = 1e30;
+        of_both[k] = (results){1e30, both[k]->make(of), 0};
     }
     for (int run = 0; run < runs; run++) {
         for (int k = 0; k < 2; k++) {
             double begun = now();
-            sums[k] = both[k]->run(of, rounds);
+            of_both[k].sum = both[k]->run(of, rounds);
             double took = now() - begun;
-            least[k] = took < least[k] ? took : least[k];
+            of_both[k].least = took < of_both[k].least ? took : of_both[k].least;
         }
     }
 }
@@ -54,23 +59,25 @@ static void run_both(const loop_case *of, unsigned long rounds, int runs, double
 static void compare(const loop_case *of, unsigned long count, int is_counted)
 {
     char name[100];
-    double least[2];
-    uint64_t sums[2];
+    results r[2];
     unsigned long in_a_round = (unsigned long)of->queues * of->batch;
     unsigned long rounds = count < in_a_round ? 1 : count / in_a_round;
     double commands = (double)(rounds * in_a_round);
     snprintf(name, sizeof name, "loop, %s, %d queue%s, %d at a time",
              of->mechanism == NVMEARB_WEIGHTED ? "weighted" : "round robin", of->queues, of->queues == 1 ? "" : "s",
              of->batch);
-    run_both(of, rounds, is_counted ? 1 : RUNS, least, sums);
-    if (sums[0] != sums[1]) {
+    run_both(of, rounds, is_counted ? 1 : RUNS, r);
+    if (r[0].refusals != r[1].refusals) {
+        loop_fail(name, "the library's answers to calls that aren't valid aren't those by hand");
+    }
+    if (r[0].sum != r[1].sum) {
         loop_fail(name, "what came out of the library isn't what came out by hand");
     }
     if (is_counted) {
         printf("%s|%s|%.0f\n%s|%s|%.0f\n", name, both[0]->name, commands, name, both[1]->name, commands);
     } else {
         printf("%s: %s %.0f ns, %s %.0f ns, %.2f times, checksum %016" PRIx64 "\n", name, both[0]->name,
-               least[0] / commands, both[1]->name, least[1] / commands, least[1] / least[0], sums[0]);
+               r[0].least / commands, both[1]->name, r[1].least / commands, r[1].least / r[0].least, r[0].sum);
     }
 }
 
