@@ -19,7 +19,7 @@ check: ## prove every crate, or with CRATE=nvme_lane that one
 test: ## test what is built, or NAME=words by tests/words alone; with CRATE=nvme_sim_tests that crate's tests, or NAME=one
 	$(if $(CRATE),cd crates/$(CRATE) && rt test $(if $(NAME),-- $(NAME)),tests/run $(NAME))
 
-bench: ## measure, COUNT=1000000 steps each
+bench: ## measure, COUNT=1000000 steps each, or with COUNT=worst count the instructions of the worst single calls
 	./bench $(COUNT)
 
 gate: ## prove and test all that changed since it last passed here, and try the must-fail edits
