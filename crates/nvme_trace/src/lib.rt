@@ -12,6 +12,7 @@ mod laws;
 mod lines;
 mod names;
 mod notes;
+mod raw;
 mod records;
 mod survey;
 mod trace;

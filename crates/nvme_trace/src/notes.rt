@@ -1,18 +1,24 @@
 // What is said of a fault for people: what was found in the line, and what was wanted.
 use crate::fault::{Field, LineFault};
 use crate::names::class_name;
+use crate::raw::Found;
 use crate::records::is_extra;
 use nvme_arbiter::{Class, HIGHEST_COUNT, HIGHEST_QID, QUEUE_LIMIT};
 use serde_json::Value;
 use std::alloc::{AllocError, Global};
 
-// How many characters of a value are shown.
+// How many characters of a name are shown.
 const SHOWN: usize = 40;
 
 // The fields of a head and of a pick.
 const HEAD: &str = "version, mechanism and cdw11";
 
 const PICK: &str = "pick, n, fresh and seen";
+
+// What makes a line of each object.
+const ARRAY: &str = "; one object on each line (jq -c '.[]' makes them)";
+
+const OBJECT: &str = "; one object on each line (jq -c . makes them)";
 
 // What the value of a field has to be.
 fn wanted(field: Field) -> &'static str {
@@ -26,7 +32,7 @@ fn wanted(field: Field) -> &'static str {
     }
 }
 
-// The first characters of a text.
+// The first characters of a name.
 fn cut(alloc: Global, text: &str) -> Result<String, AllocError> {
     let mut shown = String::new(alloc);
     for (index, character) in text.chars().enumerate() {
@@ -39,15 +45,9 @@ fn cut(alloc: Global, text: &str) -> Result<String, AllocError> {
     Ok(shown)
 }
 
-// A value as it stands in a line, cut off where it is long.
-fn shown(alloc: Global, value: &Value) -> Result<String, AllocError> {
-    let text = value.to_string(alloc)?;
-    cut(alloc, text.as_str())
-}
-
 // What stands at a place, and what has to.
-fn note_of_value(alloc: Global, value: &Value, wanted: &str) -> Result<String, AllocError> {
-    let found = shown(alloc, value)?;
+fn note_of_value(alloc: Global, value: &Found<'_>, wanted: &str) -> Result<String, AllocError> {
+    let found = value.shown(alloc)?;
     format!(in alloc; ": found {found}, wanted {wanted}")
 }
 
@@ -63,9 +63,9 @@ fn missing_note(alloc: Global, field: Field) -> Result<String, AllocError> {
 }
 
 // A field whose value is wrong.
-fn bad_note(alloc: Global, line: &Value, field: Field) -> Result<String, AllocError> {
-    match line.get(field.name()) {
-        Some(value) => note_of_value(alloc, value, wanted(field)),
+fn bad_note(alloc: Global, line: &Found<'_>, field: Field) -> Result<String, AllocError> {
+    match line.member(field.name()) {
+        Some(value) => note_of_value(alloc, &value, wanted(field)),
         None => Ok(String::new(alloc)),
     }
 }
@@ -110,8 +110,8 @@ fn class_named(name: &str) -> Option<Class> {
 }
 
 // A number of an item, where it is at most `most`.
-fn number_in(item: &Value, index: usize, most: u16) -> Option<u16> {
-    let number = item.get(index)?.as_u64()?;
+fn number_in(item: &Found<'_>, index: usize, most: u16) -> Option<u16> {
+    let number = item.value.get(index)?.as_u64()?;
     if number <= u64::from(most) {
         Some(number as u16)
     } else {
@@ -122,14 +122,14 @@ fn number_in(item: &Value, index: usize, most: u16) -> Option<u16> {
 // What is wrong with a part of an item.
 fn part_note(
     alloc: Global,
-    item: &Value,
+    item: &Found<'_>,
     index: usize,
     name: &str,
     wanted: &str,
 ) -> Result<String, AllocError> {
-    match item.get(index) {
+    match item.item(index) {
         Some(part) => {
-            let found = shown(alloc, part)?;
+            let found = part.shown(alloc)?;
             format!(in alloc; "{name} {found}, wanted {wanted}")
         }
         None => Ok(String::new(alloc)),
@@ -150,11 +150,11 @@ fn class_note(alloc: Global, qid: u16, class: Class) -> Result<Option<String>, A
 // What is wrong with an item of an observation, behind one whose identifier is `before`.
 fn item_note(
     alloc: Global,
-    item: &Value,
+    item: &Found<'_>,
     before: Option<u16>,
 ) -> Result<Option<String>, AllocError> {
-    if item.as_array().is_none_or(|parts| parts.len() != 3) {
-        let found = shown(alloc, item)?;
+    if item.value.as_array().is_none_or(|parts| parts.len() != 3) {
+        let found = item.shown(alloc)?;
         return Ok(Some(format!(in alloc;
             "found {found}, wanted an array of identifier, class and count"
         )?));
@@ -165,7 +165,12 @@ fn item_note(
         )?;
         return Ok(Some(part_note(alloc, item, 0, "identifier", wanted.as_str())?));
     };
-    let Some(class) = item.get(1).and_then(Value::as_str).and_then(class_named) else {
+    let Some(class) = item
+        .value
+        .get(1)
+        .and_then(Value::as_str)
+        .and_then(class_named)
+    else {
         let wanted = "\"admin\", \"urgent\", \"high\", \"medium\" or \"low\"";
         return Ok(Some(part_note(alloc, item, 1, "class", wanted)?));
     };
@@ -186,36 +191,47 @@ fn item_note(
 }
 
 // What is wrong with the items of an observation: the first fault.
-fn items_note(alloc: Global, items: &[Value]) -> Result<String, AllocError> {
+fn items_note(alloc: Global, seen: &Found<'_>, count: usize) -> Result<String, AllocError> {
     let mut before = None;
-    for (index, item) in items.iter().enumerate() {
-        if let Some(note) = item_note(alloc, item, before)? {
+    for index in 0..count {
+        let Some(item) = seen.item(index) else {
+            return Ok(String::new(alloc));
+        };
+        if let Some(note) = item_note(alloc, &item, before)? {
             return format!(in alloc; ": seen[{index}]: {note}");
         }
-        before = number_in(item, 0, HIGHEST_QID);
+        before = number_in(&item, 0, HIGHEST_QID);
     }
     Ok(String::new(alloc))
 }
 
 // Why what a pick saw is no observation.
-fn seen_note(alloc: Global, line: &Value) -> Result<String, AllocError> {
-    let Some(seen) = line.get(Field::Seen.name()) else {
+fn seen_note(alloc: Global, line: &Found<'_>) -> Result<String, AllocError> {
+    let Some(seen) = line.member(Field::Seen.name()) else {
         return Ok(String::new(alloc));
     };
-    let Some(items) = seen.as_array() else {
-        return note_of_value(alloc, seen, wanted(Field::Seen));
+    let Some(items) = seen.value.as_array() else {
+        return note_of_value(alloc, &seen, wanted(Field::Seen));
     };
-    if items.len() > QUEUE_LIMIT {
-        let count = items.len();
+    let count = items.len();
+    if count > QUEUE_LIMIT {
         return format!(in alloc; ": found {count} queues, wanted at most {QUEUE_LIMIT}");
     }
-    items_note(alloc, items)
+    items_note(alloc, &seen, count)
+}
+
+// What is said of an array of objects, which was to be a line for each.
+fn several(line: &Value) -> &'static str {
+    match line.get(0usize) {
+        Some(first) if first.as_object().is_some() => ARRAY,
+        _ => "",
+    }
 }
 
 // What is said of the fault of a line that is a JSON value, where a line of this kind has the known fields.
 fn value_note(
     alloc: Global,
-    line: &Value,
+    line: &Found<'_>,
     fault: LineFault,
     known: &[&str],
     fields: &str,
@@ -223,23 +239,86 @@ fn value_note(
     match fault {
         LineFault::Missing(field) => missing_note(alloc, field),
         LineFault::Bad(field) => bad_note(alloc, line, field),
-        LineFault::Unknown => unknown_note(alloc, line, known, fields),
+        LineFault::Unknown => unknown_note(alloc, line.value, known, fields),
         LineFault::NotObservation => seen_note(alloc, line),
         LineFault::NotObject => {
-            let found = shown(alloc, line)?;
-            format!(in alloc; ": found {found}, wanted an object with {fields}")
+            let found = line.shown(alloc)?;
+            let more = several(line.value);
+            format!(in alloc; ": found {found}, wanted an object with {fields}{more}")
         }
         _ => Ok(String::new(alloc)),
     }
 }
 
+// Whether a text is a key of TOML and its value, or begins so.
+fn has_key(text: &str) -> bool {
+    match text.split_once('=') {
+        Some((key, _)) => {
+            let key = key.trim();
+            !key.is_empty()
+                && key.bytes().all(|byte| byte.is_ascii_alphanumeric()
+                    || matches!(byte, b'_' | b'-' | b'.'))
+        }
+        None => false,
+    }
+}
+
+// Whether a first line is one of a workload: a comment, a table or a key.
+fn is_workload(text: &str) -> bool {
+    match text.as_bytes() {
+        [b'#', ..] => true,
+        [b'[', b'[', ..] | [b'[', b'a'..=b'z', ..] => true,
+        _ => has_key(text),
+    }
+}
+
+// What is said of a line that ends too early.
+fn unfinished(text: &str) -> &'static str {
+    match text.as_bytes() {
+        [b'[', ..] => ARRAY,
+        [b'{', ..] => OBJECT,
+        _ => "",
+    }
+}
+
 // What is said of a text that is no JSON value.
-fn text_note(alloc: Global, error: &serde_json::Error, fields: &str) -> Result<String, AllocError> {
+fn text_note(
+    alloc: Global,
+    text: &str,
+    error: &serde_json::Error,
+    fields: &str,
+) -> Result<String, AllocError> {
     if error.is_memory() {
         return Err(AllocError);
     }
     let column = error.column();
-    format!(in alloc; ": byte {column}, wanted an object with {fields}")
+    let more = if error.is_eof() {
+        unfinished(text.trim())
+    } else {
+        ""
+    };
+    format!(in alloc; ": byte {column}, wanted an object with {fields}{more}")
+}
+
+// What is said of a first line that is no JSON value.
+fn first_text_note(
+    alloc: Global,
+    text: &str,
+    error: &serde_json::Error,
+) -> Result<String, AllocError> {
+    if text.starts_with('\u{feff}') {
+        return String::from_str(
+            alloc,
+            ": begins with a byte order mark (EF BB BF); save it without",
+        );
+    }
+    if is_workload(text.trim()) {
+        return String::from_str(
+            alloc,
+            ": this looks like a workload (TOML); take trace FILE | check",
+        );
+    }
+    text_note(alloc, text, error, HEAD)
 }
 
 /// What is said of the fault of a first line.
@@ -257,12 +336,25 @@ pub(crate) fn head_note(
     match Value::from_str(alloc, text) {
         Ok(value) => value_note(
             alloc,
-            &value,
+            &Found::new(&value, text),
             fault,
             &["version", "mechanism", "cdw11"],
             HEAD,
         ),
-        Err(error) => text_note(alloc, &error, HEAD),
+        Err(error) => first_text_note(alloc, text, &error),
+    }
+}
+
+// What is said of the fault of a later line that is a JSON value.
+fn event_value_note(
+    alloc: Global,
+    line: &Found<'_>,
+    fault: LineFault,
+) -> Result<String, AllocError> {
+    if line.value.get(Field::Set.name()).is_some() {
+        value_note(alloc, line, fault, &["set"], "set alone")
+    } else {
+        value_note(alloc, line, fault, &["pick", "n", "fresh", "seen"], PICK)
     }
 }
 
@@ -276,10 +368,7 @@ pub(crate) fn event_note(
         return Ok(String::new(alloc));
     };
     match Value::from_str(alloc, text) {
-        Ok(value) if value.get(Field::Set.name()).is_some() => {
-            value_note(alloc, &value, fault, &["set"], "set alone")
-        }
-        Ok(value) => value_note(alloc, &value, fault, &["pick", "n", "fresh", "seen"], PICK),
-        Err(error) => text_note(alloc, &error, PICK),
+        Ok(value) => event_value_note(alloc, &Found::new(&value, text), fault),
+        Err(error) => text_note(alloc, text, &error, PICK),
     }
 }

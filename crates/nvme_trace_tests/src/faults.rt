@@ -23,10 +23,34 @@ fn heads(rt: HostRuntime) -> Result<(), Fail> {
         ("\n \t\r\n", no_head),
         (
             "{",
-            "not JSON: byte 1, wanted an object with version, mechanism and cdw11",
+            "not JSON: byte 1, wanted an object with version, mechanism and cdw11; one object on each line (jq -c . makes them)",
+        ),
+        (
+            "[",
+            "not JSON: byte 1, wanted an object with version, mechanism and cdw11; one object on each line (jq -c '.[]' makes them)",
+        ),
+        (
+            "[{\"version\":1}]",
+            "no object: found [{\"version\":1}], wanted an object with version, mechanism and cdw11; one object on each line (jq -c '.[]' makes them)",
+        ),
+        (
+            "\u{feff}{\"version\":1,\"mechanism\":\"weighted\",\"cdw11\":0}",
+            "not JSON: begins with a byte order mark (EF BB BF); save it without",
         ),
         (
             "# A queue.",
+            "not JSON: this looks like a workload (TOML); take trace FILE | check",
+        ),
+        (
+            "[[queue]]",
+            "not JSON: this looks like a workload (TOML); take trace FILE | check",
+        ),
+        (
+            "version = 1",
+            "not JSON: this looks like a workload (TOML); take trace FILE | check",
+        ),
+        (
+            "version: 1",
             "not JSON: byte 1, wanted an object with version, mechanism and cdw11",
         ),
         (
@@ -41,6 +65,11 @@ fn heads(rt: HostRuntime) -> Result<(), Fail> {
         ("{\"version\":2}", "bad version: found 2, wanted 1"),
         ("{\"version\":0}", "bad version: found 0, wanted 1"),
         ("{\"version\":1.0}", "bad version: found 1.0, wanted 1"),
+        ("{\"version\": 1e2 }", "bad version: found 1e2, wanted 1"),
+        (
+            "{\"version\":1,\"version\":[2 , \"],\"]}",
+            "bad version: found [2 , \"],\"], wanted 1",
+        ),
         (
             "{\"version\":1}",
             "missing mechanism: wanted \"round-robin\" or \"weighted\"",
@@ -116,6 +145,14 @@ fn events(rt: HostRuntime) -> Result<(), Fail> {
             "bad n: found 2.0, wanted a whole number from 0 to 65535",
         ),
         (
+            "{\"pick\":1,\"n\":-0,\"x_n\":7}",
+            "bad n: found -0, wanted a whole number from 0 to 65535",
+        ),
+        (
+            "{\"pick\":1,\"n\":\"\u{202e}\u{9b}é\"}",
+            "bad n: found \"\\u{202e}\\u{9b}é\", wanted a whole number from 0 to 65535",
+        ),
+        (
             "{\"pick\":1,\"n\":\"0123456789012345678901234567890123456789\"}",
             "bad n: found \"012345678901234567890123456789012345678.., wanted a whole number from 0 to 65535",
         ),
@@ -176,6 +213,10 @@ fn observations(rt: HostRuntime) -> Result<(), Fail> {
         (
             "[[1,\"high\",1,1]]",
             "seen[0]: found [1,\"high\",1,1], wanted an array of identifier, class and count",
+        ),
+        (
+            "[[1,\"high\",1],[2, \"high\", 1e0]]",
+            "seen[1]: count 1e0, wanted 0 to 256; write 256 where more wait",
         ),
         (
             "[[1,\"high\",1],[65,\"high\",1]]",
