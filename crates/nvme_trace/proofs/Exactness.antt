@@ -2,9 +2,8 @@
 use Rattle.std.proofs.Common.{◌≡◌, ℕ, List, [], ◌∷◌, ◌++◌, reverse, Ok, refl, ap, subst, ◌∙◌, append_assoc}
 use mathlib.Core.List.{reverse-cons, reverse-append, reverse-reverse}
 use Rattle.nvme_arbiter.specs.History.{ArbitrationEvent, Picked, Changed, History}
-use Rattle.nvme_arbiter.specs.Lawful.{IsLawfulRun}
+use Rattle.nvme_trace.specs.Taken.{IsTakenRun}
 use Rattle.nvme_arbiter.specs.Specified.{IsSpecifiedRun}
-use Rattle.nvme_arbiter.proofs.PickLaws.{prefixes}
 use Rattle.nvme_trace.specs.Lines.{told_lines}
 use Rattle.nvme_trace.specs.Format.{head_of_line, event_by}
 use Rattle.nvme_trace.specs.Judged.{IsFinding}
@@ -86,14 +85,19 @@ specified_before head [] rest r = r
 specified_before head (Picked seen pick ∷ later) rest r = specified_before head later rest r.2
 specified_before head (Changed settings ∷ later) rest r = specified_before head later rest r
 
+taken_before : (head : Head) (later rest : History) → IsTakenRun head.mechanism head.settings (later ++ rest) → IsTakenRun head.mechanism head.settings rest
+taken_before head [] rest r = r
+taken_before head (Picked seen pick ∷ later) rest r = taken_before head later rest r.2
+taken_before head (Changed settings ∷ later) rest r = taken_before head later rest r
+
 run_before : (basis : Basis) (head : Head) (later rest : History) → IsRunBy basis head (later ++ rest) → IsRunBy basis head rest
-run_before Profile head later rest r = prefixes head.mechanism head.settings later rest r
+run_before Profile head later rest r = taken_before head later rest r
 run_before Specification head later rest r = specified_before head later rest r
 
 -- there is no reason against an event that is allowed
-no_finding : (head : Head) (past : History) (event : ArbitrationEvent) (finding : Finding) → IsLawfulRun head.mechanism head.settings (event ∷ past) → IsFinding head.mechanism head.settings past event finding → ⊥
+no_finding : (head : Head) (past : History) (event : ArbitrationEvent) (finding : Finding) → IsTakenRun head.mechanism head.settings (event ∷ past) → IsFinding head.mechanism head.settings past event finding → ⊥
 no_finding head past event finding run f =
-    let lawful : IsLawfulRun head.mechanism head.settings (Picked f.seen finding.picked ∷ past) = subst (λ e. IsLawfulRun head.mechanism head.settings (e ∷ past)) f.event_is run in
+    let lawful : IsTakenRun head.mechanism head.settings (Picked f.seen finding.picked ∷ past) = subst (λ e. IsTakenRun head.mechanism head.settings (e ∷ past)) f.event_is run in
     f.other (f.lawful_is ∙ lawful.1)
 
 no_breach : (head : Head) (past : History) (event : ArbitrationEvent) (breach : Breach) → IsSpecifiedRun head.mechanism head.settings (event ∷ past) → IsBreach head past event breach → ⊥

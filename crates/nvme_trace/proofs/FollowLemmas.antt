@@ -41,7 +41,7 @@ by_credits : (s : ArbitrationFields) (last : Class → Option ℕ) (used : Class
 unfolding pick_with levels_by level_by
 by_credits s last used seen = refl
 
-same_picks : (s : ArbitrationFields) (last last' : Class → Option ℕ) (used used' : Class → ℕ) (seen : List Seen) → ((c : Class) → last c ≡ last' c)
+pub same_picks : (s : ArbitrationFields) (last last' : Class → Option ℕ) (used used' : Class → ℕ) (seen : List Seen) → ((c : Class) → last c ≡ last' c)
     → ((fresh : Bool) (level : Class) → credit s used fresh level ≡ credit s used' fresh level) → weighted_pick s last used seen ≡ weighted_pick s last' used' seen
 same_picks s last last' used used' seen e u =
     let lasts : last ≡ last' = λ i. λ c. e c i in

@@ -4,11 +4,11 @@ use Rattle.std.specs.Prelude.{is_some, ok_or, if◌then◌else◌, Result, Ok, E
 use Rattle.serde_json.specs.Data.{Data}
 use Rattle.serde_json.specs.Find.{get, as_bool}
 use Rattle.nvme_arbiter.specs.History.{ArbitrationEvent, History}
-use Rattle.nvme_arbiter.proofs.SpecifiedLaws.{lawful_specified}
+use Rattle.nvme_trace.proofs.TakenLemmas.{lawful_taken, taken_specified}
 use Rattle.nvme_trace.specs.Fields.{text_of}
 use Rattle.nvme_trace.specs.Readings.{◌>>=◌, ◌>>◌, number_at, flag_at}
 use Rattle.nvme_trace.specs.Format.{data_of, object_in, set_in, fresh_in, pick_in, event_in, event_by}
-use Rattle.nvme_trace.specs.Checks.{TellsBy, LawfulTextsAreAllowed}
+use Rattle.nvme_trace.specs.Checks.{TellsBy, LawfulTextsPass, LawfulTextsAreAllowed}
 use Rattle.nvme_trace.specs.declared.basis.Basis.TheVariants.{Profile, Specification}
 use Rattle.nvme_trace.specs.declared.fault.LineFault.{LineFault}
 use Rattle.nvme_trace.specs.declared.fault.LineFault.TheVariants.{Missing, Bad}
@@ -61,11 +61,20 @@ lines_same : (head : Head) (past : History) (lines : List (ℕ × List ℕ)) →
 lines_same head [] lines t = t
 lines_same head (e ∷ past) lines (line, earlier, is, says, more) = (line, earlier, is, line_same line.1 e says, lines_same head past earlier more)
 
+pub passes : LawfulTextsPass
+passes text picks l = record {
+  head = l.head;
+  past = l.past;
+  tells = l.tells;
+  lawful = lawful_taken l.head.mechanism l.head.settings l.past l.lawful;
+  picks_are = l.picks_are;
+}
+
 pub allowed : LawfulTextsAreAllowed
 allowed text picks l = record {
   head = l.head;
   past = l.past;
   tells = lines_same l.head l.past _ l.tells;
-  lawful = lawful_specified l.head.mechanism l.head.settings l.past l.lawful;
+  lawful = taken_specified l.head.mechanism l.head.settings l.past l.lawful;
   picks_are = l.picks_are;
 }

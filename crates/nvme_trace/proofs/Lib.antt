@@ -6,4 +6,5 @@ pub mod JudgeLemmas
 pub mod Exactness
 pub mod Leniently
 pub mod FollowLemmas
+pub mod TakenLemmas
 pub mod SurveyLemmas

@@ -6,7 +6,7 @@ use mathlib.Core.List.{reverse-cons, reverse-reverse}
 use Rattle.nvme_arbiter.specs.Settings.{ArbitrationFields}
 use Rattle.nvme_arbiter.specs.Observation.{IsObservation}
 use Rattle.nvme_arbiter.specs.History.{ArbitrationEvent, History, Picked, Changed}
-use Rattle.nvme_arbiter.specs.Lawful.{IsLawfulPick, IsLawfulRun}
+use Rattle.nvme_trace.specs.Taken.{IsTakenRun}
 use Rattle.nvme_arbiter.specs.Standing.{nothing_used, first_kept}
 use Rattle.nvme_arbiter.specs.declared.pick.Seen.{Seen}
 use Rattle.nvme_arbiter.specs.declared.pick.Pick.{Pick}
@@ -196,7 +196,7 @@ none_told counts (told ∷ all) c n =
     let one = some_kind (kind_of told.finding.lawful told.finding.picked) in
     absurd (omega (arith, one, c.nothing_ready, c.queue, c.number, c.fresh, n.nothing_ready, n.queue, n.number, n.fresh))
 
-lawful_lines : (head : Head) (past : History) (lines : List (ℕ × List ℕ)) (all : List Told) → AreDifferences head past lines all → all ≡ [] → IsLawfulRun head.mechanism head.settings past
+lawful_lines : (head : Head) (past : History) (lines : List (ℕ × List ℕ)) (all : List Told) → AreDifferences head past lines all → all ≡ [] → IsTakenRun head.mechanism head.settings past
 lawful_lines head [] lines all d none = tt
 lawful_lines head (Changed settings ∷ past) lines all (line, earlier, is, d) none = lawful_lines head past earlier all d none
 lawful_lines head (Picked seen pick ∷ past) lines all (line, earlier, is, o, inl (l, d)) none = (o, l, lawful_lines head past earlier all d none)

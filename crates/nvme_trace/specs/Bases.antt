@@ -1,12 +1,12 @@
 -- What the profile and the specification each ask of a trace. (Base Specification, Command Arbitration; what is told: profile)
 use Rattle.std.specs.Prelude.{◌≡◌, ℕ, List}
 use Rattle.nvme_arbiter.specs.History.{ArbitrationEvent, Picked, Changed, History, settings_after}
-use Rattle.nvme_arbiter.specs.Lawful.{IsLawfulRun}
 use Rattle.nvme_arbiter.specs.Standing.{StandsAt}
 use Rattle.nvme_arbiter.specs.Specified.{IsSpecifiedPick, IsSpecifiedRun}
 use Rattle.nvme_arbiter.specs.declared.pick.Seen.{Seen}
 use Rattle.nvme_judge.specs.Standing.{JudgeStandsAt, IsFirstBroken}
-use Rattle.nvme_trace.specs.Judged.{IsLawfulEvent, IsFinding, count_in}
+use Rattle.nvme_trace.specs.Taken.{IsTakenRun}
+use Rattle.nvme_trace.specs.Judged.{IsTakenEvent, IsFinding, count_in}
 use Rattle.nvme_trace.specs.declared.basis.Basis.{Basis}
 use Rattle.nvme_trace.specs.declared.basis.Basis.TheVariants.{Profile, Specification}
 use Rattle.nvme_trace.specs.declared.records.Head.{Head}
@@ -16,9 +16,9 @@ use Rattle.nvme_trace.specs.declared.judges.Reason.TheVariants.{Differs, Breaks}
 use Rattle.nvme_trace.specs.declared.judges.BasisJudge.{BasisJudge}
 use Rattle.nvme_trace.specs.declared.judges.BasisJudge.TheVariants as judge
 
--- each pick of a history is one that this front makes, or one that the specification allows
+-- each pick of a history is taken for the one that this front makes, or is one that the specification allows
 abbrev pub IsRunBy : Basis → Head → History → Type 0
-IsRunBy Profile head past = IsLawfulRun head.mechanism head.settings past
+IsRunBy Profile head past = IsTakenRun head.mechanism head.settings past
 IsRunBy Specification head past = IsSpecifiedRun head.mechanism head.settings past
 
 abbrev pub IsSpecifiedEvent : Head → History → ArbitrationEvent → Type 0
@@ -27,7 +27,7 @@ IsSpecifiedEvent head past (Changed settings) = Unit {0}
 
 -- an event is allowed after a history
 abbrev pub IsAllowedBy : Basis → Head → History → ArbitrationEvent → Type 0
-IsAllowedBy Profile head past event = IsLawfulEvent head.mechanism head.settings past event
+IsAllowedBy Profile head past event = IsTakenEvent head.mechanism head.settings past event
 IsAllowedBy Specification head past event = IsSpecifiedEvent head past event
 
 -- what is told of a pick that the specification doesn't allow

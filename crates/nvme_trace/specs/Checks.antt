@@ -1,6 +1,7 @@
 -- What a check of a text answers. (Base Specification, Command Arbitration; texts and answers: profile)
 use Rattle.std.specs.Prelude.{◌≡◌, ◌⊎◌, ℕ, List, [], ◌∷◌, ◌++◌, reverse, Option, Some, None, Ok}
 use Rattle.nvme_arbiter.specs.History.{ArbitrationEvent, History}
+use Rattle.nvme_arbiter.specs.Lawful.{IsLawfulRun}
 use Rattle.nvme_trace.specs.Lines.{lines_of, numbered, told_lines}
 use Rattle.nvme_trace.specs.Format.{head_of_line, event_by}
 use Rattle.nvme_trace.specs.Faults.{IsHeadFault, IsEventFaultBy}
@@ -40,9 +41,13 @@ pub record IsLawfulBy (basis : Basis) (text : List ℕ) (picks : ℕ) : Type 0 w
   pub lawful : IsRunBy basis head past
   pub picks_are : picks ≡ picks_in past
 
--- by the profile
-abbrev pub IsLawfulText : List ℕ → ℕ → Type 0
-IsLawfulText text picks = IsLawfulBy Profile text picks
+-- the text is a head and the events of a lawful history with this many picks, as this front writes them
+pub record IsLawfulText (text : List ℕ) (picks : ℕ) : Type 0 where
+  pub head : Head
+  pub past : History
+  pub tells : Tells head past (reverse (told_lines text))
+  pub lawful : IsLawfulRun head.mechanism head.settings past
+  pub picks_are : picks ≡ picks_in past
 
 -- the line of this number, with this text, is the first whose pick is not allowed
 pub record IsRefusedBy (basis : Basis) (text : List ℕ) (line : ℕ) (quoted : List ℕ) (reason : Reason) : Type 0 where
@@ -92,6 +97,10 @@ JudgedUpTo basis text (Some rest) number head judge = IsJudgedUpTo basis text re
 abbrev pub OneAnswer : Type 0
 OneAnswer = (basis : Basis) (text : List ℕ) (picks line : ℕ) (quoted : List ℕ) (reason : Reason) → IsLawfulBy basis text picks → IsRefusedBy basis text line quoted reason → ⊥
 
+-- what this front writes the profile allows
+abbrev pub LawfulTextsPass : Type 0
+LawfulTextsPass = (text : List ℕ) (picks : ℕ) → IsLawfulText text picks → IsLawfulBy Profile text picks
+
 -- what the profile allows the specification allows
 abbrev pub LawfulTextsAreAllowed : Type 0
-LawfulTextsAreAllowed = (text : List ℕ) (picks : ℕ) → IsLawfulText text picks → IsLawfulBy Specification text picks
+LawfulTextsAreAllowed = (text : List ℕ) (picks : ℕ) → IsLawfulBy Profile text picks → IsLawfulBy Specification text picks

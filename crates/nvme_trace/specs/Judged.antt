@@ -3,11 +3,12 @@ use Rattle.std.specs.Prelude.{◌≡◌, ◌≢◌, ℕ, ◌+◌, ◌==◌, List
 use Rattle.nvme_arbiter.specs.Settings.{ArbitrationFields}
 use Rattle.nvme_arbiter.specs.Observation.{IsObservation, class_in}
 use Rattle.nvme_arbiter.specs.History.{ArbitrationEvent, Picked, Changed, History}
-use Rattle.nvme_arbiter.specs.Lawful.{lawful_pick, IsLawfulPick}
+use Rattle.nvme_arbiter.specs.Lawful.{lawful_pick}
 use Rattle.nvme_arbiter.specs.Standing.{StandsAt}
 use Rattle.nvme_arbiter.specs.declared.settings.Mechanism.{Mechanism}
 use Rattle.nvme_arbiter.specs.declared.kept.Kept.{Kept}
 use Rattle.nvme_arbiter.specs.declared.pick.Seen.{Seen}
+use Rattle.nvme_trace.specs.Taken.{as_written, IsTakenPick}
 use Rattle.nvme_trace.specs.declared.judge.Finding.{Finding}
 
 -- what an arbiter keeps, and how many picks were lawful
@@ -20,10 +21,10 @@ abbrev pub IsObserved : ArbitrationEvent → Type 0
 IsObserved (Picked seen pick) = IsObservation seen
 IsObserved (Changed settings) = Unit {0}
 
--- a pick is the lawful one
-abbrev pub IsLawfulEvent : Mechanism → ArbitrationFields → History → ArbitrationEvent → Type 0
-IsLawfulEvent mechanism first past (Picked seen pick) = IsLawfulPick mechanism first past seen pick
-IsLawfulEvent mechanism first past (Changed settings) = Unit {0}
+-- a pick is taken for the lawful one
+abbrev pub IsTakenEvent : Mechanism → ArbitrationFields → History → ArbitrationEvent → Type 0
+IsTakenEvent mechanism first past (Picked seen pick) = IsTakenPick mechanism first past seen pick
+IsTakenEvent mechanism first past (Changed settings) = Unit {0}
 
 abbrev pub picks_of : ArbitrationEvent → ℕ
 picks_of (Picked seen pick) = 1
@@ -37,14 +38,14 @@ picks_in (e ∷ past) = picks_in past + picks_of e
 abbrev pub count_in : List Seen → ℕ → Option ℕ
 count_in seen qid = option_map (λ s. s.count) (find (λ s. s.qid == qid) seen)
 
--- what is told of a pick that is not the lawful one after a history
+-- what is told of a pick that is not taken for the lawful one after a history
 pub record IsFinding (mechanism : Mechanism) (first : ArbitrationFields) (past : History) (event : ArbitrationEvent) (finding : Finding) : Type 0 where
   pub seen : List Seen
   -- the pick that was made
   pub event_is : event ≡ Picked seen finding.picked
-  -- the lawful one, which is another
+  -- the lawful one, which is another, however it is written
   pub lawful_is : finding.lawful ≡ lawful_pick mechanism first past seen
-  pub other : finding.lawful ≢ Some finding.picked
+  pub other : finding.lawful ≢ Some (as_written mechanism past finding.picked)
   -- the class of its queue
   pub class_is : finding.class ≡ option_and_then (λ pick. class_in seen pick.qid) finding.lawful
   -- how many commands wait in it

@@ -3,6 +3,7 @@ pub mod Names
 pub mod Readings
 pub mod Format
 pub mod Lines
+pub mod Taken
 pub mod Judged
 pub mod Faults
 pub mod Checks

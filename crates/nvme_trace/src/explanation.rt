@@ -136,16 +136,42 @@ fn put_number<W: fmt::Write>(finding: &Finding, f: &mut fmt::Formatter<W>) -> fm
     write!(f, "waiting {waiting}")
 }
 
+// Why a lawful pick starts a round, or starts none.
+fn reason_for_fresh(mechanism: Mechanism, class: Option<Class>, fresh: bool) -> &'static str {
+    match (mechanism, class) {
+        (Mechanism::RoundRobin, _) => "round robin has no rounds",
+        (Mechanism::Weighted, Some(Class::Admin | Class::Urgent)) => {
+            "no pick of the admin queue or of an urgent one starts a round"
+        }
+        (Mechanism::Weighted, _) if fresh => "no ready level has credit left, so a round starts",
+        (Mechanism::Weighted, _) => "the level has credit left, so the round goes on",
+    }
+}
+
+// Writes whether the lawful pick starts a round, where that is the difference at all.
+fn put_fresh<W: fmt::Write>(finding: &Finding, f: &mut fmt::Formatter<W>) -> fmt::Result {
+    let picked = &finding.picked;
+    match finding.lawful {
+        Some(pick) if pick.qid == picked.qid && pick.n == picked.n => {
+            let answer = if pick.fresh { "yes" } else { "no" };
+            let reason = reason_for_fresh(finding.kept.mechanism, finding.class, pick.fresh);
+            write!(f, "\nfresh: {answer}: {reason}")
+        }
+        _ => Ok(()),
+    }
+}
+
 // Writes what was picked, what the lawful pick is, and why.
 fn put_finding<W: fmt::Write>(finding: &Finding, f: &mut fmt::Formatter<W>) -> fmt::Result {
     let kept = &finding.kept;
     write!(f, "\npicked: ")?;
     put_pick(&finding.picked, f)?;
-    write!(f, "\nlawful: ")?;
+    write!(f, "\nexpected: ")?;
     match &finding.lawful {
         Some(pick) => put_pick(pick, f)?,
         None => write!(f, "none")?,
     }
+    put_fresh(finding, f)?;
     let case = case_of(kept.mechanism, finding.class, finding.lawful);
     write!(f, "\nwhy: {case}")?;
     put_served(kept, f)?;

@@ -2,7 +2,8 @@
 ghost use Rattle.std.specs.Prelude.{◌≡◌, ◌∷◌, Some, MatchOption};
 ghost use Rattle.nvme_arbiter.specs.Settings.{ArbitrationFields};
 ghost use Rattle.nvme_arbiter.specs.History.{History, Picked};
-ghost use Rattle.nvme_arbiter.specs.Lawful.{lawful_pick, IsLawfulPick};
+ghost use Rattle.nvme_arbiter.specs.Lawful.{lawful_pick};
+ghost use Rattle.nvme_trace.specs.Taken.{IsTakenPick};
 ghost use Rattle.nvme_arbiter.specs.Observation.{IsObservation, class_in};
 ghost use Rattle.nvme_arbiter.specs.Standing.{last_with, used_before};
 ghost use Rattle.nvme_arbiter.specs.declared.settings.Mechanism.{Mechanism};
@@ -11,6 +12,7 @@ ghost use Rattle.nvme_trace.specs.inside.Steps.{used_plus, followed, WeightsFit}
 ghost use Rattle.nvme_trace.specs.declared.records.Head.{Head};
 
 use crate::judge::Finding;
+use crate::taken::as_written;
 use nvme_arbiter::{Arbiter, Class, Kept, Last, Pick, Seen, Settings, Used, class_in};
 use nvme_judge::count_in;
 
@@ -100,10 +102,10 @@ fn lawful_after(kept: &Kept, seen: &[Seen]) -> Option<Pick>
 /// What is told of a pick that isn't the lawful one after the picks that were made. `None` where it is.
 pub fn difference(kept: &Kept, seen: &[Seen], picked: Pick) -> Option<Finding>
     requires observed { IsObservation seen.now }
-    ensures { (head : Head) (past : History) → Follows head.mechanism head.settings past kept.now → MatchOption result (IsLawfulPick head.mechanism head.settings past seen.now picked) (IsDifferent head past seen.now picked) }
+    ensures { (head : Head) (past : History) → Follows head.mechanism head.settings past kept.now → MatchOption result (IsTakenPick head.mechanism head.settings past seen.now picked) (IsDifferent head past seen.now picked) }
 {
     let lawful = lawful_after(kept, seen);
-    if lawful == Some(picked) {
+    if lawful == Some(as_written(kept, picked)) {
         return None;
     }
     Some(Finding {

@@ -2,6 +2,7 @@
 ghost use Rattle.std.specs.Prelude.{◌≡◌};
 
 use crate::records::{Head, TraceEvent};
+use crate::taken::as_written;
 use nvme_arbiter::{Arbiter, Class, Kept, Pick, Seen, class_in};
 use nvme_judge::count_in;
 use std::marker::Model;
@@ -40,12 +41,12 @@ impl Judge {
     ghost use Rattle.std.specs.Prelude.{◌+◌, ◌-◌, ◌^◌, ◌<◌, [], ◌∷◌, MatchOption, IfSome, IfNone};
     ghost use Rattle.nvme_arbiter.specs.Settings.{ArbitrationFields};
     ghost use Rattle.nvme_arbiter.specs.History.{History, Picked};
-    ghost use Rattle.nvme_arbiter.specs.Lawful.{IsLawfulPick};
     ghost use Rattle.nvme_arbiter.specs.Observation.{IsObservation};
     ghost use Rattle.nvme_arbiter.specs.Standing.{StandsAt};
     ghost use Rattle.nvme_arbiter.specs.declared.settings.Mechanism.{Mechanism};
     ghost use Rattle.nvme_trace.specs.Format.{event_view};
-    ghost use Rattle.nvme_trace.specs.Judged.{IsObserved, IsLawfulEvent, IsFinding, picks_of};
+    ghost use Rattle.nvme_trace.specs.Judged.{IsObserved, IsTakenEvent, IsFinding, picks_of};
+    ghost use Rattle.nvme_trace.specs.Taken.{IsTakenPick};
 
     /// A judge of the events that follow a head.
     pub fn new(head: Head) -> Judge
@@ -65,12 +66,12 @@ impl Judge {
         self.picks
     }
 
-    /// Judges the next event. `None` where it is lawful after the events so far; it then counts among them. A pick that
-    /// isn't lawful changes nothing.
+    /// Judges the next event. `None` where it is lawful after the events so far; it then counts among them. While nothing
+    /// is used in the round, a lawful pick may be told to be fresh or not. A pick that isn't lawful changes nothing.
     pub fn judge(&mut self, event: &TraceEvent) -> Option<Finding>
         requires observed { IsObserved (event_view event.now) }
         requires few { self.old.picks < 2 ^ 64 - 1 }
-        ensures lawful { (mechanism : Mechanism) (first : ArbitrationFields) (past : History) → StandsAt mechanism first past self.old.kept → MatchOption result (IsLawfulEvent mechanism first past (event_view event.now)) (IsFinding mechanism first past (event_view event.now)) }
+        ensures lawful { (mechanism : Mechanism) (first : ArbitrationFields) (past : History) → StandsAt mechanism first past self.old.kept → MatchOption result (IsTakenEvent mechanism first past (event_view event.now)) (IsFinding mechanism first past (event_view event.now)) }
         ensures stands { (mechanism : Mechanism) (first : ArbitrationFields) (past : History) → StandsAt mechanism first past self.old.kept → IfNone result (StandsAt mechanism first (event_view event.now ∷ past) self.new.kept) }
         ensures picks { IfNone result (self.new.picks ≡ self.old.picks + picks_of (event_view event.now)) }
         ensures unlawful { IfSome result (λ _. self.new ≡ self.old) }
@@ -88,7 +89,7 @@ impl Judge {
     fn judge_pick(&mut self, seen: &[Seen], picked: Pick) -> Option<Finding>
         requires observed { IsObservation seen.now }
         requires few { self.old.picks < 2 ^ 64 - 1 }
-        ensures lawful { (mechanism : Mechanism) (first : ArbitrationFields) (past : History) → StandsAt mechanism first past self.old.kept → MatchOption result (IsLawfulPick mechanism first past seen.now picked) (IsFinding mechanism first past (Picked seen.now picked)) }
+        ensures lawful { (mechanism : Mechanism) (first : ArbitrationFields) (past : History) → StandsAt mechanism first past self.old.kept → MatchOption result (IsTakenPick mechanism first past seen.now picked) (IsFinding mechanism first past (Picked seen.now picked)) }
         ensures stands { (mechanism : Mechanism) (first : ArbitrationFields) (past : History) → StandsAt mechanism first past self.old.kept → IfNone result (StandsAt mechanism first (Picked seen.now picked ∷ past) self.new.kept) }
         ensures picks { IfNone result (self.new.picks ≡ self.old.picks + 1) }
         ensures unlawful { IfSome result (λ _. self.new ≡ self.old) }
@@ -96,7 +97,7 @@ impl Judge {
         let kept = self.arbiter.parts();
         let mut next = self.arbiter;
         let lawful = next.pick(seen);
-        if lawful == Some(picked) {
+        if lawful == Some(as_written(&kept, picked)) {
             self.arbiter = next;
             self.picks += 1;
             return None;

@@ -1,6 +1,22 @@
 // Laws of traces.
-ghost use Rattle.nvme_trace.specs.Checks.{LawfulTextsAreAllowed, OneAnswer};
+ghost use Rattle.nvme_trace.specs.Checks.{LawfulTextsAreAllowed, LawfulTextsPass, OneAnswer};
 ghost use Rattle.nvme_trace.specs.Surveys.{LawfulSurveys};
+ghost use Rattle.nvme_trace.specs.Taken.{LawfulRunsAreTaken, TakenRunsAreLawful};
+
+/// Picks that are taken for those of this front are lawful, but for `fresh` where a round begins by itself.
+pub fn taken_runs_are_lawful()
+    ensures { TakenRunsAreLawful }
+{}
+
+/// A lawful run is taken.
+pub fn lawful_runs_are_taken()
+    ensures { LawfulRunsAreTaken }
+{}
+
+/// A text that this front writes of a lawful run is lawful by the profile.
+pub fn lawful_texts_pass()
+    ensures { LawfulTextsPass }
+{}
 
 /// A text that is lawful by the profile is lawful by the specification.
 pub fn lawful_texts_are_allowed()

@@ -15,6 +15,7 @@ mod notes;
 mod raw;
 mod records;
 mod survey;
+mod taken;
 mod trace;
 
 pub use basis::Basis;
@@ -23,7 +24,10 @@ pub use explanation::SettingsInWords;
 pub use fault::{Field, LineFault, TraceError};
 pub use judge::{Finding, Judge};
 pub use judges::{Breach, Reason};
-pub use laws::{lawful_texts_are_allowed, surveys_of_none_are_lawful, texts_have_one_answer};
+pub use laws::{
+    lawful_runs_are_taken, lawful_texts_are_allowed, lawful_texts_pass, surveys_of_none_are_lawful,
+    taken_runs_are_lawful, texts_have_one_answer,
+};
 pub use names::{class_name, mechanism_name};
 pub use nvme_arbiter::specified::Rule;
 pub use records::{Head, TraceEvent};

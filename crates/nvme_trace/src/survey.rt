@@ -1,7 +1,7 @@
 // Tells all picks of a trace that differ from those of this front.
 ghost use Rattle.std.specs.Prelude.{◌≡◌, ◌↔◌, IsTrue, ◌+◌, ◌-◌, ◌^◌, ◌<◌, ◌≤◌, ◌∷◌, [], ℕ, List, Some, Ok, IfOk, IfErr, IfSome, OnOk, if◌then◌else◌, map, take, reverse};
 ghost use Rattle.nvme_arbiter.specs.History.{History, Picked, Changed};
-ghost use Rattle.nvme_arbiter.specs.Lawful.{IsLawfulPick};
+ghost use Rattle.nvme_trace.specs.Taken.{IsTakenPick};
 ghost use Rattle.nvme_arbiter.specs.Observation.{IsObservation};
 ghost use Rattle.nvme_trace.specs.Lines.{TakesTold};
 ghost use Rattle.nvme_trace.specs.Format.{head_of_line, event_view};
@@ -181,7 +181,7 @@ impl Surveyor {
     // Takes a pick that is the lawful one.
     fn pass(&mut self, seen: &[Seen], picked: Pick)
         requires few { self.old.survey.picks < 2 ^ 64 - 1 }
-        ensures at { (head : Head) (past : History) (line : ℕ × List ℕ) (lines : List (ℕ × List ℕ)) → SurveysAt head past lines self.old → IsObservation seen.now → IsLawfulPick head.mechanism head.settings past seen.now picked → SurveysAt head (Picked seen.now picked ∷ past) (line ∷ lines) self.new }
+        ensures at { (head : Head) (past : History) (line : ℕ × List ℕ) (lines : List (ℕ × List ℕ)) → SurveysAt head past lines self.old → IsObservation seen.now → IsTakenPick head.mechanism head.settings past seen.now picked → SurveysAt head (Picked seen.now picked ∷ past) (line ∷ lines) self.new }
         ensures picks { self.new.survey.picks ≡ self.old.survey.picks + 1 }
         ensures counts { self.new.survey.counts ≡ self.old.survey.counts }
     {

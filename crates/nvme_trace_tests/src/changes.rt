@@ -162,6 +162,17 @@ fn turned(alloc: Global, text: &str, number: u64) -> Result<Vec<u8>, Fail> {
     Ok(out)
 }
 
+// The line that is refused where a pick is told to be fresh: not that of the first pick under the weighted mechanism,
+// whose round begins by itself.
+fn refused_turned(text: &str, number: u64) -> u64 {
+    let first = if is_change(text, 2) { 3 } else { 2 };
+    if text.contains("weighted") && number == first {
+        0
+    } else {
+        number
+    }
+}
+
 #[test]
 fn flags_turned(rt: HostRuntime) -> Result<(), Fail> {
     for text in BOUND {
@@ -170,7 +181,7 @@ fn flags_turned(rt: HostRuntime) -> Result<(), Fail> {
             if turned.as_slice() != text.as_bytes() {
                 assert_eq!(rt;
                     refused(rt.alloc(), turned.as_slice()),
-                    number,
+                    refused_turned(text, number),
                     "line {number}"
                 );
             }

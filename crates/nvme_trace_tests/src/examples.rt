@@ -62,15 +62,15 @@ fn texts_that_differ(rt: HostRuntime) -> Result<(), Fail> {
     let text = format!(in alloc; "{CHANGED}{sixth}")?;
     assert_eq!(rt;
         answer(alloc, text.as_str())?.as_str(),
-        "differs: line 6\npicked: q1 2\nlawful: q4 2\nwhy: case 3, the first level that is ready and has credit\nserved last: admin q0, urgent none, high q1, medium none, low none\nused in the round: high 3 of 3, medium 0 of 1, low 0 of 2\nnumber: n is the least of burst 4, credit 2, waiting 5\nsettings: burst 4, high 3, medium 1, low 2\nline: {\"pick\":1,\"n\":2,\"fresh\":false,\"seen\":[[0,\"admin\",0],[1,\"high\",2],[4,\"low\",5]]}"
+        "differs: line 6\npicked: q1 2\nexpected: q4 2\nwhy: case 3, the first level that is ready and has credit\nserved last: admin q0, urgent none, high q1, medium none, low none\nused in the round: high 3 of 3, medium 0 of 1, low 0 of 2\nnumber: n is the least of burst 4, credit 2, waiting 5\nsettings: burst 4, high 3, medium 1, low 2\nline: {\"pick\":1,\"n\":2,\"fresh\":false,\"seen\":[[0,\"admin\",0],[1,\"high\",2],[4,\"low\",5]]}"
     );
     assert_eq!(rt;
         answer(alloc, OLD_CREDIT)?.as_str(),
-        "differs: line 4\npicked: q1 1\nlawful: q1 3\nwhy: case 3, the first level that is ready and has credit\nserved last: admin none, urgent none, high q1, medium none, low none\nused in the round: high 0 of 3, medium 0 of 1, low 0 of 2\nnumber: n is the least of burst 4, credit 3, waiting 3\nsettings: burst 4, high 3, medium 1, low 2\nline: {\"pick\":1,\"n\":1,\"fresh\":false,\"seen\":[[1,\"high\",3]]}"
+        "differs: line 4\npicked: q1 1\nexpected: q1 3\nwhy: case 3, the first level that is ready and has credit\nserved last: admin none, urgent none, high q1, medium none, low none\nused in the round: high 0 of 3, medium 0 of 1, low 0 of 2\nnumber: n is the least of burst 4, credit 3, waiting 3\nsettings: burst 4, high 3, medium 1, low 2\nline: {\"pick\":1,\"n\":1,\"fresh\":false,\"seen\":[[1,\"high\",3]]}"
     );
     assert_eq!(rt;
         answer(alloc, NOT_FRESH)?.as_str(),
-        "differs: line 3\npicked: q4 1\nlawful: q4 1 fresh\nwhy: case 4, no ready level has credit, so a round starts\nserved last: admin none, urgent none, high none, medium none, low q4\nused in the round: high 0 of 1, medium 0 of 1, low 1 of 1\nnumber: n is the least of burst 1, credit 1, waiting 4\nsettings: burst 1, high 1, medium 1, low 1\nline: {\"pick\":4,\"n\":1,\"fresh\":false,\"seen\":[[4,\"low\",4]]}"
+        "differs: line 3\npicked: q4 1\nexpected: q4 1 fresh\nfresh: yes: no ready level has credit left, so a round starts\nwhy: case 4, no ready level has credit, so a round starts\nserved last: admin none, urgent none, high none, medium none, low q4\nused in the round: high 0 of 1, medium 0 of 1, low 1 of 1\nnumber: n is the least of burst 1, credit 1, waiting 4\nsettings: burst 1, high 1, medium 1, low 1\nline: {\"pick\":4,\"n\":1,\"fresh\":false,\"seen\":[[4,\"low\",4]]}"
     );
     Ok(())
 }
@@ -82,20 +82,20 @@ fn cases(rt: HostRuntime) -> Result<(), Fail> {
     for (seen, lawful, number) in [
         (
             "[[0,\"admin\",3],[1,\"urgent\",1]]",
-            "lawful: q0 1\nwhy: case 1, the admin queue is ready",
+            "expected: q0 1\nwhy: case 1, the admin queue is ready",
             "\nnumber: n is 1, one command of the admin queue",
         ),
         (
             "[[1,\"urgent\",1],[2,\"high\",9]]",
-            "lawful: q1 1\nwhy: case 2, an urgent queue is ready",
+            "expected: q1 1\nwhy: case 2, an urgent queue is ready",
             "\nnumber: n is the least of burst 1, waiting 1",
         ),
         (
             "[[1,\"urgent\",0]]",
-            "lawful: none\nwhy: nothing is ready",
+            "expected: none\nwhy: nothing is ready",
             "",
         ),
-        ("[]", "lawful: none\nwhy: nothing is ready", ""),
+        ("[]", "expected: none\nwhy: nothing is ready", ""),
     ] {
         let line = format!(in alloc; "{{\"pick\":9,\"n\":1,\"fresh\":true,\"seen\":{seen}}}")?;
         let text = format!(in alloc; "{head}\n{line}\n")?;
@@ -120,7 +120,7 @@ fn numbers_under_round_robin(rt: HostRuntime) -> Result<(), Fail> {
             "{{\"version\":1,\"mechanism\":\"round-robin\",\"cdw11\":{cdw11}}}\n{line}\n"
         )?;
         let want = format!(in alloc;
-            "differs: line 2\npicked: q2 1\nlawful: q1 {number}: round robin, the next ready queue after the latest pick\nserved last: of all none\nnumber: n is the least of {settings}\nline: {line}"
+            "differs: line 2\npicked: q2 1\nexpected: q1 {number}: round robin, the next ready queue after the latest pick\nserved last: of all none\nnumber: n is the least of {settings}\nline: {line}"
         )?;
         assert_eq!(rt; answer(alloc, text.as_str())?.as_str(), want.as_str());
     }
@@ -154,13 +154,13 @@ fn all_that_differ(rt: HostRuntime) -> Result<(), Fail> {
     let told = survey(alloc, SOME_DIFFER)?;
     assert!(rt;
         told.as_str().starts_with(
-            "differs: 4 of 6 picks\nnothing is ready: 1\nanother queue: 1\nanother number: 1\nfresh or not: 1\n\ndiffers: line 3\npicked: q1 1\nlawful: q1 2\n"
+            "differs: 4 of 6 picks\nnothing is ready: 1\nanother queue: 1\nanother number: 1\nfresh or not: 1\n\ndiffers: line 3\npicked: q1 1\nexpected: q1 2\n"
         )
     );
     for part in [
-        "\n\ndiffers: line 5\npicked: q9 65535\nlawful: q4 1\n",
-        "\n\ndiffers: line 6\npicked: q4 1 fresh\nlawful: q4 1\n",
-        "\n\ndiffers: line 8\npicked: q4 65535\nlawful: none\nwhy: nothing is ready\n",
+        "\n\ndiffers: line 5\npicked: q9 65535\nexpected: q4 1\n",
+        "\n\ndiffers: line 6\npicked: q4 1 fresh\nexpected: q4 1\nfresh: no: the level has credit left, so the round goes on\nwhy: case 3, ",
+        "\n\ndiffers: line 8\npicked: q4 65535\nexpected: none\nwhy: nothing is ready\n",
         "line: {\"pick\":4,\"n\":65535,\"fresh\":false,\"seen\":[[4,\"low\",0]]}",
     ] {
         assert!(rt; told.as_str().contains(part), "no {part} in {told}");
@@ -195,6 +195,67 @@ fn ten_are_told(rt: HostRuntime) -> Result<(), Fail> {
         );
     }
     assert!(rt; !told.as_str().contains("differs: line 12"));
+    Ok(())
+}
+
+// Burst 2, High 4, Medium 2, Low 1. The first round, and one after a change of the settings, begins by itself, so that a
+// pick may say that it starts it.
+const FRESH_AT_FIRST: &str = "{\"version\":1,\"mechanism\":\"weighted\",\"cdw11\":50397185}
+{\"pick\":0,\"n\":1,\"fresh\":true,\"seen\":[[0,\"admin\",1],[1,\"high\",5],[4,\"low\",5]]}
+{\"pick\":1,\"n\":2,\"fresh\":true,\"seen\":[[0,\"admin\",0],[1,\"high\",5],[4,\"low\",5]]}
+{\"set\":33554690}
+{\"pick\":1,\"n\":3,\"fresh\":true,\"seen\":[[0,\"admin\",0],[1,\"high\",3],[4,\"low\",5]]}
+";
+
+#[test]
+fn first_rounds_begin_by_themselves(rt: HostRuntime) -> Result<(), Fail> {
+    let alloc = rt.alloc();
+    assert_eq!(rt; answer(alloc, FRESH_AT_FIRST)?.as_str(), "lawful: 3 picks");
+    assert_eq!(rt;
+        survey(alloc, FRESH_AT_FIRST)?.as_str(),
+        "differs: 0 of 3 picks"
+    );
+    assert_eq!(rt;
+        answer_by_rules(alloc, FRESH_AT_FIRST)?.as_str(),
+        "lawful: 3 picks"
+    );
+    for (pick, picked, reason) in [
+        (
+            "{\"pick\":4,\"n\":2,\"fresh\":true,\"seen\":[[4,\"low\",5]]}",
+            "q4 2 fresh\nexpected: q4 2",
+            "no: the level has credit left, so the round goes on",
+        ),
+        (
+            "{\"pick\":1,\"n\":3,\"fresh\":false,\"seen\":[[1,\"high\",3]]}",
+            "q1 3\nexpected: q1 3 fresh",
+            "yes: no ready level has credit left, so a round starts",
+        ),
+        (
+            "{\"pick\":0,\"n\":1,\"fresh\":true,\"seen\":[[0,\"admin\",1]]}",
+            "q0 1 fresh\nexpected: q0 1",
+            "no: no pick of the admin queue or of an urgent one starts a round",
+        ),
+    ] {
+        let text = format!(in alloc; "{FRESH_AT_FIRST}{pick}\n")?;
+        let want = format!(in alloc; "differs: line 6\npicked: {picked}\nfresh: {reason}\nwhy: ")?;
+        let told = answer(alloc, text.as_str())?;
+        assert!(rt; told.as_str().starts_with(want.as_str()), "{told}");
+    }
+    Ok(())
+}
+
+#[test]
+fn round_robin_has_no_rounds(rt: HostRuntime) -> Result<(), Fail> {
+    let alloc = rt.alloc();
+    let text =
+        "{\"version\":1,\"mechanism\":\"round-robin\",\"cdw11\":0}\n{\"pick\":1,\"n\":1,\"fresh\":true,\"seen\":[[1,\"low\",7]]}\n";
+    let told = answer(alloc, text)?;
+    assert!(rt;
+        told.as_str().starts_with(
+            "differs: line 2\npicked: q1 1 fresh\nexpected: q1 1\nfresh: no: round robin has no rounds\nwhy: "
+        ),
+        "{told}"
+    );
     Ok(())
 }
 

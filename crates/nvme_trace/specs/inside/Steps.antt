@@ -1,10 +1,12 @@
 -- One event more of a survey, as it is kept (profile).
-use Rattle.std.specs.Prelude.{◌≤◌, ◌<◌, ℕ, ◌+◌, List, Option, Some, None}
+use Rattle.std.specs.Prelude.{◌≤◌, ◌<◌, ℕ, ◌+◌, ◌==◌, ◌&&◌, Bool, false, List, Option, Some, None}
 use Rattle.nvme_arbiter.specs.Settings.{ArbitrationFields}
 use Rattle.nvme_arbiter.specs.History.{History}
 use Rattle.nvme_arbiter.specs.Standing.{last_with, used_before}
 use Rattle.nvme_arbiter.specs.declared.settings.Class.{Class}
 use Rattle.nvme_arbiter.specs.declared.settings.Class.TheVariants.{Admin, Urgent, High, Medium, Low}
+use Rattle.nvme_arbiter.specs.declared.settings.Mechanism.{Mechanism}
+use Rattle.nvme_arbiter.specs.declared.settings.Mechanism.TheVariants.{RoundRobin, Weighted}
 use Rattle.nvme_arbiter.specs.declared.kept.Kept.{Kept}
 use Rattle.nvme_arbiter.specs.declared.kept.Used.{Used}
 use Rattle.nvme_arbiter.specs.declared.pick.Pick.{Pick}
@@ -25,6 +27,11 @@ used_plus used (Some Low) n = record used { low = capped_used (used.low + n) }
 -- what is kept after any pick of a class
 abbrev pub followed : Kept → Option Class → Pick → Kept
 followed k class pick = record k { last = record (last_with k.last class pick.qid) { all = Some pick.qid }; used = used_plus (used_before pick.fresh k.used) class pick.n }
+
+-- whether nothing is used in the round, as it is kept
+abbrev pub unused_by : Mechanism → Used → Bool
+unused_by RoundRobin used = false
+unused_by Weighted used = (used.high == 0) && ((used.medium == 0) && (used.low == 0))
 
 -- no weight is above what is counted
 pub record WeightsFit (s : ArbitrationFields) : Type 0 where

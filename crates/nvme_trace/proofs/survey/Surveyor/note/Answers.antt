@@ -1,7 +1,7 @@
 use Rattle.std.proofs.Common.{◌∷◌, ℕ, List, sym, subst, ◌∙◌}
 use Rattle.nvme_arbiter.specs.Observation.{IsObservation}
 use Rattle.nvme_arbiter.specs.History.{Picked}
-use Rattle.nvme_arbiter.specs.Lawful.{IsLawfulPick}
+use Rattle.nvme_trace.specs.Taken.{IsTakenPick}
 use Rattle.nvme_arbiter.specs.declared.pick.Seen.{Seen}
 use Rattle.nvme_trace.specs.Surveys.{IsDifferent}
 use Rattle.nvme_trace.specs.inside.Steps.{SurveysAt}
@@ -21,7 +21,7 @@ returns-in-None-clause-at g c = λ head past lines at.
     rw c.in-Pick.is
     (subst (λ (xs : List Seen). SurveysAt head (Picked xs pick ∷ past) ((c.args.trace.now.number, c.args.trace.now.latest) ∷ lines) c.pass.new.self) second
     (c.pass.ensures.at head past _ lines at (subst IsObservation (sym second) observed)
-    (subst (λ (xs : List Seen). IsLawfulPick head.mechanism head.settings past xs pick) (first ∙ sym second) lawful)))
+    (subst (λ (xs : List Seen). IsTakenPick head.mechanism head.settings past xs pick) (first ∙ sym second) lawful)))
 
 pub returns-in-Some-clause-at : goal.returns-in-Some-clause-at
 returns-in-Some-clause-at g c = after_ok c.tell.result _ _ c.tell.ensures.at (λ told head past lines at.
