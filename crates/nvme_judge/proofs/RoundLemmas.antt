@@ -1,10 +1,11 @@
 -- What is used with the commands of a pick.
-use Rattle.std.proofs.Common.{◌≡◌, ℕ, ◌+◌, ◌<◌, ◌≤◌, List, ◌∷◌, refl, sym, subst, ◌∙◌, arith}
+use Rattle.std.proofs.Common.{◌≡◌, ℕ, ◌+◌, ◌<◌, ◌≤◌, List, ◌∷◌, refl, sym, ap, subst, ◌∙◌, arith}
 use Rattle.std.specs.Prelude.{Option, Some, None, MatchOption}
 use Rattle.nvme_arbiter.specs.Settings.{ArbitrationFields, weight_of, IsLevel}
 use Rattle.nvme_arbiter.specs.History.{Picked, History, settings_after}
-use Rattle.nvme_arbiter.specs.Standing.{used_of, used_with}
-use Rattle.nvme_arbiter.specs.Specified.{round_used, IsWithinCredit}
+use Rattle.nvme_arbiter.specs.Observation.{class_in}
+use Rattle.nvme_arbiter.specs.Standing.{used_of, used_with, used_before}
+use Rattle.nvme_arbiter.specs.Specified.{starts_round, round_used, IsWithinCredit}
 use Rattle.nvme_arbiter.specs.declared.settings.Class.{Class}
 use Rattle.nvme_arbiter.specs.declared.settings.Class.TheVariants.{Admin, Urgent, High, Medium, Low}
 use Rattle.nvme_arbiter.specs.declared.settings.Mechanism.{Mechanism}
@@ -12,7 +13,7 @@ use Rattle.nvme_arbiter.specs.declared.settings.Mechanism.TheVariants.{RoundRobi
 use Rattle.nvme_arbiter.specs.declared.kept.Used.{Used}
 use Rattle.nvme_arbiter.specs.declared.pick.Seen.{Seen}
 use Rattle.nvme_arbiter.specs.declared.pick.Pick.{Pick}
-use Rattle.nvme_judge.specs.Standing.{JudgeView, JudgeStandsAt}
+use Rattle.nvme_judge.specs.Standing.{JudgeView, JudgeStandsAt, left_of, weight_left}
 use Rattle.nvme_judge.specs.inside.Steps.{taken_of, used_after, IsWithinWeights, UsedIs}
 
 -- ---- by level
@@ -69,3 +70,11 @@ credit_by RoundRobin first past seen pick judge r stands is h = let other : Roun
 credit_by Weighted first past seen pick judge r stands is h =
     let settings : AsUsed (settings_after first past) (used_after (settings_after first past) judge.used seen pick) r = subst (λ s. AsUsed s (used_after s judge.used seen pick) r) stands.settings_are h in
     by_weights first past seen pick r (subst (λ u. AsUsed (settings_after first past) (used_after (settings_after first past) u seen pick) r) stands.tells.0 settings)
+
+-- ---- what is left of the weight of a pick's level
+pub left_by : (mechanism : Mechanism) (first : ArbitrationFields) (past : History) (seen : List Seen) (pick : Pick) (judge : JudgeView) (r : Option ℕ) → JudgeStandsAt mechanism first past judge → judge.mechanism ≡ Weighted
+    → r ≡ left_of judge.settings (used_before (starts_round judge.settings judge.used seen pick) judge.used) (class_in seen pick.qid) → r ≡ weight_left mechanism first past seen pick
+left_by RoundRobin first past seen pick judge r stands is h = let other : RoundRobin ≡ Weighted = sym stands.mechanism_is ∙ is in absurd (cc)
+left_by Weighted first past seen pick judge r stands is h =
+    h ∙ (ap (λ (s : ArbitrationFields). left_of s (used_before (starts_round s judge.used seen pick) judge.used) (class_in seen pick.qid)) stands.settings_are
+    ∙ ap (λ (u : Used). left_of (settings_after first past) (used_before (starts_round (settings_after first past) u seen pick) u) (class_in seen pick.qid)) stands.tells.0)

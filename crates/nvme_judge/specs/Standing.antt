@@ -1,10 +1,13 @@
 -- What a judge of the rules keeps, and what it says of a pick. (Base Specification, Command Arbitration; what is kept: profile)
-use Rattle.std.specs.Prelude.{◌≡◌, ℕ, ◌<◌, List, [], ◌∷◌, Option, Some, None, All}
+use Rattle.std.specs.Prelude.{◌≡◌, ℕ, ◌<◌, ◌-◌, List, [], ◌∷◌, Option, Some, None, All}
 use Rattle.nvme_arbiter.specs.Limits.{queue_limit}
-use Rattle.nvme_arbiter.specs.Settings.{ArbitrationFields}
+use Rattle.nvme_arbiter.specs.Settings.{ArbitrationFields, weight_of}
+use Rattle.nvme_arbiter.specs.Observation.{class_in}
 use Rattle.nvme_arbiter.specs.History.{History, settings_after}
-use Rattle.nvme_arbiter.specs.Specified.{round_used, Keeps}
+use Rattle.nvme_arbiter.specs.Standing.{used_before}
+use Rattle.nvme_arbiter.specs.Specified.{starts_round, round_used, Keeps}
 use Rattle.nvme_arbiter.specs.declared.settings.Class.{Class}
+use Rattle.nvme_arbiter.specs.declared.settings.Class.TheVariants.{Admin, Urgent, High, Medium, Low}
 use Rattle.nvme_arbiter.specs.declared.settings.Mechanism.{Mechanism}
 use Rattle.nvme_arbiter.specs.declared.settings.Mechanism.TheVariants.{RoundRobin, Weighted}
 use Rattle.nvme_arbiter.specs.declared.kept.Used.{Used}
@@ -40,6 +43,20 @@ pub record JudgeStandsAt (mechanism : Mechanism) (first : ArbitrationFields) (pa
   pub settings_are : judge.settings ≡ settings_after first past
   pub picks_are : judge.picks ≡ picks_in past
   pub tells : TellsPast mechanism first past judge
+
+-- what is left of the weight of a level
+abbrev pub left_of : ArbitrationFields → Used → Option Class → Option ℕ
+left_of settings used None = None
+left_of settings used (Some Admin) = None
+left_of settings used (Some Urgent) = None
+left_of settings used (Some High) = Some (weight_of settings High - used.high)
+left_of settings used (Some Medium) = Some (weight_of settings Medium - used.medium)
+left_of settings used (Some Low) = Some (weight_of settings Low - used.low)
+
+-- how many commands of its level a pick may take in its round after a history, by the weights. A pick that starts a round has the whole weight
+abbrev pub weight_left : Mechanism → ArbitrationFields → History → List Seen → Pick → Option ℕ
+weight_left RoundRobin first past seen pick = None
+weight_left Weighted first past seen pick = left_of (settings_after first past) (used_before (starts_round (settings_after first past) (round_used first past) seen pick) (round_used first past)) (class_in seen pick.qid)
 
 -- the rules in the order in which they are told, each after those before it
 abbrev pub rules_before : Rule → List Rule

@@ -91,7 +91,7 @@ impl RuleJudge {
     ghost use Rattle.nvme_arbiter.specs.Observation.{IsObservation};
     ghost use Rattle.nvme_arbiter.specs.Specified.{IsWithinCredit, IsInTurn, IsSpecifiedPick};
     ghost use Rattle.nvme_arbiter.specs.declared.settings.Mechanism.{Mechanism};
-    ghost use Rattle.nvme_judge.specs.Standing.{JudgeStandsAt, IsFirstBroken};
+    ghost use Rattle.nvme_judge.specs.Standing.{JudgeStandsAt, IsFirstBroken, weight_left};
     ghost use Rattle.nvme_judge.specs.inside.Steps.{turn_class, UsedIs};
 
     /// A judge of what follows these settings.
@@ -134,6 +134,17 @@ impl RuleJudge {
         ensures picks { self.new.picks ≡ self.old.picks }
     {
         self.round = Round::new(settings);
+    }
+
+    /// How many commands of the level of a pick are left in its round. `None` for a pick of no level, and under round
+    /// robin.
+    pub fn left(&self, seen: &[Seen], pick: &Pick) -> Option<u16>
+        ensures { (mechanism : Mechanism) (first : ArbitrationFields) (past : History) → JudgeStandsAt mechanism first past self.now → result ≡ weight_left mechanism first past seen.now pick.now }
+    {
+        match self.mechanism {
+            Mechanism::RoundRobin => None,
+            Mechanism::Weighted => self.round.left(seen, pick),
+        }
     }
 
     // The class among whose picks a pick has its turn: none under round robin.

@@ -1,9 +1,11 @@
 // What is used of the levels in a round.
 ghost use Rattle.std.specs.Prelude.{◌≡◌, ◌+◌, ◌≤◌, ◌<◌, ◌&&◌, not, MatchOption};
 ghost use Rattle.std.specs.List.{list_any};
-ghost use Rattle.nvme_arbiter.specs.Specified.{is_of_level, has_credit};
+ghost use Rattle.nvme_arbiter.specs.Observation.{class_in};
+ghost use Rattle.nvme_arbiter.specs.Specified.{is_of_level, has_credit, starts_round};
 ghost use Rattle.nvme_arbiter.specs.Standing.{used_before, used_with};
 ghost use Rattle.nvme_arbiter.specs.Settings.{weight_of, IsLevel};
+ghost use Rattle.nvme_judge.specs.Standing.{left_of};
 ghost use Rattle.nvme_judge.specs.inside.Steps.{taken_of, IsWithinWeights};
 
 use nvme_arbiter::{Class, Pick, Seen, Settings, Used, class_in};
@@ -116,6 +118,24 @@ impl Round {
             Round::new(self.settings).used
         } else {
             self.used
+        }
+    }
+
+    /// How many commands of the level of a pick are left in its round. `None` for a pick of no level.
+    pub fn left(&self, seen: &[Seen], pick: &Pick) -> Option<u16>
+        ensures { result ≡ left_of self.now.settings (used_before (starts_round self.now.settings self.now.used seen.now pick.now) self.now.used) (class_in seen.now pick.now.qid) }
+    {
+        let class = class_in(seen, pick.qid);
+        let used = self.used_before(seen, class);
+        match class {
+            None | Some(Class::Admin | Class::Urgent) => None,
+            Some(Class::High) => Some(self.settings.weight(Class::High).saturating_sub(used.high)),
+            Some(Class::Medium) => Some(
+                self.settings
+                    .weight(Class::Medium)
+                    .saturating_sub(used.medium),
+            ),
+            Some(Class::Low) => Some(self.settings.weight(Class::Low).saturating_sub(used.low)),
         }
     }
 

@@ -1,0 +1,8 @@
+use Rattle.std.proofs.Common.{sym, subst}
+use Rattle.nvme_judge.specs.Standing.{JudgeStandsAt}
+use Rattle.nvme_judge.proofs.RoundLemmas.{left_by}
+use Rattle.nvme_judge.proofs.judge.RuleJudge.left.Goals as goal
+
+pub returns-in-Weighted : goal.returns-in-Weighted
+returns-in-Weighted c = λ m first past stands.
+    left_by m first past c.args.seen.now c.args.pick.now _ c.left.result (subst (JudgeStandsAt m first past) (sym c.self.view_is) stands) c.in-Weighted.is c.left.ensures
