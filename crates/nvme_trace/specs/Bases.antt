@@ -4,7 +4,7 @@ use Rattle.nvme_arbiter.specs.History.{ArbitrationEvent, Picked, Changed, Histor
 use Rattle.nvme_arbiter.specs.Standing.{StandsAt}
 use Rattle.nvme_arbiter.specs.Specified.{IsSpecifiedPick, IsSpecifiedRun}
 use Rattle.nvme_arbiter.specs.declared.pick.Seen.{Seen}
-use Rattle.nvme_judge.specs.Standing.{JudgeStandsAt, IsFirstBroken}
+use Rattle.nvme_judge.specs.Standing.{JudgeStandsAt, IsFirstBroken, weight_left}
 use Rattle.nvme_trace.specs.Taken.{IsTakenRun}
 use Rattle.nvme_trace.specs.Judged.{IsTakenEvent, IsFinding, count_in}
 use Rattle.nvme_trace.specs.declared.basis.Basis.{Basis}
@@ -39,6 +39,8 @@ pub record IsBreach (head : Head) (past : History) (event : ArbitrationEvent) (b
   pub mechanism_is : breach.mechanism ≡ head.mechanism
   pub settings_are : breach.settings ≡ settings_after head.settings past
   pub waiting_is : breach.waiting ≡ count_in seen breach.picked.qid
+  -- how many commands of its level are left in its round
+  pub left_is : breach.left ≡ weight_left head.mechanism head.settings past seen breach.picked
   -- the first rule that it breaks
   pub broken : IsFirstBroken head.mechanism head.settings past seen breach.picked breach.rule
 

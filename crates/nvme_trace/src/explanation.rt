@@ -208,15 +208,31 @@ fn sentence_of(rule: Rule) -> &'static str {
     }
 }
 
-// Writes how many commands a pick of a queue may take at most, whatever its level has left.
-fn put_limits<W: fmt::Write>(breach: &Breach, f: &mut fmt::Formatter<W>) -> fmt::Result {
-    let Some(waiting) = breach.waiting else {
-        let qid = breach.picked.qid;
-        return write!(f, "\nnumber: nothing, since q{qid} isn't seen");
-    };
+// Writes the numbers that a pick of a queue may take, which are bound by what waits and by what its level has left.
+fn put_range<W: fmt::Write>(
+    breach: &Breach,
+    waiting: u16,
+    f: &mut fmt::Formatter<W>,
+) -> fmt::Result {
     write!(f, "\nnumber: n is from 1 to the least of ")?;
     put_bound("burst", breach.settings.burst(), f)?;
-    write!(f, "waiting {waiting}")
+    write!(f, "waiting {waiting}")?;
+    match breach.left {
+        Some(left) => write!(f, ", weight left {left}"),
+        None => Ok(()),
+    }
+}
+
+// Writes how many commands a pick of a queue may take. Where the queue itself is the wrong one, no number helps.
+fn put_limits<W: fmt::Write>(breach: &Breach, f: &mut fmt::Formatter<W>) -> fmt::Result {
+    let qid = breach.picked.qid;
+    match (breach.rule, breach.waiting, breach.left) {
+        (Rule::Priority | Rule::Turn, _, _) => Ok(()),
+        (_, None, _) => write!(f, "\nnumber: nothing, since q{qid} isn't seen"),
+        (_, Some(0), _) => write!(f, "\nnumber: nothing, since nothing waits in q{qid}"),
+        (_, _, Some(0)) => write!(f, "\nnumber: nothing, since its level has no weight left"),
+        (_, Some(waiting), _) => put_range(breach, waiting, f),
+    }
 }
 
 // Writes what was picked, and the rule that it breaks.

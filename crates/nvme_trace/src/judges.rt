@@ -27,6 +27,8 @@ pub struct Breach {
     pub settings: Settings,
     /// How many commands wait in its queue, where that is seen.
     pub waiting: Option<u16>,
+    /// How many commands of its level are left in its round, where it is of one.
+    pub left: Option<u16>,
     /// The first rule that it breaks.
     pub rule: Rule,
 }
@@ -62,6 +64,7 @@ fn judge_by_rules(judge: &mut RuleJudge, event: &TraceEvent) -> Option<Breach>
                 mechanism: judge.mechanism(),
                 settings: judge.settings(),
                 waiting: count_in(seen, pick.qid),
+                left: judge.left(seen, pick),
                 rule,
             }),
             None => None,
