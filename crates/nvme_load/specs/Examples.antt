@@ -1,0 +1,62 @@
+-- Worked examples of the definitions. (profile)
+use Rattle.std.specs.Prelude.{◌≡◌, ℕ, List, [], ◌∷◌, Some, None}
+use Rattle.std.proofs.Common.{lit<, lit≤}
+use Rattle.nvme_clock.specs.Examples.{words}
+use Rattle.nvme_clock.specs.declared.draws.TwoPoints.{TwoPoints as Points}
+use Rattle.nvme_clock.specs.declared.quantiles.Quantiles.{Quantiles as Table}
+use Rattle.nvme_clock.specs.Quantiles.{values_of}
+use Rattle.nvme_load.specs.declared.mean.Mean.{Mean}
+use Rattle.nvme_load.specs.declared.mix.Operation.TheVariants.{Read, Write, Flush}
+use Rattle.nvme_load.specs.declared.services.Distribution.TheVariants.{Fixed, Exponential, TwoPoints, Quantiles}
+use Rattle.nvme_load.specs.declared.services.Service.{Service}
+use Rattle.nvme_load.specs.declared.services.Services.{Services}
+use Rattle.nvme_load.specs.Mixes.{operation}
+use Rattle.nvme_load.specs.Services.{service_by, service_of, time_of}
+
+-- seven of ten commands read, two write and one flushes; the words below 2^64 - 6 are accepted
+pub record MixExamples : Type 0 where
+  pub last_read : (operation 7 2 1 (words (6 ∷ []))).0 ≡ Read
+  pub first_write : (operation 7 2 1 (words (7 ∷ []))).0 ≡ Write
+  pub last_write : (operation 7 2 1 (words (8 ∷ []))).0 ≡ Write
+  pub flush : (operation 7 2 1 (words (9 ∷ []))).0 ≡ Flush
+  pub next_round : (operation 7 2 1 (words (10 ∷ []))).0 ≡ Read
+  pub last_accepted : (operation 7 2 1 (words (0xffff_ffff_ffff_fff9 ∷ []))).0 ≡ Flush
+  pub rejected : (operation 7 2 1 (words (0xffff_ffff_ffff_fffa ∷ 8 ∷ []))).0 ≡ Write
+  pub next_command : (operation 7 2 1 (operation 7 2 1 (words (6 ∷ 9 ∷ []))).1).0 ≡ Flush
+  pub no_reads : (operation 0 2 1 (words (0 ∷ []))).0 ≡ Write
+  pub flushes_alone : (operation 0 0 3 (words (0 ∷ []))).0 ≡ Flush
+
+abbrev pub mean : Mean
+mean = record { picoseconds = 100_000; some = lit< tt; at_most = lit≤ tt }
+
+abbrev pub points : Points
+points = record { usual = 80; rare = 2000; times = 5; out_of = 100; some = lit< tt }
+
+abbrev pub fixed : Service
+fixed = record { time = Fixed 80; per_block = 5 }
+
+abbrev pub longest : Service
+longest = record { time = Fixed 0xffff_ffff_ffff_fff0; per_block = 5 }
+
+abbrev pub two_points : Service
+two_points = record { time = TwoPoints points; per_block = 1 }
+
+abbrev pub device : Services
+device = record { read = fixed; write = two_points; flush = Fixed 1000 }
+
+-- 2^63 is a half, and 2^62 a quarter
+pub record ServiceExamples : Type 0 where
+  pub fixed_time : (service_of fixed 8 (words (7 ∷ []))).0 ≡ Some 120
+  pub fixed_draws_nothing : (service_of fixed 8 (words (7 ∷ []))).1 ≡ words (7 ∷ [])
+  pub exponential_time : (service_of (record { time = Exponential mean; per_block = 5 }) 8
+      (words (0x8000_0000_0000_0000 ∷ 0x8000_0000_0000_0000 ∷ []))).0 ≡ Some 50_040
+  pub usual : (service_of two_points 8 (words (5 ∷ []))).0 ≡ Some 88
+  pub rare : (service_of two_points 8 (words (4 ∷ []))).0 ≡ Some 2008
+  pub next_draw : (service_of two_points 8 (service_of two_points 8 (words (5 ∷ 104 ∷ []))).1).0 ≡ Some 2008
+  pub from_quantiles : (table : Table) → values_of table ≡ 10 ∷ 20 ∷ 40 ∷ []
+      → (time_of (Quantiles table) (words (0x4000_0000_0000_0000 ∷ []))).0 ≡ 15
+  pub longest_time : (service_of longest 3 (words [])).0 ≡ Some 0xffff_ffff_ffff_ffff
+  pub too_long : (service_of longest 4 (words [])).0 ≡ None
+  pub read : (service_by device Read 8 (words (4 ∷ []))).0 ≡ Some 120
+  pub write : (service_by device Write 8 (words (4 ∷ []))).0 ≡ Some 2008
+  pub flush : (service_by device Flush 8 (words (4 ∷ []))).0 ≡ Some 1000

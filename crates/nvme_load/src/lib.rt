@@ -1,0 +1,15 @@
+//! What a queue asks of a device and how long the device takes, as functions of what they are given and of random streams.
+//! Times are whole picoseconds. No clock is read, and there is no float.
+#![tactic(auto)]
+
+pub mod laws;
+mod mean;
+mod mix;
+mod services;
+
+pub use mean::{Mean, MeanFault};
+pub use mix::{Mix, MixFault, Operation};
+pub use services::{Distribution, Service, Services};
+
+#[cfg(test)]
+mod tests;

@@ -1,0 +1,105 @@
+// The bounds of the sums are four standard errors around what the distributions have.
+use crate::{Distribution, Mean, MeanFault, Mix, MixFault, Operation, Service, Services};
+use nvme_clock::{Purpose, Quantiles, TwoPoints, stream};
+use std::test::Fail;
+
+#[test]
+fn mixes_have_their_shares(rt: HostRuntime) -> Result<(), Fail> {
+    let mix = Mix::new(7, 2, 1)?;
+    let mut rng = stream(7, 0, Purpose::Sizes);
+    let mut reads = 0u64;
+    let mut writes = 0u64;
+    let mut flushes = 0u64;
+    for _ in 0..10_000 {
+        match mix.draw(&mut rng) {
+            Operation::Read => reads = reads.saturating_add(1),
+            Operation::Write => writes = writes.saturating_add(1),
+            Operation::Flush => flushes = flushes.saturating_add(1),
+        }
+    }
+    assert!(rt; 6_817 <= reads && reads <= 7_183);
+    assert!(rt; 1_840 <= writes && writes <= 2_160);
+    assert!(rt; 880 <= flushes && flushes <= 1_120);
+    Ok(())
+}
+
+// The sum of 10,000 service times of commands with 8 blocks, where each fits.
+fn sum_of(services: &Services, operation: Operation) -> Option<u64> {
+    let mut rng = stream(7, 0, Purpose::Services);
+    let mut sum = 0u64;
+    for _ in 0..10_000 {
+        let Some(time) = services.draw(&mut rng, operation, 8) else {
+            return None;
+        };
+        sum = sum.saturating_add(time);
+    }
+    Some(sum)
+}
+
+#[test]
+fn services_spread_as_they_should(rt: HostRuntime) -> Result<(), Fail> {
+    let services = Services {
+        read: Service {
+            time: Distribution::Exponential(Mean::new(100_000)?),
+            per_block: 500,
+        },
+        write: Service {
+            time: Distribution::TwoPoints(TwoPoints {
+                usual: 80,
+                rare: 2000,
+                times: 5,
+                out_of: 100,
+            }),
+            per_block: 3,
+        },
+        flush: Distribution::Quantiles(Quantiles::new(vec![in rt.alloc(); 10, 20, 40]?)?),
+    };
+    assert!(rt;
+        matches!(
+            sum_of(&services, Operation::Read),
+            Some(1_000_000_000..=1_080_000_000)
+        )
+    );
+    assert!(rt;
+        matches!(
+            sum_of(&services, Operation::Write),
+            Some(1_832_615..=2_167_385)
+        )
+    );
+    assert!(rt; matches!(sum_of(&services, Operation::Flush), Some(216_490..=223_510)));
+    Ok(())
+}
+
+#[test]
+fn times_that_do_not_fit(rt: HostRuntime) {
+    let service = Service {
+        time: Distribution::Fixed(1),
+        per_block: u64::MAX,
+    };
+    let mut rng = stream(7, 0, Purpose::Services);
+    assert_eq!(rt; service.draw(&mut rng, 0), Some(1));
+    assert_eq!(rt; service.draw(&mut rng, 1), None);
+    assert_eq!(rt; service.draw(&mut rng, 2), None);
+}
+
+#[test]
+fn faults_read_well(rt: HostRuntime) -> Result<(), Fail> {
+    assert_eq!(rt; Mix::new(0, 0, 0), Err(MixFault::NoShare));
+    assert!(rt; Mix::new(0, 0, 1).is_ok());
+    let told = format!(in rt.alloc(); "{}", MixFault::NoShare)?;
+    assert_eq!(rt;
+        told.as_str(),
+        "expected a share of reads, writes or flushes above 0"
+    );
+    assert_eq!(rt; Mean::new(0), Err(MeanFault::Zero));
+    let told = format!(in rt.alloc(); "{}", MeanFault::Zero)?;
+    assert_eq!(rt; told.as_str(), "expected a mean above 0");
+    assert!(rt; Mean::new(0x03ff_ffff_ffff_ffff).is_ok());
+    assert_eq!(rt; Mean::new(0x0400_0000_0000_0000), Err(MeanFault::TooLong));
+    let told = format!(in rt.alloc(); "{}", MeanFault::TooLong)?;
+    assert_eq!(rt;
+        told.as_str(),
+        "expected a mean of at most 288230376151711743 picoseconds, which are 3.3 days"
+    );
+    Ok(())
+}
