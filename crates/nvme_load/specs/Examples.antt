@@ -5,12 +5,16 @@ use Rattle.nvme_clock.specs.Examples.{words}
 use Rattle.nvme_clock.specs.declared.draws.TwoPoints.{TwoPoints as Points}
 use Rattle.nvme_clock.specs.declared.quantiles.Quantiles.{Quantiles as Table}
 use Rattle.nvme_clock.specs.Quantiles.{values_of}
+use Rattle.nvme_load.specs.declared.arrivals.Arrivals.{Arrivals}
+use Rattle.nvme_load.specs.declared.arrivals.Arrivals.TheVariants.{Poisson, Regular, OnOff, Closed}
 use Rattle.nvme_load.specs.declared.mean.Mean.{Mean}
 use Rattle.nvme_load.specs.declared.mix.Operation.TheVariants.{Read, Write, Flush}
 use Rattle.nvme_load.specs.declared.services.Distribution.TheVariants.{Fixed, Exponential, TwoPoints, Quantiles}
 use Rattle.nvme_load.specs.declared.services.Service.{Service}
 use Rattle.nvme_load.specs.declared.services.Services.{Services}
+use Rattle.nvme_load.specs.Arrivals.{at_start, next_after}
 use Rattle.nvme_load.specs.Mixes.{operation}
+use Rattle.nvme_load.specs.Phases.{on_before, when_on}
 use Rattle.nvme_load.specs.Services.{service_by, service_of, time_of}
 
 -- seven of ten commands read, two write and one flushes; the words below 2^64 - 6 are accepted
@@ -60,3 +64,44 @@ pub record ServiceExamples : Type 0 where
   pub read : (service_by device Read 8 (words (4 ∷ []))).0 ≡ Some 120
   pub write : (service_by device Write 8 (words (4 ∷ []))).0 ≡ Some 2008
   pub flush : (service_by device Flush 8 (words (4 ∷ []))).0 ≡ Some 1000
+
+-- on for three picoseconds, and off for two
+abbrev pub on_off : Arrivals
+on_off = OnOff (record { mean = record { picoseconds = 4; some = lit< tt; at_most = lit≤ tt }; on = 3; off = 2; some = lit< tt; fits = lit< tt })
+
+abbrev pub closed : Arrivals
+closed = Closed (record { depth = 4; think = 9; some = lit< tt })
+
+abbrev pub regular : Arrivals
+regular = Regular (record { picoseconds = 7; some = lit< tt })
+
+-- the words of a half of the mean, and of a quarter
+abbrev pub half : List ℕ
+half = 0x8000_0000_0000_0000 ∷ 0x8000_0000_0000_0000 ∷ []
+
+abbrev pub quarter : List ℕ
+quarter = 0x4000_0000_0000_0000 ∷ 0x8000_0000_0000_0000 ∷ []
+
+pub record ArrivalExamples : Type 0 where
+  pub on_before_first : on_before 3 2 2 ≡ 2
+  pub on_before_off : on_before 3 2 3 ≡ 3
+  pub on_before_second : on_before 3 2 5 ≡ 3
+  pub on_before_later : on_before 3 2 6 ≡ 4
+  pub on_at_first : when_on 3 2 0 ≡ 0
+  pub on_at_second : when_on 3 2 3 ≡ 5
+  pub on_at_later : when_on 3 2 7 ≡ 11
+  pub within_phase : (next_after on_off 1 (words quarter)).0 ≡ Some 2
+  pub at_next_phase : (next_after on_off 1 (words half)).0 ≡ Some 5
+  pub within_next_phase : (next_after on_off 2 (words half)).0 ≡ Some 6
+  pub from_off_phase : (next_after on_off 4 (words half)).0 ≡ Some 7
+  pub on_off_next : (next_after on_off 1 (next_after on_off 1 (words (0x4000_0000_0000_0000 ∷ 0x8000_0000_0000_0000 ∷ half))).1).0 ≡ Some 5
+  pub poisson : (next_after (Poisson mean) 10 (words quarter)).0 ≡ Some 25_010
+  pub poisson_next : (next_after (Poisson mean) 10 (next_after (Poisson mean) 10 (words (0x4000_0000_0000_0000 ∷ 0x8000_0000_0000_0000 ∷ half))).1).0 ≡ Some 50_010
+  pub every_seventh : (next_after regular 10 (words (5 ∷ []))).0 ≡ Some 17
+  pub regular_draws_nothing : (next_after regular 10 (words (5 ∷ []))).1 ≡ words (5 ∷ [])
+  pub last_time : (next_after regular 0xffff_ffff_ffff_fff8 (words [])).0 ≡ Some 0xffff_ffff_ffff_ffff
+  pub too_late : (next_after regular 0xffff_ffff_ffff_fff9 (words [])).0 ≡ None
+  pub think : (next_after closed 10 (words (5 ∷ []))).0 ≡ Some 19
+  pub think_draws_nothing : (next_after closed 10 (words (5 ∷ []))).1 ≡ words (5 ∷ [])
+  pub depth_at_start : at_start closed ≡ 4
+  pub none_at_start : at_start on_off ≡ 0

@@ -1,5 +1,9 @@
+pub mod Arrivals
+pub mod Counts
 pub mod Examples
 pub mod Means
 pub mod Mixes
+pub mod Phases
 pub mod Services
 pub mod Shares
+pub mod Times

@@ -1,5 +1,5 @@
 -- How long a device takes for a command. (profile)
-use Rattle.std.specs.Prelude.{ℕ, ◌+◌, ◌*◌, nat_lt, if◌then◌else◌, Option, Some, None}
+use Rattle.std.specs.Prelude.{ℕ, ◌+◌, ◌*◌, Option, Some}
 use Rattle.rand_core.specs.Stream.{Stream}
 use Rattle.nvme_clock.specs.Draws.{drawn_from, exponential, one_of_two}
 use Rattle.nvme_clock.specs.Quantiles.{values_of}
@@ -9,16 +9,13 @@ use Rattle.nvme_load.specs.declared.services.Distribution.{Distribution}
 use Rattle.nvme_load.specs.declared.services.Distribution.TheVariants.{Fixed, Exponential, TwoPoints, Quantiles}
 use Rattle.nvme_load.specs.declared.services.Service.{Service}
 use Rattle.nvme_load.specs.declared.services.Services.{Services}
+use Rattle.nvme_load.specs.Times.{fitting}
 
 abbrev pub time_of : Distribution → Stream → ℕ × Stream
 time_of (Fixed time) s = (time, s)
 time_of (Exponential mean) s = exponential mean.picoseconds s
 time_of (TwoPoints points) s = one_of_two points.usual points.rare points.times points.out_of s
 time_of (Quantiles table) s = drawn_from (values_of table) s
-
--- a time, where it has 64 bits
-abbrev pub fitting : ℕ → Option ℕ
-fitting time = if nat_lt time 0x1_0000_0000_0000_0000 then Some time else None
 
 -- a time for the command, and one for each of its blocks
 abbrev pub service_of : Service → ℕ → Stream → Option ℕ × Stream

@@ -1,14 +1,10 @@
 -- How many of the words that a draw accepts draw each operation. (profile)
-use Rattle.std.specs.Prelude.{◌≡◌, ℕ, zero, suc, ◌+◌, ◌*◌, ◌/◌, ◌%◌, Bool, true, false, if◌then◌else◌}
+use Rattle.std.specs.Prelude.{◌≡◌, ℕ, ◌+◌, ◌*◌, ◌/◌, ◌%◌, Bool, true, false}
 use Rattle.nvme_clock.specs.Draws.{accepted_below}
 use Rattle.nvme_load.specs.declared.mix.Operation.{Operation}
 use Rattle.nvme_load.specs.declared.mix.Operation.TheVariants.{Read, Write, Flush}
+use Rattle.nvme_load.specs.Counts.{count_below}
 use Rattle.nvme_load.specs.Mixes.{operation_at}
-
--- how many of the numbers below n pass a test
-unfoldable pub count_below : (ℕ → Bool) → ℕ → ℕ
-count_below test zero = 0
-count_below test (suc n) = count_below test n + (if test n then 1 else 0)
 
 abbrev pub is_read : Operation → Bool
 is_read Read = true

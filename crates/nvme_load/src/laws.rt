@@ -1,7 +1,8 @@
 //! Laws over the definitions alone, worked examples among them. Each function does nothing: its contract is the law.
 ghost use Rattle.std.specs.Prelude.{◌<◌, ◌+◌, ℕ};
+ghost use Rattle.nvme_load.specs.Phases.{ComesWhereOn};
 ghost use Rattle.nvme_load.specs.Shares.{HasItsShares};
-ghost use Rattle.nvme_load.specs.Examples.{MixExamples, ServiceExamples};
+ghost use Rattle.nvme_load.specs.Examples.{ArrivalExamples, MixExamples, ServiceExamples};
 
 /// Operations that streams of given words draw.
 pub fn worked_mixes()
@@ -16,4 +17,14 @@ pub fn mixes_have_their_shares()
 /// Service times that streams of given words draw.
 pub fn worked_services()
     ensures { ServiceExamples }
+{}
+
+/// When commands come, by streams of given words.
+pub fn worked_arrivals()
+    ensures { ArrivalExamples }
+{}
+
+/// Where times pass in on phases alone, a command comes where it is on, and just so long it was on before.
+pub fn commands_come_where_it_is_on()
+    ensures { (on off length : ℕ) → 0 < on → ComesWhereOn on off length }
 {}

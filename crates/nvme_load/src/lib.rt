@@ -2,13 +2,17 @@
 //! Times are whole picoseconds. No clock is read, and there is no float.
 #![tactic(auto)]
 
+mod arrivals;
 pub mod laws;
 mod mean;
 mod mix;
+mod phases;
 mod services;
 
+pub use arrivals::{Arrivals, ArrivalsFault, Closed, Gap};
 pub use mean::{Mean, MeanFault};
 pub use mix::{Mix, MixFault, Operation};
+pub use phases::{Phases, PhasesFault};
 pub use services::{Distribution, Service, Services};
 
 #[cfg(test)]

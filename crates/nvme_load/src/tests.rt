@@ -1,5 +1,8 @@
 // The bounds of the sums are four standard errors around what the distributions have.
-use crate::{Distribution, Mean, MeanFault, Mix, MixFault, Operation, Service, Services};
+use crate::{
+    Arrivals, ArrivalsFault, Closed, Distribution, Gap, Mean, MeanFault, Mix, MixFault, Operation,
+    Phases, PhasesFault, Service, Services,
+};
 use nvme_clock::{Purpose, Quantiles, TwoPoints, stream};
 use std::test::Fail;
 
@@ -82,6 +85,46 @@ fn times_that_do_not_fit(rt: HostRuntime) {
     assert_eq!(rt; service.draw(&mut rng, 2), None);
 }
 
+// When the last of 10,000 commands comes, and how many come behind the first picosecond million of each five.
+fn last_of(arrivals: &Arrivals) -> Option<(u64, u64)> {
+    let mut rng = stream(7, 0, Purpose::Arrivals);
+    let mut time = 0u64;
+    let mut late = 0u64;
+    for _ in 0..10_000 {
+        let Some(at) = arrivals.next_after(time, &mut rng) else {
+            return None;
+        };
+        time = at;
+        late = late.saturating_add(u64::from(at % 5_000_000 >= 1_000_000));
+    }
+    Some((time, late))
+}
+
+#[test]
+fn commands_come_as_often_as_they_should(rt: HostRuntime) -> Result<(), Fail> {
+    let mean = Mean::new(100_000)?;
+    let poisson = last_of(&Arrivals::Poisson(mean));
+    assert!(rt; matches!(poisson, Some((960_000_000..=1_040_000_000, 7_830..=8_170))));
+    let on_off = last_of(&Arrivals::OnOff(Phases::new(mean, 1_000_000, 4_000_000)?));
+    assert!(rt; matches!(on_off, Some((4_800_000_000..=5_200_000_000, 0))));
+    let regular = last_of(&Arrivals::Regular(Gap::new(500_000)?));
+    assert_eq!(rt; regular, Some((5_000_000_000, 8_000)));
+    Ok(())
+}
+
+#[test]
+fn commands_that_come_too_late(rt: HostRuntime) -> Result<(), Fail> {
+    let mut rng = stream(7, 0, Purpose::Arrivals);
+    let mean = Mean::new(0x03ff_ffff_ffff_ffff)?;
+    let poisson = Arrivals::Poisson(mean);
+    assert_eq!(rt; poisson.next_after(u64::MAX, &mut rng), None);
+    let long_phases = Arrivals::OnOff(Phases::new(mean, 1 << 63, 1 << 62)?);
+    assert_eq!(rt; long_phases.next_after(u64::MAX, &mut rng), None);
+    let short_phases = Arrivals::OnOff(Phases::new(mean, 1, 1_000_000)?);
+    assert_eq!(rt; short_phases.next_after(0, &mut rng), None);
+    Ok(())
+}
+
 #[test]
 fn faults_read_well(rt: HostRuntime) -> Result<(), Fail> {
     assert_eq!(rt; Mix::new(0, 0, 0), Err(MixFault::NoShare));
@@ -100,6 +143,28 @@ fn faults_read_well(rt: HostRuntime) -> Result<(), Fail> {
     assert_eq!(rt;
         told.as_str(),
         "expected a mean of at most 288230376151711743 picoseconds, which are 3.3 days"
+    );
+    assert_eq!(rt; Gap::new(0), Err(ArrivalsFault::NoGap));
+    let told = format!(in rt.alloc(); "{}", ArrivalsFault::NoGap)?;
+    assert_eq!(rt; told.as_str(), "expected a gap above 0");
+    assert_eq!(rt; Closed::new(0, 5), Err(ArrivalsFault::NoDepth));
+    let told = format!(in rt.alloc(); "{}", ArrivalsFault::NoDepth)?;
+    assert_eq!(rt; told.as_str(), "expected a depth above 0");
+    Ok(())
+}
+
+#[test]
+fn faults_of_phases_read_well(rt: HostRuntime) -> Result<(), Fail> {
+    let mean = Mean::new(1)?;
+    assert_eq!(rt; Phases::new(mean, 0, u64::MAX), Err(PhasesFault::NoOn));
+    let told = format!(in rt.alloc(); "{}", PhasesFault::NoOn)?;
+    assert_eq!(rt; told.as_str(), "expected on phases longer than 0");
+    assert!(rt; Phases::new(mean, 1, u64::MAX - 1).is_ok());
+    assert_eq!(rt; Phases::new(mean, 1, u64::MAX), Err(PhasesFault::TooLong));
+    let told = format!(in rt.alloc(); "{}", PhasesFault::TooLong)?;
+    assert_eq!(rt;
+        told.as_str(),
+        "expected an on and an off phase of less than 2^64 picoseconds together, which are 213 days"
     );
     Ok(())
 }

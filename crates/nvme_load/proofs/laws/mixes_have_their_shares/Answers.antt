@@ -1,4 +1,4 @@
-use Rattle.nvme_load.proofs.Counts.{fair}
+use Rattle.nvme_load.proofs.Shares.{fair}
 use Rattle.nvme_load.proofs.laws.mixes_have_their_shares.Goals as goal
 
 pub returns : goal.returns

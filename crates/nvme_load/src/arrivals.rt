@@ -1,0 +1,101 @@
+// When the commands of a queue come.
+ghost use Rattle.std.specs.Prelude.{◌≡◌, ◌≤◌, ◌<◌, IfErr, IfOk, IfSome};
+
+use crate::mean::Mean;
+use crate::phases::Phases;
+use rand_core::Rng;
+use thiserror::Error;
+
+/// Why a gap or a depth is refused.
+#[derive(Clone, Copy, Debug, PartialEq, Eq, Error)]
+pub enum ArrivalsFault {
+    /// No time passes between commands.
+    #[error("expected a gap above 0")]
+    NoGap,
+    /// No command may be out.
+    #[error("expected a depth above 0")]
+    NoDepth,
+}
+
+/// The time between commands that come regularly.
+#[derive(Clone, Copy, Debug, PartialEq, Eq)]
+pub struct Gap {
+    pub picoseconds: u64,
+    ghost some: { 0 < picoseconds },
+}
+
+impl Gap {
+    /// A gap of so many picoseconds, which are above 0.
+    pub fn new(picoseconds: u64) -> Result<Gap, ArrivalsFault>
+        ensures ok { IfOk result (λ g. g.picoseconds ≡ picoseconds) }
+        ensures err { IfErr result (λ e. (e ≡ ArrivalsFault.NoGap) × (picoseconds ≡ 0)) }
+    {
+        if picoseconds == 0 {
+            return Err(ArrivalsFault::NoGap);
+        }
+        Ok(Gap { picoseconds })
+    }
+}
+
+/// A host that has so many commands out, and thinks so long between a completion and its next command.
+#[derive(Clone, Copy, Debug, PartialEq, Eq)]
+pub struct Closed {
+    pub depth: u32,
+    pub think: u64,
+    ghost some: { 0 < depth },
+}
+
+impl Closed {
+    /// A host of this depth, which is above 0.
+    pub fn new(depth: u32, think: u64) -> Result<Closed, ArrivalsFault>
+        ensures depth { IfOk result (λ c. c.depth ≡ depth) }
+        ensures think { IfOk result (λ c. c.think ≡ think) }
+        ensures err { IfErr result (λ e. (e ≡ ArrivalsFault.NoDepth) × (depth ≡ 0)) }
+    {
+        if depth == 0 {
+            return Err(ArrivalsFault::NoDepth);
+        }
+        Ok(Closed { depth, think })
+    }
+}
+
+/// When the commands of a queue come.
+#[derive(Clone, Copy, Debug, PartialEq, Eq)]
+pub enum Arrivals {
+    /// At exponential times one after another.
+    Poisson(Mean),
+    /// At equal times one after another.
+    Regular(Gap),
+    /// At exponential times one after another, which pass in on phases alone.
+    OnOff(Phases),
+    /// So many at time 0, and one behind each completion.
+    Closed(Closed),
+}
+
+impl Arrivals {
+    ghost use Rattle.nvme_load.specs.Arrivals.{at_start, next_after};
+
+    /// How many commands come at time 0 at once. Where none does, the first one comes `next_after` time 0.
+    pub fn at_start(&self) -> u32
+        ensures { result ≡ at_start self.now }
+    {
+        match self {
+            Arrivals::Closed(host) => host.depth,
+            _ => 0,
+        }
+    }
+
+    /// When a command comes behind one that came at this time, or of a closed host behind a completion at this time. None
+    /// where it is 2^64 picoseconds or later.
+    pub fn next_after<R: Rng>(&self, time: u64, rng: &mut R) -> Option<u64>
+        ensures value { (result, R.stream rng.new) ≡ next_after self.now time (R.stream rng.old) }
+        ensures forward { IfSome result (λ at. time ≤ at) }
+    {
+        match self {
+            Arrivals::Poisson(mean) => time.checked_add(mean.draw(rng)),
+            Arrivals::Regular(gap) => time.checked_add(gap.picoseconds),
+            Arrivals::OnOff(phases) => phases.next_after(time, rng),
+            Arrivals::Closed(host) => time.checked_add(host.think),
+        }
+    }
+}
