@@ -9,12 +9,14 @@ use Rattle.nvme_load.specs.declared.arrivals.Arrivals.{Arrivals}
 use Rattle.nvme_load.specs.declared.arrivals.Arrivals.TheVariants.{Poisson, Regular, OnOff, Closed}
 use Rattle.nvme_load.specs.declared.mean.Mean.{Mean}
 use Rattle.nvme_load.specs.declared.mix.Operation.TheVariants.{Read, Write, Flush}
+use Rattle.nvme_load.specs.declared.places.Order.TheVariants.{Uniform, Sequential}
 use Rattle.nvme_load.specs.declared.services.Distribution.TheVariants.{Fixed, Exponential, TwoPoints, Quantiles}
 use Rattle.nvme_load.specs.declared.services.Service.{Service}
 use Rattle.nvme_load.specs.declared.services.Services.{Services}
 use Rattle.nvme_load.specs.Arrivals.{at_start, next_after}
 use Rattle.nvme_load.specs.Mixes.{operation}
 use Rattle.nvme_load.specs.Phases.{on_before, when_on}
+use Rattle.nvme_load.specs.Places.{place, sequential_place}
 use Rattle.nvme_load.specs.Services.{service_by, service_of, time_of}
 
 -- seven of ten commands read, two write and one flushes; the words below 2^64 - 6 are accepted
@@ -46,7 +48,7 @@ abbrev pub two_points : Service
 two_points = record { time = TwoPoints points; per_block = 1 }
 
 abbrev pub device : Services
-device = record { read = fixed; write = two_points; flush = Fixed 1000 }
+device = record { read = fixed; write = two_points; flush = TwoPoints points }
 
 -- 2^63 is a half, and 2^62 a quarter
 pub record ServiceExamples : Type 0 where
@@ -54,16 +56,20 @@ pub record ServiceExamples : Type 0 where
   pub fixed_draws_nothing : (service_of fixed 8 (words (7 ∷ []))).1 ≡ words (7 ∷ [])
   pub exponential_time : (service_of (record { time = Exponential mean; per_block = 5 }) 8
       (words (0x8000_0000_0000_0000 ∷ 0x8000_0000_0000_0000 ∷ []))).0 ≡ Some 50_040
+  pub exponential_next : (time_of (TwoPoints points)
+      (time_of (Exponential mean) (words (0x8000_0000_0000_0000 ∷ 0x8000_0000_0000_0000 ∷ 4 ∷ []))).1).0 ≡ 2000
   pub usual : (service_of two_points 8 (words (5 ∷ []))).0 ≡ Some 88
   pub rare : (service_of two_points 8 (words (4 ∷ []))).0 ≡ Some 2008
   pub next_draw : (service_of two_points 8 (service_of two_points 8 (words (5 ∷ 104 ∷ []))).1).0 ≡ Some 2008
   pub from_quantiles : (table : Table) → values_of table ≡ 10 ∷ 20 ∷ 40 ∷ []
       → (time_of (Quantiles table) (words (0x4000_0000_0000_0000 ∷ []))).0 ≡ 15
+  pub quantiles_next : (table : Table) → (time_of (TwoPoints points) (time_of (Quantiles table) (words (7 ∷ 4 ∷ []))).1).0 ≡ 2000
   pub longest_time : (service_of longest 3 (words [])).0 ≡ Some 0xffff_ffff_ffff_ffff
   pub too_long : (service_of longest 4 (words [])).0 ≡ None
   pub read : (service_by device Read 8 (words (4 ∷ []))).0 ≡ Some 120
   pub write : (service_by device Write 8 (words (4 ∷ []))).0 ≡ Some 2008
-  pub flush : (service_by device Flush 8 (words (4 ∷ []))).0 ≡ Some 1000
+  pub flush : (service_by device Flush 8 (words (4 ∷ []))).0 ≡ Some 2000
+  pub flush_next : (service_by device Flush 8 (service_by device Flush 8 (words (4 ∷ 5 ∷ []))).1).0 ≡ Some 80
 
 -- on for three picoseconds, and off for two
 abbrev pub on_off : Arrivals
@@ -104,4 +110,22 @@ pub record ArrivalExamples : Type 0 where
   pub think : (next_after closed 10 (words (5 ∷ []))).0 ≡ Some 19
   pub think_draws_nothing : (next_after closed 10 (words (5 ∷ []))).1 ≡ words (5 ∷ [])
   pub depth_at_start : at_start closed ≡ 4
-  pub none_at_start : at_start on_off ≡ 0
+  pub on_off_start : at_start on_off ≡ 0
+  pub poisson_start : at_start (Poisson mean) ≡ 0
+  pub regular_start : at_start regular ≡ 0
+
+-- of 100 blocks, twelve commands of eight blocks fit; the words below 2^64 - 4 are accepted
+pub record PlaceExamples : Type 0 where
+  pub first : (place Uniform 100 8 16 (words (0 ∷ []))).0 ≡ 0
+  pub second : (place Uniform 100 8 16 (words (13 ∷ []))).0 ≡ 8
+  pub last : (place Uniform 100 8 16 (words (11 ∷ []))).0 ≡ 88
+  pub rejected : (place Uniform 100 8 16 (words (0xffff_ffff_ffff_fffc ∷ 2 ∷ []))).0 ≡ 16
+  pub next_draw : (place Uniform 100 8 16 (place Uniform 100 8 16 (words (0 ∷ 3 ∷ []))).1).0 ≡ 24
+  pub behind : (place Sequential 100 8 16 (words (3 ∷ []))).0 ≡ 16
+  pub draws_nothing : (place Sequential 100 8 16 (words (3 ∷ []))).1 ≡ words (3 ∷ [])
+  pub just_fits : (place Sequential 100 8 92 (words [])).0 ≡ 92
+  pub wraps : (place Sequential 100 8 93 (words [])).0 ≡ 0
+  pub whole_namespace : (place Sequential 8 8 8 (words [])).0 ≡ 0
+  pub begins : sequential_place 100 8 0 ≡ 0
+  pub twelfth : sequential_place 100 8 11 ≡ 88
+  pub thirteenth : sequential_place 100 8 12 ≡ 0

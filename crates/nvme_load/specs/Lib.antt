@@ -4,6 +4,7 @@ pub mod Examples
 pub mod Means
 pub mod Mixes
 pub mod Phases
+pub mod Places
 pub mod Services
 pub mod Shares
 pub mod Times

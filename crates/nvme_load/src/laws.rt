@@ -1,8 +1,9 @@
 //! Laws over the definitions alone, worked examples among them. Each function does nothing: its contract is the law.
-ghost use Rattle.std.specs.Prelude.{◌<◌, ◌+◌, ℕ};
+ghost use Rattle.std.specs.Prelude.{◌≤◌, ◌<◌, ◌+◌, ℕ};
 ghost use Rattle.nvme_load.specs.Phases.{ComesWhereOn};
+ghost use Rattle.nvme_load.specs.Places.{GoesRound};
 ghost use Rattle.nvme_load.specs.Shares.{HasItsShares};
-ghost use Rattle.nvme_load.specs.Examples.{ArrivalExamples, MixExamples, ServiceExamples};
+ghost use Rattle.nvme_load.specs.Examples.{ArrivalExamples, MixExamples, PlaceExamples, ServiceExamples};
 
 /// Operations that streams of given words draw.
 pub fn worked_mixes()
@@ -27,4 +28,14 @@ pub fn worked_arrivals()
 /// Where times pass in on phases alone, a command comes where it is on, and just so long it was on before.
 pub fn commands_come_where_it_is_on()
     ensures { (on off length : ℕ) → 0 < on → ComesWhereOn on off length }
+{}
+
+/// Places that streams of given words draw, and places behind others.
+pub fn worked_places()
+    ensures { PlaceExamples }
+{}
+
+/// Sequential commands go round the namespace.
+pub fn sequential_commands_go_round()
+    ensures { (size blocks : ℕ) → 0 < blocks → blocks ≤ size → GoesRound size blocks }
 {}

@@ -7,12 +7,14 @@ pub mod laws;
 mod mean;
 mod mix;
 mod phases;
+mod places;
 mod services;
 
 pub use arrivals::{Arrivals, ArrivalsFault, Closed, Gap};
 pub use mean::{Mean, MeanFault};
 pub use mix::{Mix, MixFault, Operation};
 pub use phases::{Phases, PhasesFault};
+pub use places::{Extent, ExtentFault, MAX_BLOCKS, Order, Places};
 pub use services::{Distribution, Service, Services};
 
 #[cfg(test)]

@@ -1,7 +1,7 @@
 // The bounds of the sums are four standard errors around what the distributions have.
 use crate::{
-    Arrivals, ArrivalsFault, Closed, Distribution, Gap, Mean, MeanFault, Mix, MixFault, Operation,
-    Phases, PhasesFault, Service, Services,
+    Arrivals, ArrivalsFault, Closed, Distribution, Extent, ExtentFault, Gap, Mean, MeanFault, Mix,
+    MixFault, Operation, Order, Phases, PhasesFault, Places, Service, Services,
 };
 use nvme_clock::{Purpose, Quantiles, TwoPoints, stream};
 use std::test::Fail;
@@ -165,6 +165,62 @@ fn faults_of_phases_read_well(rt: HostRuntime) -> Result<(), Fail> {
     assert_eq!(rt;
         told.as_str(),
         "expected an on and an off phase of less than 2^64 picoseconds together, which are 213 days"
+    );
+    Ok(())
+}
+
+#[test]
+fn uniform_places_are_as_likely(rt: HostRuntime) -> Result<(), Fail> {
+    let mut places = Places::new(Extent::new(100, 8)?, Order::Uniform);
+    let mut rng = stream(7, 0, Purpose::Offsets);
+    let mut sum = 0u64;
+    let mut at_end = 0u64;
+    let mut between = 0u64;
+    for _ in 0..12_000 {
+        let first = places.draw(&mut rng);
+        sum = sum.saturating_add(first);
+        at_end = at_end.saturating_add(u64::from(first == 88));
+        between = between.saturating_add(u64::from(first % 8 != 0));
+    }
+    assert!(rt; 515_903 <= sum && sum <= 540_097);
+    assert!(rt; 879 <= at_end && at_end <= 1_121);
+    assert_eq!(rt; between, 0);
+    Ok(())
+}
+
+#[test]
+fn sequential_places_go_round(rt: HostRuntime) -> Result<(), Fail> {
+    let mut places = Places::new(Extent::new(20, 8)?, Order::Sequential);
+    let mut rng = stream(7, 0, Purpose::Offsets);
+    for first in [0, 8, 0, 8, 0] {
+        assert_eq!(rt; places.draw(&mut rng), first);
+    }
+    Ok(())
+}
+
+#[test]
+fn faults_of_places_read_well(rt: HostRuntime) -> Result<(), Fail> {
+    assert_eq!(rt; Extent::new(100, 0), Err(ExtentFault::NoBlocks));
+    let told = format!(in rt.alloc(); "{}", ExtentFault::NoBlocks)?;
+    assert_eq!(rt;
+        told.as_str(),
+        "expected 1 to 65,536 blocks for each command"
+    );
+    assert!(rt; Extent::new(65_536, 65_536).is_ok());
+    assert_eq!(rt;
+        Extent::new(100_000, 65_537),
+        Err(ExtentFault::TooManyBlocks)
+    );
+    let told = format!(in rt.alloc(); "{}", ExtentFault::TooManyBlocks)?;
+    assert_eq!(rt;
+        told.as_str(),
+        "expected 1 to 65,536 blocks for each command"
+    );
+    assert_eq!(rt; Extent::new(7, 8), Err(ExtentFault::SmallNamespace));
+    let told = format!(in rt.alloc(); "{}", ExtentFault::SmallNamespace)?;
+    assert_eq!(rt;
+        told.as_str(),
+        "expected a namespace with room for one command"
     );
     Ok(())
 }

@@ -29,5 +29,7 @@ returns c = record {
   think = refl;
   think_draws_nothing = refl;
   depth_at_start = refl;
-  none_at_start = refl;
+  on_off_start = refl;
+  poisson_start = refl;
+  regular_start = refl;
 }

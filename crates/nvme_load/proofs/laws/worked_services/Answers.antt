@@ -10,13 +10,16 @@ returns c = record {
   fixed_time = refl;
   fixed_draws_nothing = refl;
   exponential_time = refl;
+  exponential_next = refl;
   usual = refl;
   rare = refl;
   next_draw = refl;
   from_quantiles = λ table is. rw is refl;
+  quantiles_next = λ table. refl;
   longest_time = refl;
   too_long = refl;
   read = refl;
   write = refl;
   flush = refl;
+  flush_next = refl;
 }
