@@ -1,4 +1,4 @@
--- How many numbers pass a test.
+-- How many numbers pass a test. (profile)
 use Rattle.std.specs.Prelude.{ℕ, zero, suc, ◌+◌, Bool, if◌then◌else◌}
 
 -- of the numbers below n

@@ -1,5 +1,5 @@
 // When the commands of a queue come.
-ghost use Rattle.std.specs.Prelude.{◌≡◌, ◌≤◌, ◌<◌, IfErr, IfOk, IfSome};
+ghost use Rattle.std.specs.Prelude.{◌≡◌, ◌≤◌, ◌<◌, IfErr, IfOk, IfSome, OnErr};
 
 use crate::mean::Mean;
 use crate::phases::Phases;
@@ -28,7 +28,8 @@ impl Gap {
     /// A gap of so many picoseconds, which are above 0.
     pub fn new(picoseconds: u64) -> Result<Gap, ArrivalsFault>
         ensures ok { IfOk result (λ g. g.picoseconds ≡ picoseconds) }
-        ensures err { IfErr result (λ e. (e ≡ ArrivalsFault.NoGap) × (picoseconds ≡ 0)) }
+        ensures err { IfErr result (λ e. e ≡ ArrivalsFault.NoGap) }
+        ensures no_gap { OnErr result (picoseconds ≡ 0) }
     {
         if picoseconds == 0 {
             return Err(ArrivalsFault::NoGap);
@@ -50,7 +51,8 @@ impl Closed {
     pub fn new(depth: u32, think: u64) -> Result<Closed, ArrivalsFault>
         ensures depth { IfOk result (λ c. c.depth ≡ depth) }
         ensures think { IfOk result (λ c. c.think ≡ think) }
-        ensures err { IfErr result (λ e. (e ≡ ArrivalsFault.NoDepth) × (depth ≡ 0)) }
+        ensures err { IfErr result (λ e. e ≡ ArrivalsFault.NoDepth) }
+        ensures no_depth { OnErr result (depth ≡ 0) }
     {
         if depth == 0 {
             return Err(ArrivalsFault::NoDepth);

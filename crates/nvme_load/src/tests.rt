@@ -85,7 +85,7 @@ fn times_that_do_not_fit(rt: HostRuntime) {
     assert_eq!(rt; service.draw(&mut rng, 2), None);
 }
 
-// When the last of 10,000 commands comes, and how many come behind the first picosecond million of each five.
+// When the last of 10,000 commands comes, and how many come behind the first 1,000,000 picoseconds of a cycle of 5,000,000.
 fn last_of(arrivals: &Arrivals) -> Option<(u64, u64)> {
     let mut rng = stream(7, 0, Purpose::Arrivals);
     let mut time = 0u64;
