@@ -621,6 +621,16 @@ typedef struct nvmearb_slot {
  * restored by a library of the same major and minor version, if what is restored takes the place of the first. The mark
  * has these numbers. Neither is copied to be used beside the first.
  *
+ * These calls take the longer the more there is of something; every other one has a bound of its own:
+ *
+ *   nvmearb_ctrl_init, nvmearb_ctrl_init_anywhere, nvmearb_ctrl_verify   the slots
+ *   nvmearb_ctrl_named                                                   the slots up to the command's
+ *   nvmearb_ctrl_waits                                                   the commands before its own, 255 at most
+ *   nvmearb_ctrl_pick of a Delete I/O Submission Queue or an Abort       the queue's waiting commands, 256 at most
+ *   nvmearb_ctrl_pick of a Create or a Delete I/O Completion Queue       the regions and the open queues
+ *   nvmearb_ctrl_add_sq_region, nvmearb_ctrl_add_cq_region               the regions
+ *   nvmearb_ctrl_finish                                                  the identifiers up to the queue's
+ *
  * PC must be 1, and a ring has at most 4096 slots. So CAP.MQES is at most 4095, and CAP.CQR is 1. At most 256 commands
  * are picked and have no completion posted; an Asynchronous Event Request that the device holds is one of them.
  */
@@ -642,7 +652,7 @@ typedef struct nvmearb_config {
 /* What a Create command may ask for where queues may lie anywhere in memory. */
 typedef struct nvmearb_placement {
     uint32_t page;    /* the memory page in bytes, 2 to the power of 12 + CC.MPS: PRP1 is a multiple of it */
-    uint16_t mqes;    /* the largest QSIZE, which is zero based (CAP.MQES), at least 1 */
+    uint16_t mqes;    /* the largest QSIZE, which is zero based (CAP.MQES), 1 to 4095 */
     uint16_t vectors; /* the number of interrupt vectors, at least 1, also for a device with a pin: IV is below it */
 } nvmearb_placement;
 
@@ -711,14 +721,14 @@ typedef struct nvmearb_post {
  * at an address where none is, or over another ring, is accepted. The device checks each access, and that no address
  * goes over the end of all addresses. Where an access to a ring fails it sets CSTS.CFS, and waits for the reset.
  *
- * The first of these that applies refuses a Create that isn't fused: 1/02, Invalid Queue Size, if QSIZE is above `mqes`
- * or 4095; 0/13, PRP Offset Invalid, if PRP1 isn't a multiple of the page; of a completion queue 1/08, Invalid
+ * The first of these that applies refuses a Create that isn't fused: 1/02, Invalid Queue Size, if QSIZE is above
+ * `mqes`; 0/13, PRP Offset Invalid, if PRP1 isn't a multiple of the page; of a completion queue 1/08, Invalid
  * Interrupt Vector, if IV isn't below `vectors`, whatever IEN; 0/02, Invalid Field in Command, if PC is 0; 1/01,
- * Invalid Queue Identifier, if QID is 0, above the allotted number, or that of a queue that is open or closing; 1/02 if
- * QSIZE is 0; of a submission queue 1/01 if CQID is 0 or above the allotted number, and 1/00, Completion Queue Invalid,
- * if that queue isn't open.
- * NVMEARB_EARG as nvmearb_ctrl_init, and if `page` is 0; otherwise NVMEARB_ESIZE if `asq` or `acq` doesn't have 2 to
- * 4096 slots. Their addresses are not compared.
+ * Invalid Queue Identifier, if QID is 0, above the allotted number, or that of a queue that is open or closing; 1/02
+ * if QSIZE is 0; of a submission queue 1/01 if CQID is 0 or above the allotted number, and 1/00, Completion Queue
+ * Invalid, if that queue isn't open.
+ * NVMEARB_EARG as nvmearb_ctrl_init, and if `page` is no power of two, `mqes` isn't 1 to 4095, or `vectors` is 0;
+ * otherwise NVMEARB_ESIZE if `asq` or `acq` doesn't have 2 to 4096 slots. Their addresses are not compared.
  */
 uint32_t nvmearb_ctrl_init_anywhere(nvmearb_ctrl *ctrl, nvmearb_slot *slots, size_t count, const nvmearb_config *config,
                                     const nvmearb_placement *placement);
@@ -796,7 +806,8 @@ uint32_t nvmearb_ctrl_set_class(nvmearb_ctrl *ctrl, uint16_t qid, uint16_t prior
  * NVMEARB_ESTATE if `ctrl` isn't valid; otherwise NVMEARB_NONE if the queue isn't open or is closing (a write to an
  * invalid doorbell register); otherwise NVMEARB_EARG if the ring has no such slot, or hasn't as many free slots (an
  * invalid doorbell write value). A ring has one slot less of commands than it has slots.
- * A value that the doorbell has already is accepted, here and of a head.
+ * A value that the doorbell has already is accepted, here and of a head, though the specification lets a controller
+ * report it as an invalid doorbell write value.
  */
 uint32_t nvmearb_ctrl_sq_tail(nvmearb_ctrl *ctrl, uint16_t qid, uint16_t tail);
 

@@ -69,10 +69,13 @@ static int refuses(uint8_t opcode, uint64_t prp1, uint32_t cdw10, uint32_t cdw11
 static void wrong_ones(void)
 {
     nvmearb_config it = config;
-    nvmearb_placement lies = placement;
+    const nvmearb_placement no_ranges[] = {{0, 7, 2}, {PAGE + 1, 7, 2}, {3 * PAGE, 7, 2},
+                                           {PAGE, 0, 2}, {PAGE, 4096, 2}, {PAGE, 7, 0}};
+    const nvmearb_placement widest = {1u << 31, 4095, 0xffff};
     uint16_t number = 0xeeee;
-    lies.page = 0;
-    CHECK(init_with(it, lies, SLOTS) == NVMEARB_EARG && init_with(it, placement, 0) == NVMEARB_EARG);
+    for (size_t i = 0; i < sizeof no_ranges / sizeof *no_ranges; i++)
+        CHECK(init_with(it, no_ranges[i], SLOTS) == NVMEARB_EARG);
+    CHECK(init_with(it, widest, SLOTS) == NVMEARB_OK && init_with(it, placement, 0) == NVMEARB_EARG);
     CHECK(nvmearb_ctrl_init_anywhere(&ctrl, many, NVMEARB_MAX_SLOTS + 1, &it, &placement) == NVMEARB_EARG);
     it.mechanism = 3;
     CHECK(init_with(it, placement, SLOTS) == NVMEARB_EARG);

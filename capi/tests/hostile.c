@@ -157,15 +157,12 @@ static int is_right(uint32_t told, uint32_t want)
     return told == want;
 }
 
-/* The limits of queues that may lie anywhere. Within those of 0 none can be created. */
+/* The limits of queues that may lie anywhere. */
 static nvmearb_placement draw_placement(void)
 {
-    static const uint32_t pages[] = {1, 2, 3, 8, 0x200, 0x1000, 0x1000, 0x1000, 0x10000, 0x80000000};
-    static const uint16_t sizes[] = {1, 2, 7, 31, 63, 1023, 4094, 4095, 4096, 0xffff}, vectors[] = {1, 2, 4, 0xffff};
-    nvmearb_placement it = {pages[upto(10)], upto(2) ? sizes[upto(10)] : (uint16_t)(1 + upto(40)), vectors[upto(4)]};
-    it.mqes = upto(30) ? it.mqes : 0;
-    it.vectors = upto(30) ? it.vectors : 0;
-    return it;
+    static const uint32_t pages[] = {1, 2, 4, 8, 0x200, 0x1000, 0x1000, 0x1000, 0x10000, 0x80000000};
+    static const uint16_t sizes[] = {1, 2, 7, 31, 63, 1023, 2047, 4093, 4094, 4095}, vectors[] = {1, 2, 4, 0xffff};
+    return (nvmearb_placement){pages[upto(10)], upto(2) ? sizes[upto(10)] : (uint16_t)(1 + upto(40)), vectors[upto(4)]};
 }
 
 /* The account begins with the admin queues alone. */

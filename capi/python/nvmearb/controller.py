@@ -31,7 +31,8 @@ class Config(NamedTuple):
 
 
 class Placement(NamedTuple):
-    """What a Create may ask for: the memory page in bytes, CAP.MQES, and the number of interrupt vectors."""
+    """What a Create may ask for: the memory page in bytes, a power of two; CAP.MQES, 1 to 4095; and the number of interrupt
+    vectors, at least 1."""
 
     page: int = 4096
     mqes: int = 4095

@@ -46,7 +46,7 @@ impl Config {
 pub struct Placement {
     /// The memory page in bytes, 2 to the power of 12 + CC.MPS: PRP1 is a multiple of it.
     pub page: u32,
-    /// The largest QSIZE, which is zero based (CAP.MQES), at least 1.
+    /// The largest QSIZE, which is zero based (CAP.MQES), 1 to 4095.
     pub mqes: u16,
     /// The number of interrupt vectors, at least 1, also for a device with a pin: IV is below it.
     pub vectors: u16,
@@ -254,14 +254,15 @@ impl<S: Slots> Controller<S> {
     /// regions. Take `(nsq + 1) * window + 256` slots; that these suffice isn't proved.
     ///
     /// The first of these that applies refuses a Create that isn't fused. [`Status::INVALID_QUEUE_SIZE`]: QSIZE is
-    /// above `mqes` or 4095. [`Status::PRP_OFFSET_INVALID`]: PRP1 isn't a multiple of the page.
+    /// above `mqes`. [`Status::PRP_OFFSET_INVALID`]: PRP1 isn't a multiple of the page.
     /// [`Status::INVALID_INTERRUPT_VECTOR`]: IV of a completion queue isn't below `vectors`, whatever IEN.
     /// [`Status::INVALID_FIELD`]: PC is 0. [`Status::INVALID_QUEUE_IDENTIFIER`]: QID is 0, above the allotted number, or
     /// that of a queue that is open or closing. [`Status::INVALID_QUEUE_SIZE`]: QSIZE is 0. Of a submission queue
     /// [`Status::INVALID_QUEUE_IDENTIFIER`]: CQID is 0 or above the allotted number, and
     /// [`Status::COMPLETION_QUEUE_INVALID`]: that queue isn't open.
     ///
-    /// [`Error::Argument`]: as [`Controller::new`], and if `page` is 0. Otherwise [`Error::Size`]: `asq` or `acq`
+    /// [`Error::Argument`]: as [`Controller::new`], and if `page` is no power of two, `mqes` isn't 1 to
+    /// 4095, or `vectors` is 0. Otherwise [`Error::Size`]: `asq` or `acq`
     /// doesn't have 2 to 4096 slots.
     ///
     /// # Panics

@@ -80,7 +80,15 @@ impl Host {
 fn placements_are_refused() {
     let made = |config: &Config, placement| Controller::anywhere(config, &placement, boxed_slots(SLOTS)).map(|_| ());
     assert_eq!(made(&config(), PLACEMENT), Ok(()));
-    assert_eq!(made(&config(), Placement { page: 0, ..PLACEMENT }), Err(Error::Argument));
+    for wrong in [
+        Placement { page: 0, ..PLACEMENT },
+        Placement { page: 0x1800, ..PLACEMENT },
+        Placement { mqes: 0, ..PLACEMENT },
+        Placement { mqes: 4096, ..PLACEMENT },
+        Placement { vectors: 0, ..PLACEMENT },
+    ] {
+        assert_eq!(made(&config(), wrong), Err(Error::Argument));
+    }
     assert_eq!(made(&Config { nsq: 0, ..config() }, PLACEMENT), Err(Error::Argument));
     assert_eq!(made(&Config { acq: Region { address: 0, slots: 1 }, ..config() }, PLACEMENT), Err(Error::Size));
     let mut ctrl = Host::new().ctrl;

@@ -1,10 +1,12 @@
 -- What a controller of C is, and what its calls write, in the library's terms (profile).
-use Rattle.std.specs.Prelude.{◌≡◌, ℕ, ◌/◌, ◌%◌, ◌==◌, ◌&&◌, nat_lt, Bool, true, false, if◌then◌else◌, List, [], length, Option, None}
+use Rattle.std.specs.Prelude.{◌≡◌, ℕ, ◌/◌, ◌%◌, ◌==◌, ◌&&◌, nat_lt, nat_le, Bool, true, false, if◌then◌else◌, List, [], length, Option, None}
+use Rattle.std.specs.Int.{is_power_of_two}
 use Rattle.nvme_entry.specs.Bits.{bits_of, dword}
 use Rattle.nvme_entry.specs.declared.completion.Cqe.{Cqe}
 use Rattle.nvme_arbiter.specs.Settings.{settings_of, class_of_number}
 use Rattle.nvme_arbiter.specs.declared.settings.Class.{Class}
 use Rattle.nvme_arbiter.specs.Layout.{mechanism_of}
+use Rattle.nvme_admin.specs.declared.bounds.TheConstants.{MAX_QSIZE}
 use Rattle.nvme_admin.specs.declared.limits.Limits.{Limits}
 use Rattle.nvme_log.specs.Rules.{FrontRules}
 use Rattle.nvme_log.specs.Answers.{Answer}
@@ -33,6 +35,7 @@ use Rattle.nvme_capi.specs.declared.ctrl.state.TheConstants.{MARK}
 use Rattle.nvme_capi.specs.declared.ctrl.state.CtrlState.{CtrlState}
 use Rattle.nvme_capi.specs.declared.ctrl.state.ConfigFields.{ConfigFields}
 use Rattle.nvme_capi.specs.declared.ctrl.state.CommandFields.{CommandFields}
+use Rattle.nvme_capi.specs.declared.states.PickFields.{PickFields}
 use Rattle.nvme_capi.specs.declared.ctrl.state.PostFields.{PostFields}
 
 -- ---- states
@@ -43,6 +46,10 @@ is_ctrl s = s.mark == MARK
 abbrev pub has_slots : CtrlState → List Slot → Bool
 has_slots s slots = length slots == s.count
 
+-- a call leaves what makes a state a controller: its mark, and the number of slots that it was made with
+abbrev pub StaysMade : CtrlState → CtrlState → Type 0
+StaysMade old new = (new.mark ≡ old.mark) × (new.count ≡ old.count)
+
 -- what the calls ask of their caller and keep: with these slots a controller that was made is one that its calls made. The caller writes into neither
 pub record IsKept (s : CtrlState) (slots : List Slot) : Type 0 where
   pub front : is_ctrl s ≡ true → has_slots s slots ≡ true → IsController s.ctrl slots
@@ -51,6 +58,11 @@ pub record IsKept (s : CtrlState) (slots : List Slot) : Type 0 where
 -- the numbers of a configuration are in their ranges, and so many slots can be a pool
 abbrev pub is_config : ConfigFields → (count : ℕ) → Bool
 is_config f count = is_limit f.nsq && (is_limit f.ncq && (nat_lt 0 f.window && (nat_lt 0 count && nat_lt count 65536)))
+
+-- what a Create may ask for is in its ranges: the page is a power of two, QSIZE is limited by a ring that the controller takes, and there is an
+-- interrupt vector (Base Specification, Controller Capabilities, MQES, Controller Configuration, MPS; the largest ring, vectors: profile)
+abbrev pub is_placement : PlacementFields → Bool
+is_placement p = is_power_of_two p.page && (nat_le 1 p.mqes && (nat_le p.mqes MAX_QSIZE && nat_le 1 p.vectors))
 
 -- the controller of a configuration stands at the empty log
 pub record IsMadeOf (f : ConfigFields) (sizes : List ℕ) (c : Controller) (slots : List Slot) : Type 0 where
@@ -73,12 +85,16 @@ pub record IsCommandIn (slots : List Slot) (tag : ℕ) (f : CommandFields) : Typ
   pub entry : f.entry ≡ (slot_at slots tag).entry
   pub cookie_is : f.cookie ≡ (slot_at slots tag).cookie
 
+-- nothing is asked for but by a Create
+abbrev pub nothing_asked : AskedFields
+nothing_asked = record { address = 0; qsize = 0; vector = 0; interrupts = 0 }
+
 -- what a Create that made a queue asked for: PRP1, QSIZE, which is zero based, and of a completion queue IV and IEN; 0 of
 -- all other commands. (Base Specification, Create I/O Submission Queue, Create I/O Completion Queue)
 abbrev pub asked_in : Effect → Sqe → AskedFields
 asked_in (OpenSq qid region cqid cq_region class) entry = record { address = entry.prp1; qsize = bits_of 31 16 entry.cdw10; vector = 0; interrupts = 0 }
 asked_in (OpenCq qid region) entry = record { address = entry.prp1; qsize = bits_of 31 16 entry.cdw10; vector = vector_of entry; interrupts = if interrupts_of entry then 1 else 0 }
-asked_in effect entry = record { address = 0; qsize = 0; vector = 0; interrupts = 0 }
+asked_in effect entry = nothing_asked
 
 -- a command of the admin queue was picked and carried out, and what it came to is told, with what it asked for
 pub record HasToldWhat (rules : FrontRules) (late : Bool) (notes : Notes) (told : AnswerFields) (asked : AskedFields) (c : Controller) (slots : List Slot) : Type 0 where
@@ -87,6 +103,10 @@ pub record HasToldWhat (rules : FrontRules) (late : Bool) (notes : Notes) (told 
   pub told_is : told ≡ answer_of (verdict_in effect)
   pub asked_is : asked ≡ asked_in effect entry
   pub done : HasDone rules late notes effect entry c slots
+
+-- the pick of a step that picked nothing for the device
+abbrev pub no_pick : PickFields
+no_pick = record { qid = 0; n = 0; fresh = 0 }
 
 -- the priority class of an I/O queue that a number says: 1 urgent to 4 low
 abbrev pub io_class_of : ℕ → Option Class

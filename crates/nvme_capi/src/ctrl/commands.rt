@@ -10,12 +10,13 @@ ghost use Rattle.nvme_ctrl.specs.Own.{own_of, oldest_is_own};
 ghost use Rattle.nvme_ctrl.specs.Notes.{Notes, logged};
 ghost use Rattle.nvme_ctrl.specs.Standing.{Stands};
 ghost use Rattle.nvme_ctrl.specs.Tags.{handed, is_out, holder, taken, cookie_of};
-ghost use Rattle.nvme_ctrl.specs.Calls.{HasTaken, HasAnswered};
+ghost use Rattle.nvme_ctrl.specs.Calls.{window_limit, HasTaken, HasAnswered};
 ghost use Rattle.nvme_ctrl.specs.Steps.{IsNextPick, HasStepped, NoneFinishable, HasFinished};
 ghost use Rattle.nvme_ctrl.specs.Posts.{NonePostable};
 ghost use Rattle.nvme_ctrl.specs.declared.picks.Step.TheVariants as made;
 ghost use Rattle.nvme_capi.specs.States.{pick_of_fields};
-ghost use Rattle.nvme_capi.specs.Controllers.{is_ctrl, has_slots, IsKept, HasToldWhat, asked_in, IsCommandIn, device_answer, marks_by, IsMarkedEntry, HasPostedBytes, IsPostIn};
+ghost use Rattle.nvme_capi.specs.Tables.{plain_answer};
+ghost use Rattle.nvme_capi.specs.Controllers.{is_ctrl, has_slots, IsKept, StaysMade, HasToldWhat, no_pick, nothing_asked, asked_in, IsCommandIn, device_answer, marks_by, IsMarkedEntry, HasPostedBytes, IsPostIn};
 
 use crate::answers::{answer_of, plain_answer};
 use crate::ctrl::marks::{marked, marks_by};
@@ -65,7 +66,7 @@ pub extern "C" fn nvmearb_ctrl_peek(state: &CtrlState, slots: &[Slot], pick: &mu
 
 // Nothing is asked for but by a Create.
 fn nothing_asked() -> AskedFields
-    ensures { result ≡ record { address = 0; qsize = 0; vector = 0; interrupts = 0 } }
+    ensures { result ≡ nothing_asked }
 {
     AskedFields {
         address: 0,
@@ -120,6 +121,8 @@ pub extern "C" fn nvmearb_ctrl_pick(
 ) -> u32
     requires kept { IsKept state.old slots.old }
     ensures kept { IsKept state.new slots.new }
+    ensures same { StaysMade state.old state.new }
+    ensures window { window_limit state.new.ctrl ≡ window_limit state.old.ctrl }
     ensures bad_state { (result ≡ BAD_STATE) ↔ IsFalse (is_ctrl state.old) }
     ensures bad_argument { (result ≡ BAD_ARGUMENT) ↔ (IsTrue (is_ctrl state.old) × IsFalse (has_slots state.old slots.old)) }
     ensures idle { (rules : FrontRules) (late : Bool) (notes : Notes) → Stands rules late notes state.old.ctrl slots.old → result ≡ NOTHING → HasStepped rules late notes made.Idle state.new.ctrl slots.new }
@@ -130,6 +133,8 @@ pub extern "C" fn nvmearb_ctrl_pick(
     ensures passed { (rules : FrontRules) (late : Bool) (notes : Notes) → Stands rules late notes state.old.ctrl slots.old → result ≡ OK → step.new.kind ≡ PASSED → HasStepped rules late notes (made.Passed (pick_of_fields step.new.pick)) state.new.ctrl slots.new }
     ensures own { (rules : FrontRules) (late : Bool) (notes : Notes) → Stands rules late notes state.old.ctrl slots.old → result ≡ OK → step.new.kind ≡ PASSED → oldest_is_own (own_of state.old.ctrl) notes ≡ Some true }
     ensures not_own { (rules : FrontRules) (late : Bool) (notes : Notes) → Stands rules late notes state.old.ctrl slots.old → result ≡ OK → step.new.kind ≡ CARRIED_OUT → oldest_is_own (own_of state.old.ctrl) notes ≡ Some false }
+    ensures no_pick { result ≡ OK → step.new.kind ≡ CARRIED_OUT → step.new.pick ≡ no_pick }
+    ensures no_answer { result ≡ OK → step.new.kind ≢ CARRIED_OUT → (step.new.answer ≡ plain_answer 0) × (step.new.asked ≡ nothing_asked) }
     ensures left { own_of state.new.ctrl ≡ own_of state.old.ctrl }
     ensures kinds { result ≡ OK → (step.new.kind ≡ PICKED) ⊎ ((step.new.kind ≡ CARRIED_OUT) ⊎ (step.new.kind ≡ PASSED)) }
     ensures answer { (result ≡ OK) ⊎ ((result ≡ NOTHING) ⊎ ((result ≡ BUSY) ⊎ ((result ≡ FULL) ⊎ ((result ≡ BAD_ARGUMENT) ⊎ (result ≡ BAD_STATE))))) }
@@ -188,6 +193,8 @@ pub extern "C" fn nvmearb_ctrl_take(
 ) -> u32
     requires kept { IsKept state.old slots.old }
     ensures kept { IsKept state.new slots.new }
+    ensures same { StaysMade state.old state.new }
+    ensures window { window_limit state.new.ctrl ≡ window_limit state.old.ctrl }
     ensures bad_state { (result ≡ BAD_STATE) ↔ IsFalse (is_ctrl state.old) }
     ensures bad_argument { (result ≡ BAD_ARGUMENT) ↔ (IsTrue (is_ctrl state.old) × IsFalse (has_slots state.old slots.old)) }
     ensures answer { (result ≡ OK) ⊎ ((result ≡ NOTHING) ⊎ ((result ≡ BAD_ARGUMENT) ⊎ (result ≡ BAD_STATE))) }
@@ -229,6 +236,8 @@ fn complete_marked(
 ) -> u32
     requires kept { IsKept state.old slots.old }
     ensures kept { IsKept state.new slots.new }
+    ensures same { StaysMade state.old state.new }
+    ensures window { window_limit state.new.ctrl ≡ window_limit state.old.ctrl }
     ensures left { own_of state.new.ctrl ≡ own_of state.old.ctrl }
     ensures bad_state { (result ≡ BAD_STATE) ↔ IsFalse (is_ctrl state.old) }
     ensures bad_argument { (result ≡ BAD_ARGUMENT) ↔ (IsTrue (is_ctrl state.old) × (IsFalse (has_slots state.old slots.old) ⊎ (7 < status.now.sct))) }
@@ -269,6 +278,8 @@ pub extern "C" fn nvmearb_ctrl_complete(
 ) -> u32
     requires kept { IsKept state.old slots.old }
     ensures kept { IsKept state.new slots.new }
+    ensures same { StaysMade state.old state.new }
+    ensures window { window_limit state.new.ctrl ≡ window_limit state.old.ctrl }
     ensures bad_state { (result ≡ BAD_STATE) ↔ IsFalse (is_ctrl state.old) }
     ensures bad_argument { (result ≡ BAD_ARGUMENT) ↔ (IsTrue (is_ctrl state.old) × (IsFalse (has_slots state.old slots.old) ⊎ (7 < status.now.sct))) }
     ensures answer { (result ≡ OK) ⊎ ((result ≡ NOTHING) ⊎ ((result ≡ BAD_ARGUMENT) ⊎ (result ≡ BAD_STATE))) }
@@ -294,6 +305,8 @@ pub extern "C" fn nvmearb_ctrl_complete_with(
 ) -> u32
     requires kept { IsKept state.old slots.old }
     ensures kept { IsKept state.new slots.new }
+    ensures same { StaysMade state.old state.new }
+    ensures window { window_limit state.new.ctrl ≡ window_limit state.old.ctrl }
     ensures bad_state { (result ≡ BAD_STATE) ↔ IsFalse (is_ctrl state.old) }
     ensures bad_argument { (result ≡ BAD_ARGUMENT) ↔ (IsTrue (is_ctrl state.old) × (IsFalse (has_slots state.old slots.old) ⊎ ((7 < status.now.sct) ⊎ (3 < marks)))) }
     ensures answer { (result ≡ OK) ⊎ ((result ≡ NOTHING) ⊎ ((result ≡ BAD_ARGUMENT) ⊎ (result ≡ BAD_STATE))) }
@@ -338,6 +351,8 @@ pub extern "C" fn nvmearb_ctrl_post(
 ) -> u32
     requires kept { IsKept state.old slots.old }
     ensures kept { IsKept state.new slots.new }
+    ensures same { StaysMade state.old state.new }
+    ensures window { window_limit state.new.ctrl ≡ window_limit state.old.ctrl }
     ensures bad_state { (result ≡ BAD_STATE) ↔ IsFalse (is_ctrl state.old) }
     ensures bad_argument { (result ≡ BAD_ARGUMENT) ↔ (IsTrue (is_ctrl state.old) × IsFalse (has_slots state.old slots.old)) }
     ensures answer { (result ≡ OK) ⊎ ((result ≡ NOTHING) ⊎ ((result ≡ BAD_ARGUMENT) ⊎ (result ≡ BAD_STATE))) }
@@ -372,6 +387,8 @@ pub extern "C" fn nvmearb_ctrl_finish(
 ) -> u32
     requires kept { IsKept state.old slots.old }
     ensures kept { IsKept state.new slots.new }
+    ensures same { StaysMade state.old state.new }
+    ensures window { window_limit state.new.ctrl ≡ window_limit state.old.ctrl }
     ensures bad_state { (result ≡ BAD_STATE) ↔ IsFalse (is_ctrl state.old) }
     ensures bad_argument { (result ≡ BAD_ARGUMENT) ↔ (IsTrue (is_ctrl state.old) × IsFalse (has_slots state.old slots.old)) }
     ensures answer { (result ≡ OK) ⊎ ((result ≡ NOTHING) ⊎ ((result ≡ BAD_ARGUMENT) ⊎ (result ≡ BAD_STATE))) }

@@ -8,7 +8,7 @@ ghost use Rattle.nvme_ctrl.specs.Account.{MayBeHeld, MayBeClassed};
 ghost use Rattle.nvme_ctrl.specs.Standing.{Stands};
 ghost use Rattle.nvme_ctrl.specs.Calls.{window_limit};
 ghost use Rattle.nvme_ctrl.specs.declared.slot.Slot.{Slot};
-ghost use Rattle.nvme_capi.specs.Controllers.{is_ctrl, io_class_of, IsKept};
+ghost use Rattle.nvme_capi.specs.Controllers.{is_ctrl, io_class_of, IsKept, StaysMade};
 
 use crate::ctrl::state::{CtrlState, is_ctrl};
 use crate::results::{BAD_ARGUMENT, BAD_STATE, NOTHING, OK};
@@ -26,6 +26,7 @@ pub extern "C" fn nvmearb_ctrl_hold(state: &mut CtrlState, qid: u16, on: u8) -> 
     ensures stands { (rules : FrontRules) (late : Bool) (notes : Notes) (slots : List Slot) → Stands rules late notes state.old.ctrl slots → result ≡ OK → Stands rules late (Held qid (on == 1) ∷ notes) state.new.ctrl slots }
     ensures window { window_limit state.new.ctrl ≡ window_limit state.old.ctrl }
     ensures left { own_of state.new.ctrl ≡ own_of state.old.ctrl }
+    ensures same { StaysMade state.old state.new }
     ensures kept { (slots : List Slot) → IsKept state.old slots → IsKept state.new slots }
     ensures unchanged { result ≢ OK → state.new ≡ state.old }
 {
@@ -65,6 +66,7 @@ pub extern "C" fn nvmearb_ctrl_set_class(state: &mut CtrlState, qid: u16, priori
     ensures stands { (rules : FrontRules) (late : Bool) (notes : Notes) (slots : List Slot) → Stands rules late notes state.old.ctrl slots → result ≡ OK → (class : Class) → io_class_of priority ≡ Some class → Stands rules late (Classed qid class ∷ notes) state.new.ctrl slots }
     ensures window { window_limit state.new.ctrl ≡ window_limit state.old.ctrl }
     ensures left { own_of state.new.ctrl ≡ own_of state.old.ctrl }
+    ensures same { StaysMade state.old state.new }
     ensures kept { (slots : List Slot) → IsKept state.old slots → IsKept state.new slots }
     ensures unchanged { result ≢ OK → state.new ≡ state.old }
 {

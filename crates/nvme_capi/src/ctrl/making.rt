@@ -9,14 +9,14 @@ ghost use Rattle.nvme_ctrl.specs.Standing.{Stands, IsController};
 ghost use Rattle.nvme_ctrl.specs.Calls.{window_limit};
 ghost use Rattle.nvme_ctrl.specs.Making.{admin_fault, adding_fault, with_region, is_late};
 ghost use Rattle.nvme_ctrl.specs.declared.slot.Slot.{Slot};
-ghost use Rattle.nvme_capi.specs.Controllers.{is_ctrl, is_config, IsMadeOf, IsMadeAnywhereOf, IsKept};
+ghost use Rattle.nvme_capi.specs.Controllers.{is_ctrl, is_config, is_placement, IsMadeOf, IsMadeAnywhereOf, IsKept, StaysMade};
 ghost use Rattle.nvme_placing.specs.Telling.{is_ring_size};
 
 use crate::arbiter::mechanism_with;
 use crate::ctrl::state::{ConfigFields, CtrlState, MARK, PlacementFields, is_ctrl};
 use crate::results::{BAD_ARGUMENT, BAD_SIZE, BAD_STATE, OK, TOO_MANY, USED};
 use crate::table::{is_limit, refusal};
-use nvme_admin::Limits;
+use nvme_admin::{Limits, MAX_QSIZE};
 use nvme_arbiter::Settings;
 use nvme_ctrl::{Controller, Slot};
 use nvme_placing::Placement;
@@ -81,12 +81,22 @@ pub extern "C" fn nvmearb_ctrl_init(
     }
 }
 
-// What a Create may ask for, where the page isn't 0.
+// Whether what a Create may ask for is in its ranges.
+fn is_placement(placement: &PlacementFields) -> bool
+    ensures { result ≡ is_placement placement.now }
+{
+    placement.page.is_power_of_two()
+        && placement.mqes >= 1
+        && placement.mqes <= MAX_QSIZE
+        && placement.vectors >= 1
+}
+
+// What a Create may ask for, where that is in its ranges.
 fn placement_of(placement: &PlacementFields) -> Option<Placement>
     ensures some { IfSome result (λ p. (p.page ≡ placement.now.page) × ((p.mqes ≡ placement.now.mqes) × (p.vectors ≡ placement.now.vectors))) }
-    ensures none { IsNone result ↔ (placement.now.page ≡ 0) }
+    ensures none { IsNone result ↔ IsFalse (is_placement placement.now) }
 {
-    if placement.page == 0 {
+    if !is_placement(placement) {
         return None;
     }
     Some(Placement {
@@ -104,7 +114,7 @@ pub extern "C" fn nvmearb_ctrl_init_anywhere(
     config: &ConfigFields,
     placement: &PlacementFields,
 ) -> u32
-    ensures refused { (result ≡ BAD_ARGUMENT) ↔ (IsFalse (is_config config.now (length slots.old)) ⊎ (((config.now.mechanism ≢ 1) × (config.now.mechanism ≢ 2)) ⊎ (placement.now.page ≡ 0))) }
+    ensures refused { (result ≡ BAD_ARGUMENT) ↔ (IsFalse (is_config config.now (length slots.old)) ⊎ (((config.now.mechanism ≢ 1) × (config.now.mechanism ≢ 2)) ⊎ IsFalse (is_placement placement.now))) }
     ensures answer { (result ≡ OK) ⊎ ((result ≡ BAD_ARGUMENT) ⊎ (result ≡ BAD_SIZE)) }
     ensures size { result ≡ BAD_SIZE → (is_ring_size config.now.asq.slots && is_ring_size config.now.acq.slots) ≡ false }
     ensures made { result ≡ OK → (is_ring_size config.now.asq.slots && is_ring_size config.now.acq.slots) ≡ true }
@@ -172,6 +182,7 @@ pub extern "C" fn nvmearb_ctrl_add_sq_region(
     ensures stands { (rules : FrontRules) (late : Bool) (notes : Notes) (pool : List Slot) → Stands rules late notes state.old.ctrl pool → result ≡ OK → Stands (with_region Submission address slots rules) (is_late rules late notes address) notes state.new.ctrl pool }
     ensures window { window_limit state.new.ctrl ≡ window_limit state.old.ctrl }
     ensures own { own_of state.new.ctrl ≡ own_of state.old.ctrl }
+    ensures same { StaysMade state.old state.new }
     ensures kept { (pool : List Slot) → IsKept state.old pool → IsKept state.new pool }
     ensures unchanged { result ≢ OK → (state.new ≡ state.old) × (number.new ≡ number.old) }
 {
@@ -205,6 +216,7 @@ pub extern "C" fn nvmearb_ctrl_add_cq_region(
     ensures stands { (rules : FrontRules) (late : Bool) (notes : Notes) (pool : List Slot) → Stands rules late notes state.old.ctrl pool → result ≡ OK → Stands (with_region Completion address slots rules) (is_late rules late notes address) notes state.new.ctrl pool }
     ensures window { window_limit state.new.ctrl ≡ window_limit state.old.ctrl }
     ensures own { own_of state.new.ctrl ≡ own_of state.old.ctrl }
+    ensures same { StaysMade state.old state.new }
     ensures kept { (pool : List Slot) → IsKept state.old pool → IsKept state.new pool }
     ensures unchanged { result ≢ OK → (state.new ≡ state.old) × (number.new ≡ number.old) }
 {
@@ -229,6 +241,7 @@ pub extern "C" fn nvmearb_ctrl_own_opcode(state: &mut CtrlState, opcode: u8) -> 
     ensures own { result ≡ OK → own_of state.new.ctrl ≡ with_opcode opcode (own_of state.old.ctrl) }
     ensures stands { (rules : FrontRules) (late : Bool) (notes : Notes) (pool : List Slot) → Stands rules late notes state.old.ctrl pool → Stands rules late notes state.new.ctrl pool }
     ensures window { window_limit state.new.ctrl ≡ window_limit state.old.ctrl }
+    ensures same { StaysMade state.old state.new }
     ensures kept { (pool : List Slot) → IsKept state.old pool → IsKept state.new pool }
     ensures unchanged { result ≢ OK → state.new ≡ state.old }
 {
@@ -248,6 +261,7 @@ pub extern "C" fn nvmearb_ctrl_own_feature(state: &mut CtrlState, fid: u8) -> u3
     ensures own { result ≡ OK → own_of state.new.ctrl ≡ with_feature fid (own_of state.old.ctrl) }
     ensures stands { (rules : FrontRules) (late : Bool) (notes : Notes) (pool : List Slot) → Stands rules late notes state.old.ctrl pool → Stands rules late notes state.new.ctrl pool }
     ensures window { window_limit state.new.ctrl ≡ window_limit state.old.ctrl }
+    ensures same { StaysMade state.old state.new }
     ensures kept { (pool : List Slot) → IsKept state.old pool → IsKept state.new pool }
     ensures unchanged { result ≢ OK → state.new ≡ state.old }
 {

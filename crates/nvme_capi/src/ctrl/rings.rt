@@ -9,7 +9,7 @@ ghost use Rattle.nvme_ctrl.specs.Notes.{Notes, logged};
 ghost use Rattle.nvme_ctrl.specs.Standing.{Stands};
 ghost use Rattle.nvme_ctrl.specs.Calls.{window_limit, IsTailOf, TailRung, IsHeadOf, HeadRung, MayFetch, HasFetched};
 ghost use Rattle.nvme_ctrl.specs.declared.slot.Slot.{Slot};
-ghost use Rattle.nvme_capi.specs.Controllers.{is_ctrl, has_slots, IsKept};
+ghost use Rattle.nvme_capi.specs.Controllers.{is_ctrl, has_slots, IsKept, StaysMade};
 
 use crate::ctrl::state::{CtrlState, has_slots, is_ctrl};
 use crate::results::{BAD_ARGUMENT, BAD_STATE, NOTHING, OK};
@@ -28,6 +28,7 @@ pub extern "C" fn nvmearb_ctrl_sq_tail(state: &mut CtrlState, qid: u16, tail: u1
     ensures valid { (rules : FrontRules) (late : Bool) (notes : Notes) (slots : List Slot) → Stands rules late notes state.old.ctrl slots → result ≡ OK → IsTailOf rules notes qid tail }
     ensures stands { (rules : FrontRules) (late : Bool) (notes : Notes) (slots : List Slot) → Stands rules late notes state.old.ctrl slots → result ≡ OK → TailRung rules late notes qid tail state.new.ctrl slots }
     ensures window { window_limit state.new.ctrl ≡ window_limit state.old.ctrl }
+    ensures same { StaysMade state.old state.new }
     ensures kept { (slots : List Slot) → IsKept state.old slots → IsKept state.new slots }
     ensures left { own_of state.new.ctrl ≡ own_of state.old.ctrl }
     ensures unchanged { result ≢ OK → state.new ≡ state.old }
@@ -57,6 +58,7 @@ pub extern "C" fn nvmearb_ctrl_cq_head(state: &mut CtrlState, cqid: u16, head: u
     ensures valid { (rules : FrontRules) (late : Bool) (notes : Notes) (slots : List Slot) → Stands rules late notes state.old.ctrl slots → result ≡ OK → IsHeadOf rules notes cqid head }
     ensures stands { (rules : FrontRules) (late : Bool) (notes : Notes) (slots : List Slot) → Stands rules late notes state.old.ctrl slots → result ≡ OK → HeadRung rules late notes cqid head state.new.ctrl slots }
     ensures window { window_limit state.new.ctrl ≡ window_limit state.old.ctrl }
+    ensures same { StaysMade state.old state.new }
     ensures kept { (slots : List Slot) → IsKept state.old slots → IsKept state.new slots }
     ensures left { own_of state.new.ctrl ≡ own_of state.old.ctrl }
     ensures unchanged { result ≢ OK → state.new ≡ state.old }
@@ -106,6 +108,7 @@ pub extern "C" fn nvmearb_ctrl_fetched(
 ) -> u32
     requires kept { IsKept state.old slots.old }
     ensures kept { IsKept state.new slots.new }
+    ensures same { StaysMade state.old state.new }
     ensures bad_state { (result ≡ BAD_STATE) ↔ IsFalse (is_ctrl state.old) }
     ensures bad_argument { (result ≡ BAD_ARGUMENT) ↔ (IsTrue (is_ctrl state.old) × IsFalse (has_slots state.old slots.old)) }
     ensures answer { (result ≡ OK) ⊎ ((result ≡ NOTHING) ⊎ ((result ≡ BAD_ARGUMENT) ⊎ (result ≡ BAD_STATE))) }

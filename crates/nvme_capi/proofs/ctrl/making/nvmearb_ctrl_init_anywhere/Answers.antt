@@ -1,5 +1,5 @@
-use Rattle.std.proofs.Common.{◌≡◌, ◌≢◌, ◌∙◌, ◌⊎◌, true, false, length, sym, arith, inl, inr}
-use Rattle.nvme_capi.specs.Controllers.{is_config}
+use Rattle.std.proofs.Common.{◌≡◌, ◌≢◌, ◌∙◌, ◌⊎◌, true, false, length, sym, arith, inl, inr, IsFalse}
+use Rattle.nvme_capi.specs.Controllers.{is_config, is_placement}
 use Rattle.nvme_capi.proofs.Refusals.{no_fault}
 use Rattle.nvme_capi.proofs.Configurations.{made_anywhere_of}
 use Rattle.nvme_capi.proofs.ctrl.making.nvmearb_ctrl_init_anywhere.Goals as goal
@@ -7,7 +7,7 @@ use Rattle.nvme_capi.proofs.ctrl.making.nvmearb_ctrl_init_anywhere.Goals as goal
 pub returns-in-Ok-clause-refused : goal.returns-in-Ok-clause-refused
 returns-in-Ok-clause-refused c = (
   λ e. (let lost : 0 ≡ 2 = e in absurd (omega (arith, lost))),
-  λ h. absurd (no_fault (is_config c.args.config.now (length c.args.slots.now)) ((c.args.config.now.mechanism ≢ 1 × c.args.config.now.mechanism ≢ 2) ⊎ (c.args.placement.now.page ≡ 0))
+  λ h. absurd (no_fault (is_config c.args.config.now (length c.args.slots.now)) ((c.args.config.now.mechanism ≢ 1 × c.args.config.now.mechanism ≢ 2) ⊎ IsFalse (is_placement c.args.placement.now))
       (sym c.is_config.ensures ∙ c.if-not-is_config.false)
       (λ wrong. elim wrong [
         | inl unknown ↦ (let lost : true ≡ false = c.in-Some.ensures.none.1 unknown in cc lost)
