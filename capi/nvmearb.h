@@ -348,7 +348,7 @@ uint32_t nvmearb_arbiter_init(nvmearb_arbiter *arbiter, uint32_t mechanism, uint
 uint32_t nvmearb_arbiter_set(nvmearb_arbiter *arbiter, uint32_t cdw11);
 
 /*
- * Writes what nvmearb_arbiter_pick would pick. `seen` has `count` queues.
+ * Writes what nvmearb_arbiter_pick would pick. `seen` has `count` queues; the more there are, the longer it takes.
  * NVMEARB_ESTATE if `arbiter` isn't valid; otherwise NVMEARB_EARG if `count` is above NVMEARB_MAX_QUEUES, a queue of
  * `seen` has a field outside its range, or the identifiers don't ascend; otherwise NVMEARB_NONE if no command waits.
  */
@@ -621,7 +621,7 @@ typedef struct nvmearb_slot {
  * restored by a library of the same major and minor version, if what is restored takes the place of the first. The mark
  * has these numbers. Neither is copied to be used beside the first.
  *
- * These calls take the longer the more there is of something; every other one has a bound of its own:
+ * These calls take the longer the more there is of something, and no other one does:
  *
  *   nvmearb_ctrl_init, nvmearb_ctrl_init_anywhere, nvmearb_ctrl_verify   the slots
  *   nvmearb_ctrl_named                                                   the slots up to the command's
