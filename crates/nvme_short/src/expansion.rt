@@ -97,25 +97,25 @@ impl From<AllocError> for ExpandError {
     }
 }
 
-// What is told of a fault of a short table.
-fn untold(alloc: Global, table: &Table, error: ShortError) -> ExpandError
+// What is told of a fault of a short table, which was read from the bytes.
+fn untold(alloc: Global, bytes: &[u8], table: &Table, error: ShortError) -> ExpandError
     ensures { IsToldAs error result }
 {
-    match fault_in(alloc, table, error) {
+    match fault_in(alloc, bytes, table, error) {
         Some(fault) => ExpandError::Fault(fault),
         None => ExpandError::NoMemory,
     }
 }
 
-// The text of today's form that a short table is written out to.
+// The text of today's form that a short table, which was read from the bytes, is written out to.
 #[tactic(auto, using(crate::proofs::ReadBack::told_fault))]
-fn expanded(alloc: Global, table: &Table) -> Result<String, ExpandError>
+fn expanded(alloc: Global, bytes: &[u8], table: &Table) -> Result<String, ExpandError>
     ensures ok { IfOk result (λ s. Reads (table_view table.now) (string_bytes s)) }
     ensures err { IfErr result (TellsFaultOf (table_view table.now)) }
 {
     match expand(alloc, table) {
         Ok(text) => Ok(text),
-        Err(error) => Err(untold(alloc, table, error)),
+        Err(error) => Err(untold(alloc, bytes, table, error)),
     }
 }
 
@@ -127,7 +127,7 @@ pub fn stood_for(alloc: Global, bytes: Vec<u8>) -> Result<Vec<u8>, ExpandError>
     ensures fault { IfErr result (TellsShortFault bytes.items) }
 {
     match short_in(alloc, &bytes)? {
-        Some(table) => Ok(expanded(alloc, &table)?.into_bytes()),
+        Some(table) => Ok(expanded(alloc, &bytes, &table)?.into_bytes()),
         None => Ok(bytes),
     }
 }

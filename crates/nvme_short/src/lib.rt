@@ -4,8 +4,14 @@
 mod creates;
 mod document;
 mod expansion;
+mod looking;
+mod near;
+mod scan;
+mod spot;
+mod texts;
 mod told;
 
 pub use expansion::{ExpandError, expand, read_short, short_in, stood_for};
 pub use nvme_short_form::{Fault, Form, Item, Key, Place, Queue, Run, ShortError, Step};
-pub use told::{ShortFault, is_short_key};
+pub use spot::Spot;
+pub use told::{Note, ShortFault, is_short_key};

@@ -1,22 +1,36 @@
-// The texts of faults.
-ghost use Rattle.std.specs.Prelude.{◌≡◌, IfSome};
+// How a fault is told.
+ghost use Rattle.std.specs.Prelude.{◌≡◌, IfOk, IfSome};
 ghost use Rattle.nvme_short_form.specs.declared.error.ShortError.TheVariants.{At};
 
-use nvme_short_form::{
-    ABORT_KEYS, ACCESS_KEYS, FILE_KEYS, FLUSH_KEYS, Fault, GET_KEYS, Key, Place, QUEUE_KEYS,
-    QUEUE_OP_KEYS, RAW_KEYS, REPEAT_KEYS, SET_KEYS, SHARED_KEYS, ShortError, WEIGHT_KEYS,
-};
-use nvme_workload::WorkloadError;
+use crate::looking::{Seen, count_at, other_at, seen_at, unknown_key, value_in};
+use crate::near::nearest;
+use crate::spot::{Spot, spot_of};
+use crate::texts::{expected, words_of};
+use nvme_short_form::{FILE_KEYS, Fault, Key, Place, ShortError};
+use nvme_workload::Found;
 use std::alloc::{AllocError, Global};
 use std::fmt;
 use toml::{Table, Value};
 
-// The most characters of an unknown key that are kept.
+// The most characters that are kept of an unknown key, and of a value.
 const KEY_CHARACTERS: usize = 100;
+
+const VALUE_CHARACTERS: usize = 40;
 
 /// Whether a key is one of the table of a short file, whether or not the other form has it too.
 pub fn is_short_key(name: &str) -> bool {
     FILE_KEYS.iter().any(|key| key.name() == name)
+}
+
+/// What is told in place of what was expected.
+#[derive(Clone, Copy, Debug, PartialEq, Eq)]
+pub enum Note {
+    /// A repeat stands in a repeat.
+    Nested,
+    /// `cq_depth` stands beside `cq`.
+    BesideCq,
+    /// A number is that of no queue, of which there are so many.
+    NoQueue { number: i64, queues: usize },
 }
 
 /// The first fault of a short workload file: where it is, and what was expected there.
@@ -26,195 +40,250 @@ pub struct ShortFault {
     pub fault: Fault,
     /// Where it is.
     pub place: Place,
+    /// Where in the text it is, as far as it was found there.
+    pub spot: Option<Spot>,
     /// The unknown key, of which at most the first 100 characters are kept; empty with another fault.
     pub key: String,
     /// The keys that may stand there, where a key is unknown.
     pub known: &'static [Key],
+    /// What stands there. Of a text at most the first 40 characters are kept.
+    pub found: Found,
+    /// What is told in place of what was expected.
+    pub note: Option<Note>,
+    /// The key or the word that may have been meant.
+    pub meant: Option<&'static str>,
 }
 
-// The first key of the table, in the order of bytes, that isn't one of these.
-fn unknown_key<'t>(keys: &[Key], table: &'t Table) -> Option<&'t str> {
-    for (name, _value) in table.iter() {
-        if !keys.iter().any(|key| key.name() == name.as_str()) {
-            return Some(name.as_str());
-        }
-    }
-    None
-}
-
-// The table at an index of the array at a key.
-fn table_at(table: &Table, key: Key, index: usize) -> Option<&Table> {
-    match table.get(key.name()) {
-        Some(Value::Array(items)) => items.get(index)?.as_table(),
-        _ => None,
-    }
-}
-
-// The keys that an item may have, by what `op` says.
-fn item_keys(item: &Table) -> &'static [Key] {
-    match item.get(Key::Op.name()) {
-        Some(Value::String(name)) => match name.as_str() {
-            "read" | "write" => &ACCESS_KEYS,
-            "flush" => &FLUSH_KEYS,
-            "create" | "delete" => &QUEUE_OP_KEYS,
-            "abort" => &ABORT_KEYS,
-            "set-arbitration" => &SET_KEYS,
-            _ => &GET_KEYS,
-        },
-        _ => &RAW_KEYS,
-    }
-}
-
-// A key of the table that isn't known, with the keys that are.
-fn unknown_in<'t>(keys: &'static [Key], table: &'t Table) -> Option<(&'t str, &'static [Key])> {
-    Some((unknown_key(keys, table)?, keys))
-}
-
-// A key of the weights of a table that isn't known, with the keys that are.
-fn unknown_weight(table: &Table) -> Option<(&str, &'static [Key])> {
-    unknown_in(&WEIGHT_KEYS, table.get(Key::Weights.name())?.as_table()?)
-}
-
-// The unknown key of an item of a script, or of the script that it repeats.
-fn unknown_in_item(item: &Table) -> Option<(&str, &'static [Key])> {
-    if item.get(Key::Repeat.name()).is_none() {
-        return unknown_in(item_keys(item), item);
-    }
-    if let Some(found) = unknown_in(&REPEAT_KEYS, item) {
-        return Some(found);
-    }
-    let Some(Value::Array(inner)) = item.get(Key::Script.name()) else {
-        return None;
-    };
-    for entry in inner {
-        if let Some(table) = entry.as_table()
-            && let Some(found) = unknown_in(item_keys(table), table)
-        {
-            return Some(found);
-        }
-    }
-    None
-}
-
-// The unknown key at a place.
-fn unknown_at(document: &Table, place: Place) -> Option<(&str, &'static [Key])> {
-    match place {
-        Place::Top => unknown_in(&FILE_KEYS, document),
-        Place::Queue(number) => {
-            let table = table_at(document, Key::Queue, number.saturating_sub(1))?;
-            let is_shared = table.get(Key::Cq.name()).is_some();
-            let keys: &'static [Key] = if is_shared { &SHARED_KEYS } else { &QUEUE_KEYS };
-            unknown_in(keys, table)
-        }
-        Place::Item { queue, item } => {
-            let table = table_at(document, Key::Queue, queue.saturating_sub(1))?;
-            unknown_in_item(table_at(table, Key::Script, item)?)
-        }
-        Place::Admin(item) => {
-            let table = table_at(document, Key::Admin, item)?;
-            unknown_in(item_keys(table), table)
-        }
-        Place::Weights => unknown_weight(document),
-        Place::AdminWeights(item) => unknown_weight(table_at(document, Key::Admin, item)?),
-    }
-}
-
-// The first characters of a key.
-fn start_of(alloc: Global, key: &str) -> Result<String, AllocError> {
+// The first characters of a text.
+fn start_of(alloc: Global, text: &str, characters: usize) -> Result<String, AllocError> {
     let mut start = String::new(alloc);
-    for character in key.chars().take(KEY_CHARACTERS) {
+    for character in text.chars().take(characters) {
         start.push(character)?;
     }
     Ok(start)
 }
 
-/// A fault of a short table, with what is told of it. `None` where memory was refused.
-pub(crate) fn fault_in(alloc: Global, document: &Table, error: ShortError) -> Option<ShortFault>
+// What a value is.
+fn found_in(alloc: Global, value: Option<&Value>) -> Result<Found, AllocError> {
+    let found = match value {
+        None => Found::Untold,
+        Some(Value::Integer(number)) => Found::Integer(*number),
+        Some(Value::String(text)) => Found::Text(start_of(alloc, text.as_str(), VALUE_CHARACTERS)?),
+        Some(Value::Boolean(true)) => Found::Other("true"),
+        Some(Value::Boolean(false)) => Found::Other("false"),
+        Some(Value::Array(items)) if items.is_empty() => Found::Other("an empty array"),
+        Some(Value::Array(_)) => Found::Other("an array"),
+        Some(Value::Table(_)) => Found::Other("a table"),
+        Some(_) => Found::Other("a value of another kind"),
+    };
+    Ok(found)
+}
+
+// Whether a value is the size of a namespace.
+fn is_size(value: &Value) -> bool {
+    match value {
+        Value::Integer(size) => 0 < *size,
+        _ => false,
+    }
+}
+
+// The first item of the sizes that is none, or what stands in their place.
+fn other_size(sizes: &Value) -> &Value {
+    match sizes {
+        Value::Array(items) => items.iter().find(|item| !is_size(item)).unwrap_or(sizes),
+        _ => sizes,
+    }
+}
+
+// The value at fault.
+fn value_at<'t>(
+    document: &'t Table,
+    place: Place,
+    fault: Fault,
+    seen: Option<Seen<'t>>,
+) -> Option<&'t Value> {
+    match (fault, seen) {
+        (Fault::Bad(Key::Namespaces), _) => {
+            Some(other_size(value_in(document, Key::Namespaces)?))
+        }
+        (Fault::Bad(key), Some(seen)) => value_in(seen.table, key),
+        (Fault::Bad(_), None) => other_at(document, place),
+        _ => None,
+    }
+}
+
+// What is told in place of what was expected.
+fn note_of(
+    document: &Table,
+    fault: Fault,
+    found: Option<&Value>,
+    seen: Option<Seen>,
+) -> Option<Note> {
+    match (fault, found, seen) {
+        (Fault::Bad(Key::Number), Some(Value::Integer(number)), _) => Some(Note::NoQueue {
+            number: *number,
+            queues: count_at(document, Key::Queue),
+        }),
+        (Fault::Missing(Key::Op), _, Some(seen)) if value_in(seen.table, Key::Repeat).is_some() => {
+            Some(Note::Nested)
+        }
+        (Fault::Unknown, _, Some(seen)) if unknown_key(seen.keys, seen.table).is_none() => {
+            Some(Note::BesideCq)
+        }
+        _ => None,
+    }
+}
+
+// The unknown key of a table.
+fn key_of(fault: Fault, seen: Option<Seen<'_>>) -> &str {
+    match (fault, seen) {
+        (Fault::Unknown, Some(seen)) => {
+            unknown_key(seen.keys, seen.table).unwrap_or(Key::CqDepth.name())
+        }
+        _ => "",
+    }
+}
+
+// The names of keys.
+fn names_of(alloc: Global, keys: &[Key]) -> Result<Vec<&'static str>, AllocError> {
+    let mut names = Vec::new(alloc);
+    for key in keys {
+        names.push(key.name())?;
+    }
+    Ok(names)
+}
+
+// The key or the word that may have been meant.
+fn meant_by(
+    alloc: Global,
+    fault: Fault,
+    place: Place,
+    key: &str,
+    known: &[Key],
+    found: &Found,
+) -> Result<Option<&'static str>, AllocError> {
+    match (fault, found) {
+        (Fault::Unknown, _) => nearest(alloc, key, &names_of(alloc, known)?),
+        (Fault::Bad(at), Found::Text(text)) => nearest(alloc, text.as_str(), words_of(at, place)),
+        _ => Ok(None),
+    }
+}
+
+// A fault at a place of a short table, with what is told of it.
+fn told_at(
+    alloc: Global,
+    text: &[u8],
+    document: &Table,
+    place: Place,
+    fault: Fault,
+) -> Result<ShortFault, AllocError>
+    ensures { IfOk result (λ f. (f.place ≡ place) × (f.fault ≡ fault)) }
+{
+    let seen = seen_at(document, place, fault);
+    let value = value_at(document, place, fault, seen);
+    let note = note_of(document, fault, value, seen);
+    let key = start_of(alloc, key_of(fault, seen), KEY_CHARACTERS)?;
+    let spot = spot_of(alloc, text, place, fault, key_of(fault, seen), seen)?;
+    let known: &'static [Key] = match (fault, seen) {
+        (Fault::Unknown, Some(seen)) => seen.keys,
+        _ => &[],
+    };
+    let found = found_in(alloc, value)?;
+    let meant = match note {
+        Some(_) => None,
+        None => meant_by(alloc, fault, place, key.as_str(), known, &found)?,
+    };
+    Ok(ShortFault {
+        fault,
+        place,
+        spot,
+        key,
+        known,
+        found,
+        note,
+        meant,
+    })
+}
+
+/// A fault of a short table, which was read from the text, with what is told of it. `None` where memory was refused.
+pub(crate) fn fault_in(
+    alloc: Global,
+    text: &[u8],
+    document: &Table,
+    error: ShortError,
+) -> Option<ShortFault>
     ensures { IfSome result (λ f. error ≡ At f.place f.fault) }
 {
     let ShortError::At(place, fault) = error else {
         return None;
     };
-    let found = match fault {
-        Fault::Unknown => unknown_at(document, place),
-        _ => None,
-    };
-    let (key, known) = found.unwrap_or(("", &[]));
-    match start_of(alloc, key) {
-        Ok(key) => Some(ShortFault {
-            fault,
-            place,
-            key,
-            known,
-        }),
+    match told_at(alloc, text, document, place, fault) {
+        Ok(fault) => Some(fault),
         Err(_) => None,
     }
 }
 
-// What the value of a key must be, as text.
-fn value_of(key: Key, place: Place) -> &'static str {
-    match key {
-        Key::Version => "1",
-        Key::Mechanism => "\"round-robin\" or \"weighted\"",
-        Key::Burst => "1, 2, 4, 8, 16, 32, 64 or \"none\"",
-        Key::Weights => "a table of high, medium and low",
-        Key::High | Key::Medium | Key::Low => "a whole number from 1 to 256",
-        Key::Namespaces => "an array of whole numbers from 1 to 9223372036854775807",
-        Key::Patience => "a whole number from 1 to 4294967295",
-        Key::AdminDepth | Key::AdminCqDepth | Key::Depth | Key::CqDepth => {
-            "a whole number from 2 to 4096"
-        }
-        Key::Admin | Key::Queue | Key::Script => "an array of tables",
-        Key::Class => "\"urgent\", \"high\", \"medium\" or \"low\"",
-        Key::Cq => "the number of an earlier queue that has a completion queue of its own",
-        Key::Repeat | Key::Blocks | Key::Count => "a whole number from 1 to 65536",
-        Key::Op => match place {
-            Place::Admin(_) => {
-                "\"create\", \"delete\", \"abort\", \"set-arbitration\", \"get-features\" or a whole number from 0 to 255"
+impl fmt::Display for Note {
+    fn fmt<W: fmt::Write>(&self, f: &mut fmt::Formatter<W>) -> fmt::Result {
+        match self {
+            Note::Nested => f.write_str("a repeat can't stand in a repeat"),
+            Note::BesideCq => f.write_str("cq_depth can't stand beside cq"),
+            Note::NoQueue { number, queues: 0 } => write!(f, "queue {number}: there is no queue"),
+            Note::NoQueue { number, queues: 1 } => write!(f, "queue {number}: there is 1 queue"),
+            Note::NoQueue { number, queues } => {
+                write!(f, "queue {number}: there are {queues} queues")
             }
-            _ => "\"read\", \"write\", \"flush\" or a whole number from 0 to 255",
-        },
-        Key::Slba | Key::Prp1 => "a whole number from 0 to 9223372036854775807",
-        Key::Spread => "\"same\" or \"sequential\"",
-        Key::Number => "the number of a queue",
-        Key::Cid => "a whole number from 0 to 65535",
-        Key::Feature => "\"arbitration\" or \"number-of-queues\"",
-        Key::Flags => "a whole number from 0 to 255",
-        Key::Nsid | Key::Cdw10 | Key::Cdw11 | Key::Cdw12 => "a whole number from 0 to 4294967295",
+        }
     }
 }
 
-// The most that a key may have, as text.
-fn most_of(key: Key) -> &'static str {
-    match key {
-        Key::Namespaces => "at most 16 namespaces",
-        Key::Queue => "at most 64 queues",
-        _ => "at most 65536 commands in all scripts",
+impl ShortFault {
+    // What was expected of the keys of a table.
+    fn write_known<W: fmt::Write>(&self, f: &mut fmt::Formatter<W>) -> fmt::Result {
+        write!(f, "{key:?}, expected one of", key = self.key)?;
+        for other in self.known.iter() {
+            write!(f, " {name}", name = other.name())?;
+        }
+        match self.meant {
+            Some(meant) => write!(f, "; did you mean {meant}?"),
+            None => Ok(()),
+        }
     }
-}
 
-// What is expected at a place.
-fn expected(fault: Fault, place: Place) -> &'static str {
-    match fault {
-        Fault::Missing(key) | Fault::Bad(key) => value_of(key, place),
-        Fault::Limit(key) => most_of(key),
-        Fault::Written(WorkloadError::Limit) => most_of(Key::Script),
-        Fault::Written(_) | Fault::Unknown => "another file",
+    // What stands there, and what was expected.
+    fn write_expected<W: fmt::Write>(&self, f: &mut fmt::Formatter<W>) -> fmt::Result {
+        let what = expected(self.fault, self.place);
+        write!(f, "{found}expected {what}", found = self.found)?;
+        match self.meant {
+            Some(meant) => write!(f, "; did you mean {meant:?}?"),
+            None => Ok(()),
+        }
     }
 }
 
 impl fmt::Display for ShortFault {
     fn fmt<W: fmt::Write>(&self, f: &mut fmt::Formatter<W>) -> fmt::Result {
-        let fault = self.fault;
-        let place = self.place;
-        write!(f, "{fault}: {place}: ")?;
-        if fault != Fault::Unknown {
-            return write!(f, "expected {what}", what = expected(fault, place));
+        let (fault, place) = (self.fault, self.place);
+        write!(f, "{fault}: ")?;
+        if let Some(spot) = self.spot {
+            write!(f, "{spot}: ")?;
         }
-        write!(f, "{key:?}, expected one of", key = self.key)?;
-        for other in self.known.iter() {
-            write!(f, " {name}", name = other.name())?;
+        write!(f, "{place}: ")?;
+        match (self.note, fault) {
+            (Some(note), _) => write!(f, "{note}"),
+            (None, Fault::Unknown) => self.write_known(f),
+            (None, Fault::Missing(Key::Mechanism)) => f.write_str(without_mechanism(place)),
+            (None, _) => self.write_expected(f),
         }
-        Ok(())
+    }
+}
+
+// Why a file has to say its mechanism.
+fn without_mechanism(place: Place) -> &'static str {
+    match place {
+        Place::Queue(_) => {
+            "classes have no effect under round robin: mechanism = \"weighted\" is missing"
+        }
+        _ => "weights have no effect under round robin: mechanism = \"weighted\" is missing",
     }
 }

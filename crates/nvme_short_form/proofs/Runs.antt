@@ -1,5 +1,5 @@
 -- The items of a run, and copies of items.
-use Rattle.std.proofs.Common.{◌≡◌, ℕ, suc, ◌+◌, List, [], ◌∷◌, ◌++◌, map, append_assoc, ◌∙◌, sym, ap, arith}
+use Rattle.std.proofs.Common.{◌≡◌, ℕ, zero, suc, ◌+◌, List, [], ◌∷◌, ◌++◌, length, map, append_assoc, append-nil, ◌∙◌, refl, sym, ap, arith}
 use Rattle.std.specs.List.{range_with_len}
 use Rattle.std.proofs.lemmas.List.FromFn.{map-range_with_len_more}
 use Rattle.nvme_short_form.specs.declared.command.Item.{Item}
@@ -17,3 +17,12 @@ pub copies_more : (n : ℕ) (items before script after : List Item) → script �
 copies_more n items before script after so pushed =
     let more : n + 1 ≡ suc n = omega arith in
     rw (pushed, so, more) (append_assoc before (copies n items) items)
+
+copies_nil : (n : ℕ) → copies n [] ≡ []
+copies_nil zero = refl
+copies_nil (suc n) = rw (copies_nil n)
+
+-- no items, however often
+pub copies_of_none : (n : ℕ) (items before : List Item) → length items ≡ 0 → before ≡ before ++ copies n items
+copies_of_none n [] before none = rw (copies_nil n) (sym (append-nil before))
+copies_of_none n (x ∷ xs) before none = absurd (omega (arith, none))

@@ -1,5 +1,5 @@
 -- The items of an array, read in turn with their indices.
-use Rattle.std.proofs.Common.{◌≡◌, ℕ, suc, ◌+◌, ◌<◌, ◌≤◌, List, [], ◌∷◌, length, get_or, drop, Result, Ok, refl, sym, ap, ◌∙◌}
+use Rattle.std.proofs.Common.{◌≡◌, ℕ, suc, ◌+◌, ◌<◌, ◌≤◌, List, [], ◌∷◌, length, get_or, drop, Result, Ok, Err, refl, sym, ap, ◌∙◌}
 use Rattle.std.proofs.Math.ListN.{drop_of_length-le}
 use Rattle.toml.specs.Data.{Data, item}
 use Rattle.toml.specs.View.{view, items_view}
@@ -31,3 +31,8 @@ pub turn_fails : {A : Type 0} (next : ℕ → A → Data → Result A ShortError
 unfolding in_turn
 turn_fails next vs i v before total NoMemory lt at step same = tt
 turn_fails next vs i v before total (At place fault) lt at step same = sym same ∙ rw (item_at vs i v lt at, step)
+
+-- an item that is a fault
+pub turn_ends : {A : Type 0} (next : ℕ → A → Data → Result A ShortError) (vs : List Value) (i : ℕ) (v : Value) (before : A) (e : ShortError) → i < length vs → v ≡ get_or vs i v → next i before (view v) ≡ Err e → in_turn next i before (items_view (drop i vs)) ≡ Err e
+unfolding in_turn
+turn_ends next vs i v before e lt at step = rw (item_at vs i v lt at, step)

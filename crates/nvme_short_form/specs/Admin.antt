@@ -80,7 +80,7 @@ queue_at at queues table = only_keys at queue_op_keys table >> number_at at key.
 unfoldable pub abort_of : Place → Members → Result Step ShortError
 abort_of at table = do
   only_keys at abort_keys table
-  queue ← number_at at key.Number 0 65535 table
+  queue ← number_at at key.Target 0 65535 table
   cid ← number_at at key.Cid 0 65535 table
   Ok (Command (admin_item 8 (queue + 65536 * cid) 0))
 

@@ -56,11 +56,11 @@ flush_of place table = do
   count ← number_or place key.Count 1 1 65536 table
   Ok (once (record { op = 0; flags = 0; nsid = nsid; prp1 = 0; dw10 = 0; cdw12 = 0; count = count }))
 
--- an item of today's workload file
+-- an item of today's workload file. Its opcode says that it is one, so that it comes before its keys
 unfoldable pub raw_of : Place → Members → Result Item ShortError
 raw_of place table = do
-  only_keys place raw_keys table
   op ← number_at place key.Op 0 255 table
+  only_keys place raw_keys table
   flags ← number_or place key.Flags 0 0 255 table
   nsid ← number_or place key.Nsid 0 0 4294967295 table
   prp1 ← number_or place key.Prp1 0 0 9223372036854775807 table

@@ -29,6 +29,7 @@ text_of key.Slba = codes "slba"
 text_of key.Blocks = codes "blocks"
 text_of key.Spread = codes "spread"
 text_of key.Number = codes "queue"
+text_of key.Target = codes "queue"
 text_of key.Cid = codes "cid"
 text_of key.Feature = codes "feature"
 text_of key.Flags = codes "flags"
@@ -48,9 +49,9 @@ file_keys =
 abbrev pub weight_keys : List Key
 weight_keys = key.High ∷ key.Medium ∷ key.Low ∷ []
 
--- a table of `queue`: of one with a completion queue of its own, and of one that shares another's
+-- a table of `queue`, and of one that shares another's completion queue
 abbrev pub queue_keys : List Key
-queue_keys = key.Class ∷ key.Depth ∷ key.CqDepth ∷ key.Script ∷ []
+queue_keys = key.Class ∷ key.Depth ∷ key.Cq ∷ key.CqDepth ∷ key.Script ∷ []
 
 abbrev pub shared_keys : List Key
 shared_keys = key.Class ∷ key.Depth ∷ key.Cq ∷ key.Script ∷ []
@@ -74,7 +75,7 @@ abbrev pub queue_op_keys : List Key
 queue_op_keys = key.Op ∷ key.Number ∷ []
 
 abbrev pub abort_keys : List Key
-abort_keys = key.Op ∷ key.Number ∷ key.Cid ∷ []
+abort_keys = key.Op ∷ key.Target ∷ key.Cid ∷ []
 
 abbrev pub set_keys : List Key
 set_keys = key.Op ∷ key.Burst ∷ key.Weights ∷ []

@@ -127,7 +127,7 @@ fn abort_of(place: Place, table: &Table) -> Result<Step, ShortError>
     ensures { result ≡ abort_of place (table_view table.now) }
 {
     only_keys(place, &ABORT_KEYS, table)?;
-    let queue = number_at(place, Key::Number, 0, 0xffff, table)?;
+    let queue = number_at(place, Key::Target, 0, 0xffff, table)?;
     let cid = number_at(place, Key::Cid, 0, 0xffff, table)?;
     Ok(Step::Command(admin_item(8, (queue + 0x1_0000 * cid) as u32, 0)))
 }

@@ -122,13 +122,13 @@ fn flush_of(place: Place, table: &Table) -> Result<Run, ShortError>
     }))
 }
 
-// An item of today's workload file.
+// An item of today's workload file. Its opcode is read before its keys are looked at.
 #[tactic(auto, unfolding(crate::specs::Commands::raw_of))]
 pub(crate) fn raw_of(place: Place, table: &Table) -> Result<Item, ShortError>
     ensures { result ≡ raw_of place (table_view table.now) }
 {
-    only_keys(place, &RAW_KEYS, table)?;
     let op = number_at(place, Key::Op, 0, 0xff, table)?;
+    only_keys(place, &RAW_KEYS, table)?;
     let flags = number_or(place, Key::Flags, 0, 0, 0xff, table)?;
     let nsid = number_or(place, Key::Nsid, 0, 0, 0xffff_ffff, table)?;
     let prp1 = number_or(place, Key::Prp1, 0, 0, 0x7fff_ffff_ffff_ffff, table)?;
@@ -147,9 +147,10 @@ pub(crate) fn raw_of(place: Place, table: &Table) -> Result<Item, ShortError>
     })
 }
 
-// The command that `op` names, or the item of an opcode.
+/// The commands of an item of a script that repeats none: those that `op` names, or the item of an opcode. Or its first
+/// fault, at the place.
 #[tactic(auto, unfolding(crate::specs::Commands::command_of))]
-pub(crate) fn command_of(place: Place, table: &Table) -> Result<Run, ShortError>
+pub fn command_of(place: Place, table: &Table) -> Result<Run, ShortError>
     ensures { result ≡ command_of place (table_view table.now) }
 {
     match value_at(place, Key::Op, table)?.as_str() {

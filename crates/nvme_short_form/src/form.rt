@@ -1,8 +1,9 @@
 // The whole of a short workload file.
 ghost use Rattle.std.specs.Prelude.{◌≡◌, [], Ok, IfOk, IfErr, OnOk};
+ghost use Rattle.toml.specs.Data.{as_table};
 ghost use Rattle.toml.specs.View.{view, items_view, table_view};
 ghost use Rattle.nvme_short_form.specs.Readings.{Fails, Gives, in_turn, value_in};
-ghost use Rattle.nvme_short_form.specs.Form.{is_short, optional_mechanism, with_size, sizes_in, form_of};
+ghost use Rattle.nvme_short_form.specs.Form.{is_short, without_weights, has_class, without_class, without_classes, unsaid_mechanism, optional_mechanism, with_size, sizes_in, form_of};
 ghost use Rattle.nvme_short_form.specs.declared.key.Key.TheVariants as key;
 
 use crate::admin::{Step, arbitration_in, push_steps};
@@ -46,12 +47,69 @@ pub fn is_short(table: &Table) -> bool
     value_in(Key::Version, table).is_some()
 }
 
+// That a file has no weights.
+fn without_weights(table: &Table) -> Result<(), ShortError>
+    ensures { result ≡ without_weights (table_view table.now) }
+{
+    if value_in(Key::Weights, table).is_some() {
+        return Err(ShortError::At(Place::Top, Fault::Missing(Key::Mechanism)));
+    }
+    Ok(())
+}
+
+// Whether a queue has a class.
+fn has_class(queue: &Value) -> bool
+    ensures { result ≡ has_class (as_table (view queue.now)) }
+{
+    match queue.as_table() {
+        Some(table) => value_in(Key::Class, table).is_some(),
+        None => false,
+    }
+}
+
+// That none of these queues has a class.
+fn without_classes_among(queues: &[Value]) -> Result<(), ShortError>
+    ensures { result ≡ in_turn without_class 0 tt (items_view queues.now) }
+{
+    for (index, queue) in queues.iter().enumerate() {
+        if has_class(queue) {
+            let place = Place::Queue(index + 1);
+            return Err(ShortError::At(place, Fault::Missing(Key::Mechanism)));
+        }
+    }
+    Ok(())
+}
+
+// That no queue of a file has a class.
+fn without_classes(table: &Table) -> Result<(), ShortError>
+    ensures { result ≡ without_classes (value_in key.Queue (table_view table.now)) }
+{
+    let Some(value) = value_in(Key::Queue, table) else {
+        return Ok(());
+    };
+    match value.as_array() {
+        Some(queues) => without_classes_among(queues),
+        None => Ok(()),
+    }
+}
+
+// The mechanism of a file that says none: round robin, under which weights and classes have no effect. So a file that
+// has some has to say its mechanism.
+#[tactic(auto, unfolding(crate::specs::Form::unsaid_mechanism))]
+fn unsaid_mechanism(table: &Table) -> Result<Mechanism, ShortError>
+    ensures { result ≡ unsaid_mechanism (table_view table.now) }
+{
+    without_weights(table)?;
+    without_classes(table)?;
+    Ok(Mechanism::RoundRobin)
+}
+
 // The mechanism.
 fn mechanism_in(table: &Table) -> Result<Mechanism, ShortError>
-    ensures { result ≡ optional_mechanism (value_in key.Mechanism (table_view table.now)) }
+    ensures { result ≡ optional_mechanism (table_view table.now) (value_in key.Mechanism (table_view table.now)) }
 {
     let Some(value) = value_in(Key::Mechanism, table) else {
-        return Ok(Mechanism::RoundRobin);
+        return unsaid_mechanism(table);
     };
     match value.as_str() {
         Some("round-robin") => Ok(Mechanism::RoundRobin),

@@ -51,7 +51,9 @@ pub enum Key {
     Spread,
     /// `queue` of an item: the number of a queue.
     Number,
-    /// `cid` of an item: the command identifier.
+    /// `queue` of an Abort: the identifier of a submission queue.
+    Target,
+    /// `cid` of an Abort: the command identifier.
     Cid,
     /// `feature` of an item: the name of a feature.
     Feature,
@@ -91,7 +93,7 @@ impl Key {
             Key::AdminDepth => "admin_depth",
             Key::AdminCqDepth => "admin_cq_depth",
             Key::Admin => "admin",
-            Key::Queue | Key::Number => "queue",
+            Key::Queue | Key::Number | Key::Target => "queue",
             Key::Class => "class",
             Key::Depth => "depth",
             Key::Cq => "cq",

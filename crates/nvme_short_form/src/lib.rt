@@ -13,7 +13,7 @@ mod tables;
 mod values;
 
 pub use admin::Step;
-pub use command::{Item, Run};
+pub use command::{Item, Run, command_of};
 pub use error::{Fault, ShortError};
 pub use form::{Form, form_of, is_short};
 pub use key::Key;

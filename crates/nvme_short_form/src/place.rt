@@ -1,6 +1,7 @@
 use std::fmt;
 
-/// Where a fault of a short workload file is. Queues count from 1, as their identifiers do, and items from 0.
+/// Where a fault of a short workload file is. Queues count from 1, as their identifiers do, and items from 0. As text items
+/// count from 1 too.
 #[derive(Clone, Copy, Debug, PartialEq, Eq)]
 pub enum Place {
     /// The file's own table.
@@ -22,10 +23,19 @@ impl fmt::Display for Place {
         match self {
             Place::Top => write!(f, "top"),
             Place::Queue(queue) => write!(f, "queue {queue}"),
-            Place::Item { queue, item } => write!(f, "queue {queue}, item {item}"),
-            Place::Admin(item) => write!(f, "admin, item {item}"),
+            Place::Item { queue, item } => {
+                let item = item.saturating_add(1);
+                write!(f, "queue {queue}, item {item}")
+            },
+            Place::Admin(item) => write!(f, "admin, item {item}", item = item.saturating_add(1)),
             Place::Weights => write!(f, "top, weights"),
-            Place::AdminWeights(item) => write!(f, "admin, item {item}, weights"),
+            Place::AdminWeights(item) => {
+                write!(
+                    f,
+                    "admin, item {item}, weights",
+                    item = item.saturating_add(1)
+                )
+            }
         }
     }
 }

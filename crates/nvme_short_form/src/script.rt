@@ -64,6 +64,16 @@ fn push_copies(script: &mut Vec<Item>, items: &[Item], times: u64) -> Result<(),
     Ok(())
 }
 
+// Appends items so many times. No items are done with at once, however often they are repeated.
+fn push_repeated(script: &mut Vec<Item>, items: &[Item], times: u64) -> Result<(), AllocError>
+    ensures { OnOk result (script.new.items ≡ script.old.items ++ copies times items.now) }
+{
+    if items.is_empty() {
+        return Ok(());
+    }
+    push_copies(script, items, times)
+}
+
 // Appends a command that is named, or a raw item.
 #[tactic(auto, unfolding(crate::specs::Scripts::with_command))]
 fn push_command(
@@ -137,7 +147,7 @@ fn push_repeat(
     let mut inner = Vec::new(alloc);
     let each = push_inners(&mut inner, place, items)?;
     let commands = with_more(place, before, times * each)?;
-    push_copies(script, &inner, times)?;
+    push_repeated(script, &inner, times)?;
     Ok(commands)
 }
 

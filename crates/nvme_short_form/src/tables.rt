@@ -18,8 +18,8 @@ pub const FILE_KEYS: [Key; 10] = [
 /// The keys of `weights`.
 pub const WEIGHT_KEYS: [Key; 3] = [Key::High, Key::Medium, Key::Low];
 
-/// The keys of a queue with a completion queue of its own.
-pub const QUEUE_KEYS: [Key; 4] = [Key::Class, Key::Depth, Key::CqDepth, Key::Script];
+/// The keys of a queue.
+pub const QUEUE_KEYS: [Key; 5] = [Key::Class, Key::Depth, Key::Cq, Key::CqDepth, Key::Script];
 
 /// The keys of a queue that shares another's completion queue.
 pub const SHARED_KEYS: [Key; 4] = [Key::Class, Key::Depth, Key::Cq, Key::Script];
@@ -56,7 +56,7 @@ pub const REPEAT_KEYS: [Key; 2] = [Key::Repeat, Key::Script];
 pub const QUEUE_OP_KEYS: [Key; 2] = [Key::Op, Key::Number];
 
 /// The keys of `abort`.
-pub const ABORT_KEYS: [Key; 3] = [Key::Op, Key::Number, Key::Cid];
+pub const ABORT_KEYS: [Key; 3] = [Key::Op, Key::Target, Key::Cid];
 
 /// The keys of `set-arbitration`.
 pub const SET_KEYS: [Key; 3] = [Key::Op, Key::Burst, Key::Weights];
