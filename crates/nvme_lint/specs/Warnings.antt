@@ -1,7 +1,11 @@
 -- What of a valid workload has no effect, by the queue table after its admin commands. A front begins none of them before
 -- the deletion that the one before began is finished, so that their answers depend on nothing else. (profile)
-use Rattle.std.specs.Prelude.{◌≡◌, ℕ, ◌/◌, ◌%◌, Bool, false, ◌==◌, ◌&&◌, ◌||◌, not, nat_lt, if◌then◌else◌, List, [], ◌∷◌, ◌++◌, length, reverse, Ok, Option, Some, None, option_map, slice_get}
-use Rattle.std.specs.List.{count_by, position}
+use Rattle.std.specs.Prelude.{◌≡◌, ℕ, ◌/◌, ◌%◌, Bool, false, ◌==◌, ◌&&◌, ◌||◌, not, nat_lt, if◌then◌else◌, List, [], ◌∷◌, ◌++◌, length, reverse, Ok, Option, Some, None, is_some, option_map, slice_get}
+use Rattle.std.specs.List.{count_by, list_any, position}
+use Rattle.nvme_arbiter.specs.Settings.{ArbitrationFields, weight_of}
+use Rattle.nvme_arbiter.specs.declared.settings.Class.TheVariants.{High, Medium, Low}
+use Rattle.nvme_arbiter.specs.declared.settings.Mechanism.{Mechanism}
+use Rattle.nvme_arbiter.specs.declared.settings.Mechanism.TheVariants.{RoundRobin, Weighted}
 use Rattle.nvme_entry.specs.Outcome.{outcome_of}
 use Rattle.nvme_entry.specs.Status.{StatusCode, success}
 use Rattle.nvme_entry.specs.declared.submission.Sqe.{Sqe}
@@ -16,8 +20,9 @@ use Rattle.nvme_workload.specs.declared.plan.SqPlan.{SqPlan}
 use Rattle.nvme_workload.specs.declared.plan.CqPlan.{CqPlan}
 use Rattle.nvme_workload.specs.Plan.{Plan, workload_of}
 use Rattle.nvme_lint.specs.declared.site.Site.{Site}
+use Rattle.nvme_lint.specs.declared.room.Room.{Room}
 use Rattle.nvme_lint.specs.declared.warning.Warning.{Warning}
-use Rattle.nvme_lint.specs.declared.warning.Warning.TheVariants.{Refused, NoTarget, Unused, TooLong, Failing}
+use Rattle.nvme_lint.specs.declared.warning.Warning.TheVariants.{Refused, NoTarget, Unused, TooLong, Failing, WeightsUnheeded, ClassesUnheeded}
 use Rattle.nvme_lint.specs.declared.warning.Kind.TheVariants as kind
 
 -- what the table of a workload begins with
@@ -93,24 +98,36 @@ abbrev pub has_cid : Option ℕ → ℕ → Bool
 has_cid None cid = false
 has_cid (Some commands) cid = nat_lt cid commands
 
--- an Abort (08h) names a command that there isn't, where its queue has so many commands. (Abort, Command Dword 10: CID 31:16)
+-- an Abort (08h) aborts nothing: it names the admin queue, or a command that its queue, which has so many, doesn't have. (Abort, Command Dword 10: CID 31:16, SQID 15:00)
 abbrev pub aborts_none : Option ℕ → Sqe → Bool
-aborts_none commands entry = (entry.opcode == 0x08) && not (has_cid commands (entry.cdw10 / 65536))
+aborts_none commands entry = (entry.opcode == 0x08) && ((entry.cdw10 % 65536 == 0) || not (has_cid commands (entry.cdw10 / 65536)))
+
+-- whether a queue is open under the identifier that a Create names: a completion queue of a Create I/O Completion Queue (05h), and else a submission queue
+abbrev pub is_open : Bool → Option SqEntry → Option ℕ → Bool
+is_open names_cq sq cq = if names_cq then is_some cq else is_some sq
+
+-- what room there is for the queue that a Create names, by the queues of each kind that are open under its identifier and the allotted numbers
+abbrev pub room_of : Option SqEntry → Option ℕ → ℕ → ℕ → Sqe → Room
+room_of sq cq nsq ncq entry = record { is_open = is_open (entry.opcode == 0x05) sq cq; nsq = nsq; ncq = ncq }
+
+-- before it, in the queue table. (Command Dword 10: QID 15:00)
+abbrev pub room_in : QueueTable → Sqe → Room
+room_in table entry = room_of (table.sq (entry.cdw10 % 65536)) (table.cq (entry.cdw10 % 65536)) table.nsq table.ncq entry
 
 -- the warning of the command of this number: its status isn't success, or it aborts a command that there isn't
-abbrev pub of_command : ℕ → Sqe → StatusCode → Option Site → Option ℕ → List Warning
-of_command number entry status site commands =
+abbrev pub of_command : ℕ → Sqe → StatusCode → Option Site → Room → Option ℕ → List Warning
+of_command number entry status site room commands =
     if is_success status then warning_unless (not (aborts_none commands entry)) (NoTarget number entry commands)
-    else Refused number entry status site ∷ []
+    else Refused number entry status site room ∷ []
 
 -- how a command is told, by the queue table before it, its number and its status
 abbrev pub Telling : Type 0
 Telling = QueueTable → ℕ → Sqe → StatusCode → List Warning
 
--- with the region that a Create names, and the commands of the queue that an Abort names. (Abort, Command Dword 10: SQID 15:00)
+-- with the region that a Create names, the room that there is for its queue, and the commands of the queue that an Abort names. (Abort, Command Dword 10: SQID 15:00)
 abbrev pub told_of : List SqPlan → List CqPlan → Telling
 told_of sqs cqs table number entry status =
-    of_command number entry status (site_of sqs cqs entry) (commands_of sqs (table.sq (entry.cdw10 % 65536)))
+    of_command number entry status (site_of sqs cqs entry) (room_in table entry) (commands_of sqs (table.sq (entry.cdw10 % 65536)))
 
 -- the warnings of these admin commands, of which the latest comes first. The number of a command is that of the commands before it
 unfoldable pub of_commands : Telling → Start → TableHistory → List Sqe → List Warning
@@ -163,6 +180,32 @@ of_scripts sizes used [] = []
 of_scripts sizes used (region ∷ earlier) =
     of_scripts sizes used earlier ++ of_script sizes (used (length earlier)) (length earlier) region
 
+-- ---- what round robin doesn't heed
+
+-- a Create I/O Submission Queue (01h) with this QPRIO. (Command Dword 11 02:01)
+abbrev pub creates_class : ℕ → Sqe → Bool
+creates_class qprio entry = (entry.opcode == 0x01) && (entry.cdw11 / 2 % 4 == qprio)
+
+abbrev pub has_class : List Sqe → ℕ → Bool
+has_class script qprio = list_any (creates_class qprio) script
+
+-- the submission queues of an admin script are of two classes or more
+abbrev pub has_classes : List Sqe → Bool
+has_classes script =
+    (has_class script 0 && (has_class script 1 || has_class script 2 || has_class script 3))
+    || (has_class script 1 && (has_class script 2 || has_class script 3))
+    || (has_class script 2 && has_class script 3)
+
+-- some level has another weight than 1
+abbrev pub has_weights : ArbitrationFields → Bool
+has_weights s = nat_lt 1 (weight_of s High) || nat_lt 1 (weight_of s Medium) || nat_lt 1 (weight_of s Low)
+
+-- the warnings of weights and classes, which round robin doesn't heed
+abbrev pub unheeded : Mechanism → ArbitrationFields → List Sqe → List Warning
+unheeded Weighted settings script = []
+unheeded RoundRobin settings script =
+    warning_unless (not (has_weights settings)) WeightsUnheeded ++ warning_unless (not (has_classes script)) ClassesUnheeded
+
 -- the script of the admin queue, whose region is the first
 abbrev pub admin_script : List SqPlan → List Sqe
 admin_script [] = []
@@ -173,13 +216,15 @@ abbrev pub last_table : Plan → QueueTable
 last_table p = queue_table (start_of p) (history_of (start_of p) (first_history p) (reverse (admin_script p.submissions)))
 
 -- the warnings of a workload: the admin commands that are refused or abort a command that there isn't, in order, then the
--- submission regions that no queue was created on, then such completion regions, then the scripts that are too long for their rings or come to nothing
+-- submission regions that no queue was created on, then such completion regions, then the scripts that are too long for their rings or come to nothing,
+-- then weights and classes that aren't heeded
 abbrev pub warnings_of : Plan → List Warning
 warnings_of p =
     of_commands (told_of p.submissions p.completions) (start_of p) (first_history p) (reverse (admin_script p.submissions))
     ++ unused_sqs (last_table p).sq_region_used (reverse p.submissions)
     ++ unused_cqs (last_table p).cq_region_used (reverse p.completions)
     ++ of_scripts p.sizes (last_table p).sq_region_used (reverse p.submissions)
+    ++ unheeded p.mechanism p.settings (admin_script p.submissions)
 
 -- these are the warnings of the workload of the bytes
 abbrev pub AreWarningsOf : List ℕ → List Warning → Type 0

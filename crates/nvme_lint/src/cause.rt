@@ -1,14 +1,21 @@
 // Which check refuses an admin command, as far as its entry, its status and the region that it names tell.
+use crate::room::Room;
 use crate::site::Site;
 use nvme_entry::{Sqe, Status};
 use std::fmt;
 
-/// A refused command, its status, and the region that it names.
+/// A refused command, its status, the region that it names, and the room for the queue that it names.
 #[derive(Clone, Copy)]
 pub(crate) struct Cause<'a> {
     pub(crate) entry: &'a Sqe,
     pub(crate) status: Status,
     pub(crate) site: Option<Site>,
+    pub(crate) room: Room,
+}
+
+// Whether the identifier of an I/O queue is allotted, where so many are.
+fn is_allotted(qid: u32, allotted: u16) -> bool {
+    qid <= u32::from(allotted)
 }
 
 impl Cause<'_> {
@@ -47,11 +54,16 @@ impl Cause<'_> {
             Status::COMPLETION_QUEUE_INVALID => {
                 write!(f, ": there is no completion queue {cqid} (CQID)")
             }
-            Status::INVALID_QUEUE_IDENTIFIER if names_cq => write!(
-                f,
-                ": {qid} is in use or not allotted, or CQID {cqid} isn't allotted"
-            ),
-            Status::INVALID_QUEUE_IDENTIFIER => write!(f, ": {qid} is in use or not allotted"),
+            Status::INVALID_QUEUE_IDENTIFIER if qid == 0 => {
+                f.write_str(": 0 is the admin queue's")
+            }
+            Status::INVALID_QUEUE_IDENTIFIER if self.room.is_open => {
+                write!(f, ": {qid} is in use")
+            }
+            Status::INVALID_QUEUE_IDENTIFIER if names_cq && is_allotted(qid, self.room.nsq) => {
+                write!(f, ": CQID {cqid} isn't allotted")
+            }
+            Status::INVALID_QUEUE_IDENTIFIER => write!(f, ": {qid} isn't allotted"),
             _ => Ok(()),
         }
     }

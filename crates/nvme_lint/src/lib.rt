@@ -3,13 +3,16 @@
 #![tactic(auto)]
 
 mod cause;
+mod heed;
 mod lints;
 mod named;
+mod room;
 mod scripts;
 mod site;
 mod warning;
 mod warnings;
 
 pub use lints::lint;
+pub use room::Room;
 pub use site::Site;
 pub use warning::{Kind, Warning};

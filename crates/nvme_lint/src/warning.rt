@@ -1,5 +1,6 @@
 use crate::cause::Cause;
 use crate::named::Named;
+use crate::room::Room;
 use crate::site::Site;
 use nvme_entry::{Sqe, Status};
 use std::fmt;
@@ -14,15 +15,18 @@ pub enum Kind {
 /// What of a valid workload has no effect. Regions of a kind and commands of a script count from 0.
 #[derive(Clone, Copy, Debug, PartialEq, Eq)]
 pub enum Warning {
-    /// A command of the admin script is answered with a status that isn't success. A Create names the region at `site`.
+    /// A command of the admin script is answered with a status that isn't success. A Create names the region at `site`,
+    /// and a queue for which there is this room.
     Refused {
         command: usize,
         entry: Sqe,
         status: Status,
         site: Option<Site>,
+        room: Room,
     },
-    /// An Abort of the admin script names a command that its queue doesn't have: the queue isn't open there, or it has so
-    /// many `commands`, by the script of its region. So nothing is aborted.
+    /// An Abort of the admin script aborts nothing: it names the admin queue, none of whose commands is aborted, or a command
+    /// that its queue doesn't have. Either the queue isn't open there, or it has so many `commands`, by the script of its
+    /// region.
     NoTarget {
         command: usize,
         entry: Sqe,
@@ -49,6 +53,10 @@ pub enum Warning {
         commands: usize,
         status: Status,
     },
+    /// The mechanism is round robin, and some level has another weight than 1.
+    WeightsUnheeded,
+    /// The mechanism is round robin, and the admin script creates submission queues of two classes or more.
+    ClassesUnheeded,
 }
 
 // The name of the command with an admin opcode.
@@ -95,6 +103,7 @@ fn write_no_target<W: fmt::Write>(
         "command 0.{command}: Abort of command {cid} of queue {qid} aborts nothing: "
     )?;
     match commands {
+        _ if qid == 0 => f.write_str("no command of the admin queue is aborted"),
         None => f.write_str("no such queue is open"),
         Some(0) => f.write_str("its script has no command"),
         Some(1) => f.write_str("its script has command 0 alone"),
@@ -124,12 +133,14 @@ impl fmt::Display for Warning {
                 entry,
                 status,
                 site,
+                room,
             } => {
                 let entry = &entry;
                 let cause = Cause {
                     entry,
                     status,
                     site,
+                    room,
                 };
                 write_refused(command, &cause, f)
             }
@@ -175,6 +186,16 @@ impl fmt::Display for Warning {
                     return Ok(());
                 }
                 f.write_str(", and the others with other errors")
+            }
+            Warning::WeightsUnheeded => {
+                f.write_str(
+                    "weights have no effect under round robin: mechanism isn't \"weighted\"",
+                )
+            }
+            Warning::ClassesUnheeded => {
+                f.write_str(
+                    "classes have no effect under round robin: mechanism isn't \"weighted\"",
+                )
             }
         }
     }

@@ -12,6 +12,8 @@ ghost use Rattle.nvme_workload.specs.Sound.{IsSound, AreSlots, AreSubmissions, A
 ghost use Rattle.nvme_lint.specs.Warnings.{start_of, with_sqs, with_cqs, first_history, aborts_none, commands_of, has_cid, history_after, history_of, of_command, of_commands, script_length, told_of, unused_sqs, unused_cqs, warning_unless, warnings_of};
 ghost use Rattle.nvme_lint.specs.inside.Regions.{sq_site, cq_site};
 
+use crate::heed::push_unheeded;
+use crate::room::{Room, room_of};
 use crate::scripts::push_scripts;
 use crate::site::{Site, site_of};
 use crate::warning::{Kind, Warning};
@@ -115,11 +117,13 @@ fn has_cid(commands: Option<usize>, cid: u32) -> bool
     }
 }
 
-// Whether a command is an Abort of a command that its queue, which has so many, doesn't have.
+// Whether a command is an Abort that aborts nothing: of the admin queue, or of a command that its queue, which has so many,
+// doesn't have.
 fn aborts_none(commands: Option<usize>, entry: &Sqe) -> bool
     ensures { result ≡ aborts_none commands entry.now }
 {
-    entry.opcode == 0x08 && !has_cid(commands, entry.cdw10 / 0x1_0000)
+    entry.opcode == 0x08
+        && (entry.cdw10 % 0x1_0000 == 0 || !has_cid(commands, entry.cdw10 / 0x1_0000))
 }
 
 // How many commands the script of a region has, or 0 where there is no such region.
@@ -149,9 +153,10 @@ fn push_command(
     entry: &Sqe,
     status: Status,
     site: Option<Site>,
+    room: Room,
     commands: Option<usize>,
 ) -> Result<(), AllocError>
-    ensures told { OnOk result (warnings.new.items ≡ warnings.old.items ++ of_command command entry.now status site commands) }
+    ensures told { OnOk result (warnings.new.items ≡ warnings.old.items ++ of_command command entry.now status site room commands) }
 {
     let entry = *entry;
     if !is_success(status) {
@@ -160,6 +165,7 @@ fn push_command(
             entry,
             status,
             site,
+            room,
         };
         return push_unless(warnings, false, refused);
     }
@@ -185,9 +191,10 @@ fn push_commands(
 {
     for (command, entry) in script.iter().enumerate() {
         let commands = commands_at(table, sqs, entry);
+        let room = room_of(table, entry);
         let status = play(table, entry);
         let site = site_of(sqs, cqs, entry);
-        push_command(warnings, command, entry, status, site, commands)?;
+        push_command(warnings, command, entry, status, site, room, commands)?;
     }
     Ok(())
 }
@@ -233,7 +240,8 @@ fn push_unused_cqs(
 }
 
 /// What of a workload has no effect: first the admin commands that are refused or abort a command that there isn't, in
-/// order, then the regions that no queue is created on, submission regions first, then the scripts that are too long for their rings or come to nothing.
+/// order, then the regions that no queue is created on, submission regions first, then the scripts that are too long for
+/// their rings or come to nothing, then weights and classes that the mechanism doesn't heed.
 pub(crate) fn warnings_of(alloc: Global, workload: &Workload) -> Result<Vec<Warning>, AllocError>
     requires sound { IsSound (plan_of workload.now) }
     ensures told { IfOk result (λ ws. ws.items ≡ warnings_of (plan_of workload.now)) }
@@ -247,5 +255,11 @@ pub(crate) fn warnings_of(alloc: Global, workload: &Workload) -> Result<Vec<Warn
     push_unused_sqs(&mut warnings, &table, submissions)?;
     push_unused_cqs(&mut warnings, &table, completions)?;
     push_scripts(&mut warnings, &table, submissions, &workload.spaces)?;
+    push_unheeded(
+        &mut warnings,
+        workload.mechanism,
+        &workload.settings,
+        script,
+    )?;
     Ok(warnings)
 }
