@@ -4,4 +4,4 @@
 mod picture;
 mod rows;
 
-pub use picture::{Picture, chart};
+pub use picture::{Form, Picture, Style, chart, chart_in};

@@ -3,9 +3,10 @@ ghost use Rattle.std.specs.Prelude.{◌≡◌, [], ◌∷◌, OnOk, IfOk, IfErr,
 ghost use Rattle.nvme_arbiter.specs.History.{History, Picked, Changed};
 ghost use Rattle.nvme_trace.specs.declared.records.Head.{Head};
 ghost use Rattle.nvme_trace.specs.declared.fault.TraceError.TheVariants as fault;
-ghost use Rattle.nvme_stats.specs.Chosen.{chosen};
+ghost use Rattle.nvme_stats.specs.Chosen.{last_before};
+ghost use Rattle.nvme_stats.specs.declared.selection.Selection.{Selection};
 ghost use Rattle.nvme_trace.specs.Shown.{IsShown, IsReadFault};
-ghost use Rattle.nvme_chart.specs.Pictured.{IsPictured};
+ghost use Rattle.nvme_chart.specs.Pictured.{IsPictured, IsPicturedPart};
 
 mod bars;
 mod curves;
@@ -16,7 +17,7 @@ use bars::put_bars_picture;
 use curves::put_curves_picture;
 use nvme_arbiter::{Class, Mechanism, Pick, Seen, Settings};
 use nvme_output::WriteFault;
-use nvme_stats::{LANES, Selection, Series, Watch, more, queue_of_lane, show};
+use nvme_stats::{LANES, Part, Selection, Series, Watch, more, queue_of_lane, show};
 use nvme_trace::{Head, Trace, TraceError, TraceEvent, class_name};
 use std::alloc::Global;
 use std::io::{self, Read, Write};
@@ -32,9 +33,52 @@ const POINTS: u64 = 64;
 // The most places for bars in all rows.
 const BARS: u64 = 65_536;
 
-/// A picture of a trace. Below 2,000 picks it has a row for each queue and class, and a bar for each pick from left to
-/// right; from there on it has a curve of the share of each, window by window. Neither its memory nor its text grows
-/// with the trace.
+/// What stands for the picks of a picture.
+#[derive(Clone, Copy, Debug, PartialEq, Eq)]
+pub enum Form {
+    /// Bars below 2,000 picks, and curves from there on.
+    ByLength,
+    /// Curves.
+    Curves,
+}
+
+/// How a picture is drawn.
+#[derive(Clone, Copy, Debug, PartialEq, Eq)]
+pub struct Style {
+    /// What stands for the picks.
+    pub form: Form,
+    /// Whether the picks of the admin queue are drawn.
+    pub admin: bool,
+}
+
+impl Style {
+    /// Bars or curves by the number of picks, with those of the admin queue.
+    pub const COMMON: Style = Style {
+        form: Form::ByLength,
+        admin: true,
+    };
+
+    // Whether a queue is drawn.
+    fn draws(&self, qid: u16) -> bool {
+        qid > 0 || self.admin
+    }
+}
+
+// What was seen of a row.
+#[derive(Clone, Copy)]
+struct Row {
+    seen: bool,
+    // The number of the last pick that took from it, or at which it had waiting commands.
+    end: u64,
+}
+
+const UNSEEN: Row = Row {
+    seen: false,
+    end: 0,
+};
+
+/// A picture of a trace. With bars it has a row for each queue and class, and a bar for each pick from left to right;
+/// with curves it has one of the share of each, window by window. Neither its memory nor its text grows with the trace.
 #[derive(Drop)]
 pub struct Picture {
     mechanism: Mechanism,
@@ -43,36 +87,49 @@ pub struct Picture {
     // The settings at the first pick.
     begun: Settings,
     series: Series,
-    // Whether each row was seen.
-    seen: [bool; LANES],
+    rows: [Row; LANES],
+    style: Style,
     // Whether the settings changed after the latest pick.
     set: bool,
+    // Which part of the trace is drawn.
+    part: Part,
 }
 
-// Notes which rows were seen.
-fn note_rows(rows: &mut [bool; LANES], mechanism: Mechanism, seen: &[Seen]) {
+// Notes which rows were seen at a pick of this number, and which of them was picked or had waiting commands.
+fn note_rows(
+    rows: &mut [Row; LANES],
+    mechanism: Mechanism,
+    style: Style,
+    number: u64,
+    seen: &[Seen],
+    picked: u16,
+) {
     for queue in seen {
-        if let Some(row) = row_of(mechanism, queue)
-            && let Some(seen) = rows.get_mut(row)
+        if style.draws(queue.qid)
+            && let Some(row) = row_of(mechanism, queue)
+            && let Some(row) = rows.get_mut(row)
         {
-            *seen = true;
+            row.seen = true;
+            if queue.count > 0 || queue.qid == picked {
+                row.end = number;
+            }
         }
     }
 }
 
 // Sums up windows until the bars of so many rows have room, or the points of curves.
-fn fit(series: &mut Series, picks: u64, rows: u64) {
-    if picks < LONG {
-        series.fit(BARS / rows.max(1));
-    } else {
+fn fit(series: &mut Series, curves: bool, rows: u64) {
+    if curves {
         series.fit(POINTS);
         series.join_rest();
+    } else {
+        series.fit(BARS / rows.max(1));
     }
 }
 
 impl Picture {
     // A picture with no pick.
-    fn new(alloc: Global, head: Head) -> Picture
+    fn new(alloc: Global, head: Head, style: Style) -> Picture
         ensures { IsPictured head [] result }
     {
         Picture {
@@ -81,9 +138,35 @@ impl Picture {
             commands: 0,
             begun: head.settings,
             series: Series::new(alloc, 1, WINDOWS),
-            seen: [false; LANES],
+            rows: [UNSEEN; LANES],
+            style,
             set: false,
+            part: Part {
+                selection: Selection::ALL,
+                next: 1,
+            },
         }
+    }
+
+    // Whether the picture has curves.
+    fn has_curves(&self) -> bool {
+        self.style.form == Form::Curves || self.picks >= LONG
+    }
+
+    // Draws a pick of this number, where its queue is drawn.
+    fn draw(&mut self, number: u64, seen: &[Seen], pick: &Pick) -> Result<(), TraceError>
+        ensures mechanism { OnOk result (self.new.mechanism ≡ self.old.mechanism) }
+        ensures picks { OnOk result (self.new.picks ≡ self.old.picks) }
+        ensures commands { OnOk result (self.new.commands ≡ self.old.commands) }
+        ensures fault { IfErr result (λ e. e ≡ fault.NoMemory) }
+    {
+        if !self.style.draws(pick.qid) {
+            return Ok(());
+        }
+        let row = row_of_pick(self.mechanism, seen, pick.qid);
+        self.series.note_pick(number, row, pick, self.set)?;
+        self.set = false;
+        Ok(())
     }
 
     // Adds a pick of this number.
@@ -91,30 +174,45 @@ impl Picture {
         ensures stands { OnOk result ((head : Head) (past : History) → IsPictured head past self.old → IsPictured head (Picked seen.now pick.now ∷ past) self.new) }
         ensures fault { IfErr result (λ e. e ≡ fault.NoMemory) }
     {
-        let row = row_of_pick(self.mechanism, seen, pick.qid);
-        self.series.note_pick(number, row, pick, self.set)?;
-        note_rows(&mut self.seen, self.mechanism, seen);
+        self.draw(number, seen, pick)?;
+        let (mechanism, style) = (self.mechanism, self.style);
+        note_rows(&mut self.rows, mechanism, style, number, seen, pick.qid);
         self.picks = more(self.picks, 1);
         self.commands = more(self.commands, pick.n);
-        self.set = false;
         Ok(())
     }
 
-    // Takes new settings.
+    // Takes new settings. Where nothing is drawn yet, the picture begins with them.
     fn note_set(&mut self, settings: Settings)
         ensures { (head : Head) (past : History) → IsPictured head past self.old → IsPictured head (Changed settings ∷ past) self.new }
     {
-        self.set = true;
-        if self.picks == 0 {
+        if self.series.all.is_empty() {
             self.begun = settings;
+        } else {
+            self.set = true;
         }
     }
 
+    // Notes which part of the trace is drawn.
+    fn note_part(&mut self, part: Part)
+        ensures pictured { (head : Head) (past : History) → IsPictured head past self.old → IsPictured head past self.new }
+        ensures part { self.new.part ≡ part }
+    {
+        self.part = part;
+    }
+
+    /// The number of the last pick of the trace, where the first one that was to be drawn is behind it.
+    pub fn last_before(&self) -> Option<u64>
+        ensures { (selection : Selection) (head : Head) (past : History) → IsPicturedPart selection head past self.now → result ≡ last_before selection past }
+    {
+        self.part.last_before()
+    }
+
     // The number of rows that were seen.
-    fn rows(&self) -> u64 {
+    fn row_count(&self) -> u64 {
         let mut rows = 0u64;
-        for seen in &self.seen {
-            if *seen {
+        for row in &self.rows {
+            if row.seen {
                 rows = rows.saturating_add(1);
             }
         }
@@ -128,8 +226,8 @@ impl Picture {
 
     // Whether a class was seen. Round robin has no classes.
     fn has_class(&self, class: Class) -> bool {
-        for (row, seen) in self.seen.iter().enumerate() {
-            if *seen && queue_of_lane(row).class == class {
+        for (at, row) in self.rows.iter().enumerate() {
+            if row.seen && queue_of_lane(at).class == class {
                 return self.mechanism == Mechanism::Weighted;
             }
         }
@@ -156,10 +254,10 @@ impl Picture {
 
     /// Writes the picture as SVG. `WriteFault` where a write failed.
     pub fn write_svg<W: Write>(&self, writer: &mut W) -> Result<(), WriteFault> {
-        let written = if self.picks < LONG {
-            put_bars_picture(self, writer)
-        } else {
+        let written = if self.has_curves() {
             put_curves_picture(self, writer)
+        } else {
+            put_bars_picture(self, writer)
         };
         match written {
             Ok(()) => Ok(()),
@@ -168,14 +266,14 @@ impl Picture {
     }
 }
 
-// The colour of a class.
+// The colour of a class: those of Okabe and Ito, which colour-blind readers tell apart.
 fn colour(class: Class) -> &'static str {
     match class {
         Class::Admin => "#555555",
-        Class::Urgent => "#c62828",
-        Class::High => "#ef6c00",
-        Class::Medium => "#2e7d32",
-        Class::Low => "#1565c0",
+        Class::Urgent => "#d55e00",
+        Class::High => "#e69f00",
+        Class::Medium => "#009e73",
+        Class::Low => "#0072b2",
     }
 }
 
@@ -195,21 +293,36 @@ impl Watch for Picture {
     fn pass(&mut self) {}
 }
 
-/// Draws the picks of a selection of a trace. It is read as a stream, and its picks aren't judged. Refused with the
-/// first faulty line, a failed read or no memory, as `nvme_trace::check` is.
+/// Draws the picks of a selection of a trace in the common style, as `chart_in` does.
 pub fn chart<R: Read + Drop>(
     alloc: Global,
     reader: R,
     selection: Selection,
 ) -> Result<Picture, TraceError>
-    ensures pictured { IfOk result (λ picture. IfSome (R.remaining reader) (λ text. IsShown text (λ head past. IsPictured head (chosen selection past) picture))) }
+    ensures pictured { IfOk result (λ picture. IfSome (R.remaining reader) (λ text. IsShown text (λ head past. IsPicturedPart selection head past picture))) }
+    ensures fault { IfErr result (λ error. IfSome (R.remaining reader) (λ text. IsReadFault text error)) }
+{
+    chart_in(alloc, reader, selection, Style::COMMON)
+}
+
+/// Draws the picks of a selection of a trace. It is read as a stream, and its picks aren't judged. Refused with the
+/// first faulty line, a failed read or no memory, as `nvme_trace::check` is.
+pub fn chart_in<R: Read + Drop>(
+    alloc: Global,
+    reader: R,
+    selection: Selection,
+    style: Style,
+) -> Result<Picture, TraceError>
+    ensures pictured { IfOk result (λ picture. IfSome (R.remaining reader) (λ text. IsShown text (λ head past. IsPicturedPart selection head past picture))) }
     ensures fault { IfErr result (λ error. IfSome (R.remaining reader) (λ text. IsReadFault text error)) }
 {
     let mut trace = Trace::new(alloc, reader);
     let head = trace.head(alloc)?;
-    let mut picture = Picture::new(alloc, head);
-    show(alloc, &mut trace, selection, &mut picture)?;
-    let rows = picture.rows();
-    fit(&mut picture.series, picture.picks, rows);
+    let mechanism = head.mechanism;
+    let mut picture = Picture::new(alloc, head, style);
+    let part = show(alloc, &mut trace, mechanism, selection, &mut picture)?;
+    picture.note_part(part);
+    let (curves, rows) = (picture.has_curves(), picture.row_count());
+    fit(&mut picture.series, curves, rows);
     Ok(picture)
 }

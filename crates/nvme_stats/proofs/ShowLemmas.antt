@@ -12,6 +12,7 @@ use Rattle.nvme_trace.specs.declared.fault.TraceError.TheVariants as error
 use Rattle.nvme_trace.specs.declared.records.Head.{Head}
 use Rattle.nvme_stats.specs.Chosen.{chosen, chooses, number_after}
 use Rattle.nvme_stats.specs.declared.selection.Selection.{Selection}
+use Rattle.nvme_arbiter.specs.declared.settings.Mechanism.{Mechanism}
 use Rattle.nvme_trace.specs.Shown.{IsShown, IsReadUpTo, IsReadFault}
 
 -- this many lines were read, and this holds of what they say
@@ -84,9 +85,9 @@ no_memory text e is = subst (λ (x : TraceError). IsReadFault text x) (sym is) (
 -- ---- the chosen events
 
 -- the pick after these events has this number, and this holds of those that are chosen
-pub record IsFollowed (s : Selection) (next : ℕ) (P : History → Type 0) (past : History) : Type 0 where
+pub record IsFollowed (m : Mechanism) (s : Selection) (next : ℕ) (P : History → Type 0) (past : History) : Type 0 where
   pub next_is : next ≡ number_after past
-  pub holds : P (chosen s past)
+  pub holds : P (chosen m s past)
 
 -- what follows where something is done
 pub after_ok : {T E : Type 0} (result : Result T E) (P Q : Type 0) → OnOk result P → (P → Q) → OnOk result Q
@@ -97,13 +98,13 @@ pub first_number : 1 ≡ number_after []
 first_number = refl
 
 -- an event that is chosen, and one that isn't
-pub more_chosen : (s : Selection) (past : History) (e : ArbitrationEvent) (b : Bool) (P : History → Type 0) → b ≡ chooses s past e → b ≡ true
-    → P (e ∷ chosen s past) → P (chosen s (e ∷ past))
-more_chosen s past e b P is on p = rw (sym is ∙ on) p
+pub more_chosen : (m : Mechanism) (s : Selection) (past : History) (e : ArbitrationEvent) (b : Bool) (P : History → Type 0) → b ≡ chooses m s past e → b ≡ true
+    → P (e ∷ chosen m s past) → P (chosen m s (e ∷ past))
+more_chosen m s past e b P is on p = rw (sym is ∙ on) p
 
-pub none_chosen : (s : Selection) (past : History) (e : ArbitrationEvent) (b : Bool) (P : History → Type 0) → b ≡ chooses s past e → b ≡ false
-    → P (chosen s past) → P (chosen s (e ∷ past))
-none_chosen s past e b P is off p = rw (sym is ∙ off) p
+pub none_chosen : (m : Mechanism) (s : Selection) (past : History) (e : ArbitrationEvent) (b : Bool) (P : History → Type 0) → b ≡ chooses m s past e → b ≡ false
+    → P (chosen m s past) → P (chosen m s (e ∷ past))
+none_chosen m s past e b P is off p = rw (sym is ∙ off) p
 
 -- ---- the whole text
 

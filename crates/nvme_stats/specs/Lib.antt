@@ -1,3 +1,4 @@
 pub mod Chosen
 pub mod Counted
+pub mod Looked
 pub mod Rows

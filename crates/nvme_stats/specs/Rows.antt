@@ -15,6 +15,6 @@ IsRow High qid row = IsIoQueue qid × (row ≡ 64 + qid)
 IsRow Medium qid row = IsIoQueue qid × (row ≡ 128 + qid)
 IsRow Low qid row = IsIoQueue qid × (row ≡ 192 + qid)
 
--- the share of a part in a whole in hundredths of a percent: the nearest one, and of two the larger
-abbrev pub share_of : ℕ → ℕ → ℕ
-share_of part whole = (part * 10000 + whole / 2) / whole
+-- the share of a part in a whole of so many units: the nearest number of units, and of two the larger
+abbrev pub share_of : ℕ → ℕ → ℕ → ℕ
+share_of units part whole = (part * units + whole / 2) / whole

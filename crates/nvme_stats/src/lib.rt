@@ -3,6 +3,7 @@
 #![tactic(auto)]
 
 mod behind;
+mod fairness;
 mod heading;
 mod histogram;
 mod lanes;
@@ -16,8 +17,8 @@ mod watch;
 
 pub use heading::{plural, put_counts, put_settings};
 pub use lanes::{CLASSES, IO_QUEUES, LANES, class_of_lane, lane_of, queue_of_lane};
-pub use selection::Selection;
+pub use selection::{Part, Selection};
 pub use series::{Series, Window};
-pub use shares::share;
+pub use shares::{millionths, share};
 pub use statistics::{Statistics, stats};
 pub use watch::{Watch, more, show};

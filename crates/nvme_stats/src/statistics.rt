@@ -3,19 +3,22 @@ ghost use Rattle.std.specs.Prelude.{◌≡◌, [], ◌∷◌, IfOk, IfErr, IfSom
 ghost use Rattle.nvme_arbiter.specs.History.{History, Picked, Changed};
 ghost use Rattle.nvme_trace.specs.declared.fault.TraceError.TheVariants as fault;
 ghost use Rattle.nvme_trace.specs.declared.records.Head.{Head};
-ghost use Rattle.nvme_stats.specs.Chosen.{chosen};
+ghost use Rattle.nvme_stats.specs.Chosen.{last_before};
 ghost use Rattle.nvme_trace.specs.Shown.{IsShown, IsReadFault};
 ghost use Rattle.nvme_stats.specs.Counted.{IsCounted};
+ghost use Rattle.nvme_stats.specs.Looked.{IsCountedPart};
+ghost use Rattle.nvme_stats.specs.declared.selection.Selection.{Selection};
 
 mod object;
 mod sheet;
 mod table;
 
 use crate::behind::{Behind, NOT_BEHIND};
+use crate::fairness::NO_PART;
 use crate::lanes::{
     CLASSES, IO_QUEUES, LANES, class_of_lane, lane_of_pick, lanes_of_queue, queue_of_lane,
 };
-use crate::selection::Selection;
+use crate::selection::{Part, Selection};
 use crate::series::Series;
 use crate::tally::{NO_TALLY, Tally, count_pick, note_seen, wait, wait_anew};
 use crate::waits::Waits;
@@ -43,7 +46,9 @@ pub struct Statistics {
     changes: u64,
     // The settings at the first pick.
     begun: Settings,
-    selection: Selection,
+    // Whether they change between two picks.
+    mixed: bool,
+    part: Part,
     tallies: [Tally; LANES],
     behind: Behind,
     waits: Waits,
@@ -53,7 +58,7 @@ pub struct Statistics {
 
 impl Statistics {
     // Statistics of no pick.
-    fn new(alloc: Global, head: Head, selection: Selection, window: Option<u64>) -> Statistics
+    fn new(alloc: Global, head: Head, window: Option<u64>) -> Statistics
         ensures { IsCounted head [] result }
     {
         Statistics {
@@ -63,7 +68,11 @@ impl Statistics {
             commands: 0,
             changes: 0,
             begun: head.settings,
-            selection,
+            mixed: false,
+            part: Part {
+                selection: Selection::ALL,
+                next: 1,
+            },
             tallies: [NO_TALLY; LANES],
             behind: NOT_BEHIND,
             waits: Waits::new(alloc),
@@ -110,11 +119,21 @@ impl Statistics {
     {
         wait_anew(&mut self.tallies);
         self.behind.begin_anew();
-        self.settings = settings;
         if self.picks == 0 {
             self.begun = settings;
+        } else if settings != self.settings {
+            self.mixed = true;
         }
+        self.settings = settings;
         self.changes = more(self.changes, 1);
+    }
+
+    // Notes which part of the trace was looked at.
+    fn note_part(&mut self, part: Part)
+        ensures counted { (head : Head) (past : History) → IsCounted head past self.old → IsCounted head past self.new }
+        ensures part { self.new.part ≡ part }
+    {
+        self.part = part;
     }
 
     // The sum of all rows of a class.
@@ -139,26 +158,75 @@ impl Statistics {
         sum
     }
 
-    // Jain's index of the commands of the I/O queues, in ten thousandths: the square of their sum, divided by their
-    // number times the sum of their squares. 10,000 where none was picked.
-    fn jain(&self) -> u128 {
-        let mut number = 0u128;
-        let mut sum = 0u128;
-        let mut squares = 0u128;
+    // Jain's index of the commands of the I/O queues, in ten thousandths. `None` where none was picked.
+    fn jain(&self) -> Option<u128> {
+        let mut parts = NO_PART;
         for qid in 1..=IO_QUEUES as u16 {
             let tally = self.of_queue(qid);
             if tally.seen {
-                let commands = u128::from(tally.commands);
-                number = number.saturating_add(1);
-                sum = sum.saturating_add(commands);
-                squares = squares.saturating_add(commands.saturating_mul(commands));
+                parts.add(u128::from(tally.commands));
             }
         }
-        let below = number.saturating_mul(squares);
-        if below == 0 {
-            return 10_000;
+        parts.index()
+    }
+
+    // The number of queues of a class.
+    fn queues_of(&self, class: Class) -> u128 {
+        let mut number = 0u128;
+        for (lane, tally) in self.tallies.iter().enumerate() {
+            if tally.seen && class_of_lane(lane) == class {
+                number = number.saturating_add(1);
+            }
         }
-        sum.saturating_mul(sum).saturating_mul(10_000) / below
+        number
+    }
+
+    // Commands of a queue of a level, divided by what its weight gives it, which is the weight of its level over the
+    // number of queues of that, times the weights of all levels. `None` for the other classes.
+    fn part_by_weight(&self, class: Class, commands: u64) -> Option<u128> {
+        let (high, medium) = (
+            self.begun.weight(Class::High),
+            self.begun.weight(Class::Medium),
+        );
+        let low = self.begun.weight(Class::Low);
+        let others = match class {
+            Class::Admin | Class::Urgent => return None,
+            Class::High => u128::from(medium) * u128::from(low),
+            Class::Medium => u128::from(high) * u128::from(low),
+            Class::Low => u128::from(high) * u128::from(medium),
+        };
+        let shared = others.saturating_mul(self.queues_of(class));
+        Some(u128::from(commands).saturating_mul(shared))
+    }
+
+    // Jain's index of the commands of the queues of levels, each divided by what its weight gives it, in ten
+    // thousandths. `None` under round robin, where the settings change between two picks, and where none was picked.
+    fn jain_by_weight(&self) -> Option<u128> {
+        if self.mechanism == Mechanism::RoundRobin || self.mixed {
+            return None;
+        }
+        let mut parts = NO_PART;
+        for (lane, tally) in self.tallies.iter().enumerate() {
+            if tally.seen
+                && let Some(part) = self.part_by_weight(class_of_lane(lane), tally.commands)
+            {
+                parts.add(part);
+            }
+        }
+        parts.index()
+    }
+
+    // Whether queues of levels were seen, and none was picked.
+    fn has_idle_levels(&self) -> bool {
+        let levels = [Class::High, Class::Medium, Class::Low].map(|class| self.of_class(class));
+        levels.iter().any(|tally| tally.seen) && levels.iter().all(|tally| tally.picks == 0)
+    }
+
+    /// The number of the last pick of the trace, where the first one that was to be looked at is behind it.
+    pub fn last_before(&self) -> Option<u64>
+        ensures { (selection : Selection) (head : Head) (past : History) → IsCountedPart selection head past self.now → result ≡ last_before selection past }
+    {
+        self.part.last_before()
     }
 
     // A ready queue of a lawful run stays unpicked for fewer picks in a row than this.
@@ -170,8 +238,8 @@ impl Statistics {
     }
 
     /// Writes tables for people. The first has a row for each queue and each class: its picks, its commands, its share
-    /// of all commands, and the most picks in a row for which a queue was ready and not picked, beside the bound below
-    /// which this stays in a lawful run. The second tells for each queue how many commands others got between two
+    /// of all commands, and the most picks in a row that passed a ready queue over, beside the bound below which this
+    /// stays in a lawful run. The second tells for each queue how many commands others got between two
     /// services of it. Where windows are asked for, the third has a row for each. `WriteFault` where a write failed.
     pub fn write_text<W: Write>(&self, writer: &mut W) -> Result<(), WriteFault> {
         match put_table(self, writer) {
@@ -228,12 +296,14 @@ pub fn stats<R: Read + Drop>(
     selection: Selection,
     window: Option<u64>,
 ) -> Result<Statistics, TraceError>
-    ensures counted { IfOk result (λ counted. IfSome (R.remaining reader) (λ text. IsShown text (λ head past. IsCounted head (chosen selection past) counted))) }
+    ensures counted { IfOk result (λ counted. IfSome (R.remaining reader) (λ text. IsShown text (λ head past. IsCountedPart selection head past counted))) }
     ensures fault { IfErr result (λ error. IfSome (R.remaining reader) (λ text. IsReadFault text error)) }
 {
     let mut trace = Trace::new(alloc, reader);
     let head = trace.head(alloc)?;
-    let mut counted = Statistics::new(alloc, head, selection, window);
-    show(alloc, &mut trace, selection, &mut counted)?;
+    let mechanism = head.mechanism;
+    let mut counted = Statistics::new(alloc, head, window);
+    let part = show(alloc, &mut trace, mechanism, selection, &mut counted)?;
+    counted.note_part(part);
     Ok(counted)
 }

@@ -1,15 +1,16 @@
 // Goes through a trace, event by event.
-ghost use Rattle.std.specs.Prelude.{◌≡◌, ◌+◌, List, ℕ, Some, Ok, [], ◌∷◌, IfErr, OnOk};
+ghost use Rattle.std.specs.Prelude.{◌≡◌, ◌+◌, List, ℕ, Some, Ok, [], ◌∷◌, IfErr, IfOk, OnOk};
 ghost use Rattle.nvme_arbiter.specs.History.{History};
 ghost use Rattle.nvme_trace.specs.Format.{event_view, head_of_line};
 ghost use Rattle.nvme_trace.specs.Lines.{TakesTold};
 ghost use Rattle.nvme_trace.specs.declared.records.Head.{Head};
 ghost use Rattle.nvme_trace.specs.declared.fault.TraceError.TheVariants as fault;
-ghost use Rattle.nvme_stats.specs.Chosen.{chosen, number_after};
+ghost use Rattle.nvme_stats.specs.Chosen.{IsPart, chosen, number_after};
 ghost use Rattle.nvme_stats.specs.Counted.{capped};
 ghost use Rattle.nvme_trace.specs.Shown.{IsShown, IsReadFault};
 
-use crate::selection::{Chooser, Selection};
+use crate::selection::{Chooser, Part, Selection};
+use nvme_arbiter::Mechanism;
 use nvme_trace::{Trace, TraceError, TraceEvent};
 use std::alloc::Global;
 use std::io::Read;
@@ -42,8 +43,9 @@ fn show_one<W: Watch>(
     event: &TraceEvent,
     watcher: &mut W,
 ) -> Result<(), TraceError>
-    ensures stands { OnOk result ((head : Head) (past : History) → chooser.old.next ≡ number_after past → W.stands head (chosen chooser.old.selection past) watcher.old → W.stands head (chosen chooser.old.selection (event_view event.now ∷ past)) watcher.new) }
+    ensures stands { OnOk result ((head : Head) (past : History) → chooser.old.next ≡ number_after past → W.stands head (chosen chooser.old.mechanism chooser.old.selection past) watcher.old → W.stands head (chosen chooser.old.mechanism chooser.old.selection (event_view event.now ∷ past)) watcher.new) }
     ensures next { OnOk result ((past : History) → chooser.old.next ≡ number_after past → chooser.new.next ≡ number_after (event_view event.now ∷ past)) }
+    ensures mechanism { chooser.new.mechanism ≡ chooser.old.mechanism }
     ensures selection { chooser.new.selection ≡ chooser.old.selection }
     ensures fault { IfErr result (λ e. e ≡ fault.NoMemory) }
 {
@@ -56,20 +58,28 @@ fn show_one<W: Watch>(
     }
 }
 
-/// Shows the chosen events after the head to a watcher.
+/// Shows the chosen events after the head to a watcher. The answer is the part of the trace that they are.
 pub fn show<R: Read, W: Watch>(
     alloc: Global,
     trace: &mut Trace<R>,
+    mechanism: Mechanism,
     selection: Selection,
     watcher: &mut W,
-) -> Result<(), TraceError>
-    ensures shown { OnOk result ((text : List ℕ) (head : Head) → TakesTold (λ line. head_of_line line ≡ Ok head) 0 (Some text) trace.old.number trace.old.rest → W.stands head [] watcher.old → IsShown text (λ h past. W.stands h (chosen selection past) watcher.new)) }
-    ensures fault { IfErr result (λ error. (text : List ℕ) (head : Head) → TakesTold (λ line. head_of_line line ≡ Ok head) 0 (Some text) trace.old.number trace.old.rest → W.stands head [] watcher.old → IsReadFault text error) }
+) -> Result<Part, TraceError>
+    ensures shown { IfOk result (λ part. (text : List ℕ) (first : Head) → TakesTold (λ line. head_of_line line ≡ Ok first) 0 (Some text) trace.old.number trace.old.rest → W.stands first [] watcher.old → first.mechanism ≡ mechanism → IsShown text (λ h past. W.stands h (chosen h.mechanism selection past) watcher.new × IsPart selection past part)) }
+    ensures fault { IfErr result (λ error. (text : List ℕ) (first : Head) → TakesTold (λ line. head_of_line line ≡ Ok first) 0 (Some text) trace.old.number trace.old.rest → W.stands first [] watcher.old → IsReadFault text error) }
 {
-    let mut chooser = Chooser { selection, next: 1 };
+    let mut chooser = Chooser {
+        mechanism,
+        selection,
+        next: 1,
+    };
     for _ in 1..u64::MAX {
         let Some(event) = trace.event(alloc)? else {
-            return Ok(());
+            return Ok(Part {
+                selection,
+                next: chooser.next,
+            });
         };
         show_one(&mut chooser, &event, watcher)?;
     }

@@ -1,6 +1,8 @@
 // The picture of a short trace: a bar for each pick.
 use super::Picture;
-use super::frame::{CHANGE, ROUND, put_begin, put_legend, put_title};
+use super::frame::{
+    CHANGE, ROUND, put_begin, put_legend, put_nothing, put_number, put_title, stride_of,
+};
 use nvme_stats::{Window, plural};
 use std::io::{self, Write};
 
@@ -14,6 +16,11 @@ const ROW: u64 = 44;
 const BAR: u64 = 36;
 
 const WIDE: u64 = 24;
+
+// The least width from one mark of a round to the next, and from one number of the axis to the next, in the mean.
+const APART: u64 = 12;
+
+const NUMBERED: u64 = 60;
 
 // The width of a column, in pixels.
 fn column_width(picture: &Picture) -> u64 {
@@ -31,7 +38,19 @@ fn left_of(picture: &Picture, at: usize) -> u64 {
 
 // The lower edge of the rows, in pixels.
 fn bottom_of(picture: &Picture) -> u64 {
-    TOP.saturating_add(ROW.saturating_mul(picture.rows()))
+    TOP.saturating_add(ROW.saturating_mul(picture.row_count()))
+}
+
+// Whether rounds start, and their marks are apart.
+fn has_rounds(picture: &Picture) -> bool {
+    let rounds = picture
+        .series
+        .all
+        .iter()
+        .filter(|window| window.fresh)
+        .count() as u64;
+    let width = left_of(picture, picture.series.all.len()).saturating_sub(LEFT);
+    rounds > 0 && rounds.saturating_mul(APART) <= width
 }
 
 // The most commands of a bar, at least 1.
@@ -125,10 +144,10 @@ fn put_row<W: Write>(
 fn put_rows<W: Write>(picture: &Picture, writer: &mut W) -> io::Result<()> {
     let most = most_of(picture);
     let mut y = TOP;
-    for (row, seen) in picture.seen.iter().enumerate() {
-        if *seen {
+    for (at, row) in picture.rows.iter().enumerate() {
+        if row.seen {
             y = y.saturating_add(ROW);
-            put_row(picture, row, y, most, writer)?;
+            put_row(picture, at, y, most, writer)?;
         }
     }
     Ok(())
@@ -145,14 +164,10 @@ fn put_change<W: Write>(picture: &Picture, at: usize, writer: &mut W) -> io::Res
 
 // Writes the marks: where a round starts, and where settings change. A change after the last pick is at the end.
 fn put_marks<W: Write>(picture: &Picture, writer: &mut W) -> io::Result<()> {
-    let end = if column_width(picture) > 4 {
-        bottom_of(picture)
-    } else {
-        TOP
-    };
+    let (rounds, end) = (has_rounds(picture), bottom_of(picture));
     for (at, window) in picture.series.all.iter().enumerate() {
         let x = left_of(picture, at);
-        if window.fresh {
+        if window.fresh && rounds {
             writeln!(
                 writer,
                 "<path d=\"M{x} 84V{end}\" stroke=\"{ROUND}\" stroke-dasharray=\"2 3\"/>"
@@ -168,26 +183,25 @@ fn put_marks<W: Write>(picture: &Picture, writer: &mut W) -> io::Result<()> {
     Ok(())
 }
 
-// One of this many columns is numbered.
-fn numbered(picture: &Picture) -> u64 {
-    let width = column_width(picture).max(1);
-    for every in [1u64, 2, 5, 10, 20, 50, 100] {
-        if width.saturating_mul(every) >= 60 {
-            return every;
-        }
-    }
-    200
+// How many picks are from one number of the axis to the next.
+fn stride(picture: &Picture) -> u64 {
+    let columns = picture.series.all.len() as u64;
+    let numbers = columns.saturating_mul(column_width(picture)) / NUMBERED;
+    stride_of(columns.saturating_mul(picture.series.step), numbers.max(1))
 }
 
-// Writes the numbers of the first picks of some columns below the rows, and what they are.
+// Writes round numbers of picks below their columns, and what they are.
 fn put_numbers<W: Write>(picture: &Picture, writer: &mut W) -> io::Result<()> {
     let bottom = bottom_of(picture);
     let (y, low) = (bottom.saturating_add(16), bottom.saturating_add(34));
-    let every = numbered(picture).max(1);
+    let (stride, half) = (stride(picture).max(1), column_width(picture) / 2);
     for (at, window) in picture.series.all.iter().enumerate() {
-        if at as u64 % every == 0 {
-            let (x, first) = (left_of(picture, at), window.first);
-            writeln!(writer, "<text x=\"{x}\" y=\"{y}\">{first}</text>")?;
+        let number = (window.last / stride).saturating_mul(stride);
+        if number >= window.first.max(1) {
+            let x = left_of(picture, at).saturating_add(half);
+            write!(writer, "<text x=\"{x}\" y=\"{y}\" text-anchor=\"middle\">")?;
+            put_number(number, writer)?;
+            writer.write_all(b"</text>\n")?;
         }
     }
     writeln!(writer, "<text x=\"{LEFT}\" y=\"{low}\">picks</text>")?;
@@ -200,7 +214,9 @@ fn put_numbers<W: Write>(picture: &Picture, writer: &mut W) -> io::Result<()> {
 // Writes what a bar is.
 fn put_meaning<W: Write>(picture: &Picture, writer: &mut W) -> io::Result<()> {
     let (step, most) = (picture.series.step, most_of(picture));
-    if step == 1 {
+    if picture.series.all.is_empty() {
+        put_nothing(picture, writer)
+    } else if step == 1 {
         writeln!(
             writer,
             "<text x=\"8\" y=\"40\">A bar is one pick, as high as its number of commands; the highest has {most}.</text>"
@@ -219,7 +235,7 @@ pub fn put_bars_picture<W: Write>(picture: &Picture, writer: &mut W) -> io::Resu
         .saturating_add(40)
         .max(760);
     let height = bottom_of(picture).saturating_add(46);
-    let rounds = picture.series.all.iter().any(|window| window.fresh);
+    let rounds = has_rounds(picture);
     put_begin(width, height, writer)?;
     put_title(picture, writer)?;
     put_meaning(picture, writer)?;

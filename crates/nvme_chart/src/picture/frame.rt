@@ -5,7 +5,7 @@ use nvme_trace::class_name;
 use std::io::{self, Write};
 
 /// The colour of the marks where settings change.
-pub const CHANGE: &str = "#8e24aa";
+pub const CHANGE: &str = "#cc79a7";
 
 /// The colour of the marks where a round starts.
 pub const ROUND: &str = "#999999";
@@ -17,6 +17,60 @@ pub fn put_begin<W: Write>(width: u64, height: u64, writer: &mut W) -> io::Resul
         "<svg xmlns=\"http://www.w3.org/2000/svg\" width=\"{width}\" height=\"{height}\" viewBox=\"0 0 {width} {height}\" font-family=\"sans-serif\" font-size=\"12\">"
     )?;
     writer.write_all(b"<rect width=\"100%\" height=\"100%\" fill=\"#ffffff\"/>\n")
+}
+
+// The greatest power of a thousand that isn't above a number, at least 1.
+fn group_of(number: u64) -> u64 {
+    let mut power = 1u64;
+    for _ in 0..6 {
+        if number / power.max(1) >= 1_000 {
+            power = power.saturating_mul(1_000);
+        }
+    }
+    power.max(1)
+}
+
+/// Writes a number with commas between its groups of three digits.
+pub fn put_number<W: Write>(number: u64, writer: &mut W) -> io::Result<()> {
+    let mut power = group_of(number);
+    write!(writer, "{}", number / power.max(1))?;
+    for _ in 0..6 {
+        if power <= 1 {
+            return Ok(());
+        }
+        power /= 1_000;
+        write!(writer, ",{:03}", number / power.max(1) % 1_000)?;
+    }
+    Ok(())
+}
+
+/// How many picks are from one number of an axis to the next: 1, 2 or 5 times a power of ten, of which at most so many
+/// are in that many picks.
+pub fn stride_of(picks: u64, most: u64) -> u64 {
+    let mut power = 1u64;
+    for _ in 0..20 {
+        for times in [1u64, 2, 5] {
+            let stride = power.saturating_mul(times).max(1);
+            if picks / stride <= most {
+                return stride;
+            }
+        }
+        power = power.saturating_mul(10);
+    }
+    power.max(1)
+}
+
+/// Writes why a picture has no pick, in the line of what it means.
+pub fn put_nothing<W: Write>(picture: &Picture, writer: &mut W) -> io::Result<()> {
+    writer.write_all(b"<text x=\"8\" y=\"40\">")?;
+    match picture.last_before() {
+        Some(last) => {
+            let first = picture.part.selection.first;
+            write!(writer, "--from {first} is behind the last pick, {last}")?;
+        }
+        None => writer.write_all(b"There is no pick to draw.")?,
+    }
+    writer.write_all(b"</text>\n")
 }
 
 /// Writes the title: how many picks and commands there are, and under which settings.

@@ -2,22 +2,26 @@
 use super::Statistics;
 use crate::histogram::Histogram;
 use crate::lanes::{CLASSES, IO_QUEUES, queue_of_lane};
+use crate::selection::Selection;
 use crate::series::{Series, Window};
-use crate::shares::share;
+use crate::shares::millionths;
 use crate::tally::Tally;
 use nvme_arbiter::{Class, Settings};
 use nvme_trace::{class_name, mechanism_name};
 use std::io::{self, Write};
 
+// The number of this form, which is another where a member gets another meaning or is left out.
+const FORM: u8 = 1;
+
 // Writes what was counted as the rest of an object.
 fn put_members<W: Write>(counted: &Statistics, tally: &Tally, writer: &mut W) -> io::Result<()> {
-    let share = share(tally.commands, counted.commands);
-    let (whole, part) = (share / 10_000, share % 10_000);
+    let share = millionths(tally.commands, counted.commands);
+    let (whole, part) = (share / 1_000_000, share % 1_000_000);
     let (picks, commands, longest) = (tally.picks, tally.commands, tally.longest);
     let bound = counted.bound();
     write!(
         writer,
-        "\"picks\":{picks},\"commands\":{commands},\"share\":{whole}.{part:04},\"wait\":{longest},\"below\":{bound}}}"
+        "\"picks\":{picks},\"commands\":{commands},\"share\":{whole}.{part:06},\"wait\":{longest},\"below\":{bound}}}"
     )
 }
 
@@ -112,11 +116,11 @@ fn put_window<W: Write>(counted: &Statistics, window: &Window, writer: &mut W) -
     let mut between = "";
     for qid in 0..=IO_QUEUES as u16 {
         if counted.of_queue(qid).seen {
-            let share = share(window.of_queue(qid), all);
-            let (whole, part) = (share / 10_000, share % 10_000);
+            let share = millionths(window.of_queue(qid), all);
+            let (whole, part) = (share / 1_000_000, share % 1_000_000);
             write!(
                 writer,
-                "{between}{{\"queue\":{qid},\"share\":{whole}.{part:04}}}"
+                "{between}{{\"queue\":{qid},\"share\":{whole}.{part:06}}}"
             )?;
             between = ",";
         }
@@ -137,26 +141,55 @@ fn put_windows<W: Write>(counted: &Statistics, series: &Series, writer: &mut W) 
     writer.write_all(b"]")
 }
 
+// Writes which picks were looked at.
+fn put_part<W: Write>(selection: &Selection, writer: &mut W) -> io::Result<()> {
+    let (first, backlogged) = (selection.first, selection.backlogged);
+    write!(writer, ",\"from\":{first},\"to\":")?;
+    if selection.is_open() {
+        writer.write_all(b"null")?;
+    } else {
+        write!(writer, "{}", selection.last)?;
+    }
+    write!(writer, ",\"backlogged\":{backlogged}")
+}
+
+// Writes an index under a name.
+fn put_index<W: Write>(name: &str, index: Option<u128>, writer: &mut W) -> io::Result<()> {
+    let Some(index) = index else {
+        return write!(writer, ",\"{name}\":null");
+    };
+    let (whole, part) = (index / 10_000, index % 10_000);
+    write!(writer, ",\"{name}\":{whole}.{part:04}")
+}
+
+// Writes what is told of all queues together.
+fn put_whole<W: Write>(counted: &Statistics, writer: &mut W) -> io::Result<()> {
+    let (longest, bound) = (counted.behind.longest, counted.behind.bound);
+    write!(
+        writer,
+        ",\"low_behind\":{{\"commands\":{longest},\"at_most\":{bound}}}"
+    )?;
+    put_index("jain", counted.jain(), writer)?;
+    put_index("jain_by_weight", counted.jain_by_weight(), writer)?;
+    put_settings("settings", &counted.begun, writer)?;
+    put_settings("settings_at_end", &counted.settings, writer)
+}
+
 /// Writes one object for tools.
 pub fn put_object<W: Write>(counted: &Statistics, writer: &mut W) -> io::Result<()> {
     let mechanism = mechanism_name(counted.mechanism);
     let (picks, commands, changes) = (counted.picks, counted.commands, counted.changes);
     write!(
         writer,
-        "{{\"mechanism\":\"{mechanism}\",\"picks\":{picks},\"commands\":{commands},\"changes\":{changes},\"queues\":["
+        "{{\"mechanism\":\"{mechanism}\",\"picks\":{picks},\"commands\":{commands},\"changes\":{changes},\"form\":{FORM}"
     )?;
+    put_part(&counted.part.selection, writer)?;
+    writer.write_all(b",\"queues\":[")?;
     put_queues(counted, writer)?;
     writer.write_all(b"],\"classes\":[")?;
     put_classes(counted, writer)?;
-    let (longest, bound) = (counted.behind.longest, counted.behind.bound);
-    let jain = counted.jain();
-    let (whole, part) = (jain / 10_000, jain % 10_000);
-    write!(
-        writer,
-        "],\"low_behind\":{{\"commands\":{longest},\"at_most\":{bound}}},\"jain\":{whole}.{part:04}"
-    )?;
-    put_settings("settings", &counted.begun, writer)?;
-    put_settings("settings_at_end", &counted.settings, writer)?;
+    writer.write_all(b"]")?;
+    put_whole(counted, writer)?;
     put_waits(counted, writer)?;
     if let Some(series) = &counted.windows {
         put_windows(counted, series, writer)?;

@@ -2,8 +2,9 @@
 use super::Statistics;
 use crate::histogram::Histogram;
 use crate::lanes::{IO_QUEUES, lanes_of_queue, queue_of_lane};
+use crate::selection::Selection;
 use crate::series::{Series, Window};
-use crate::shares::share;
+use crate::shares::millionths;
 use nvme_trace::class_name;
 use std::io::{self, Write};
 
@@ -20,32 +21,44 @@ fn put_classes<W: Write>(counted: &Statistics, qid: u16, writer: &mut W) -> io::
     Ok(())
 }
 
-// Writes the waits of a queue, and ends the line.
+// Writes the waits of a queue.
 fn put_wait<W: Write>(waits: &Histogram, writer: &mut W) -> io::Result<()> {
     let count = waits.count();
     if count == 0 {
-        return writer.write_all(b",0,,,,,\n");
+        return writer.write_all(b",0,,,,,");
     }
     let mean = waits.mean();
     let (whole, part) = (mean / 100, mean % 100);
     let (half, most) = (waits.percentile(50), waits.most());
     let (p95, p99) = (waits.percentile(95), waits.percentile(99));
-    writeln!(
+    write!(
         writer,
         ",{count},{whole}.{part:02},{half},{p95},{p99},{most}"
     )
 }
 
+// Writes which picks were looked at, and ends the line.
+fn put_part<W: Write>(selection: &Selection, writer: &mut W) -> io::Result<()> {
+    let (first, last, backlogged) = (selection.first, selection.last, selection.backlogged);
+    if selection.is_open() {
+        writeln!(writer, ",{first},,{backlogged}")
+    } else {
+        writeln!(writer, ",{first},{last},{backlogged}")
+    }
+}
+
 // Writes a share after a comma.
 fn put_share<W: Write>(part: u64, all: u64, writer: &mut W) -> io::Result<()> {
-    let share = share(part, all);
-    let (whole, part) = (share / 10_000, share % 10_000);
-    write!(writer, ",{whole}.{part:04}")
+    let share = millionths(part, all);
+    let (whole, part) = (share / 1_000_000, share % 1_000_000);
+    write!(writer, ",{whole}.{part:06}")
 }
 
 // Writes a line for each queue.
 fn put_queues<W: Write>(counted: &Statistics, writer: &mut W) -> io::Result<()> {
-    writer.write_all(b"queue,class,picks,commands,share,waits,mean,p50,p95,p99,max\n")?;
+    writer.write_all(
+        b"queue,class,picks,commands,share,waits,mean,p50,p95,p99,max,from,to,backlogged\n",
+    )?;
     for qid in 0..=IO_QUEUES as u16 {
         let tally = counted.of_queue(qid);
         if tally.seen
@@ -56,6 +69,7 @@ fn put_queues<W: Write>(counted: &Statistics, writer: &mut W) -> io::Result<()> 
             write!(writer, ",{},{}", tally.picks, tally.commands)?;
             put_share(tally.commands, counted.commands, writer)?;
             put_wait(waits, writer)?;
+            put_part(&counted.part.selection, writer)?;
         }
     }
     Ok(())
@@ -70,7 +84,7 @@ fn put_window<W: Write>(counted: &Statistics, window: &Window, writer: &mut W) -
             put_share(window.of_queue(qid), commands, writer)?;
         }
     }
-    writer.write_all(b"\n")
+    writeln!(writer, ",{}", counted.part.selection.backlogged)
 }
 
 // Writes a line for each window, with the share of each queue.
@@ -81,7 +95,7 @@ fn put_windows<W: Write>(counted: &Statistics, series: &Series, writer: &mut W) 
             write!(writer, ",q{qid}")?;
         }
     }
-    writer.write_all(b"\n")?;
+    writer.write_all(b",backlogged\n")?;
     for window in &series.all {
         put_window(counted, window, writer)?;
     }

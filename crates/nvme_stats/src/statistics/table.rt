@@ -5,7 +5,7 @@ use crate::histogram::Histogram;
 use crate::lanes::{CLASSES, IO_QUEUES, queue_of_lane};
 use crate::selection::Selection;
 use crate::series::{Series, Window};
-use crate::shares::share;
+use crate::shares::millionths;
 use crate::tally::Tally;
 use nvme_arbiter::Mechanism;
 use nvme_trace::class_name;
@@ -22,32 +22,95 @@ fn put_head<W: Write>(counted: &Statistics, writer: &mut W) -> io::Result<()> {
         put_settings(counted.mechanism, &counted.settings, writer)?;
     }
     writer.write_all(b"\n")?;
-    put_selection(&counted.selection, writer)
+    put_selection(&counted.part.selection, writer)?;
+    put_backlogged(counted, writer)?;
+    put_nothing(counted, writer)
 }
 
 // Writes which picks were looked at, where not all were.
 fn put_selection<W: Write>(selection: &Selection, writer: &mut W) -> io::Result<()> {
     let (first, last) = (selection.first, selection.last);
-    if !selection.is_open() {
+    if first == last {
+        writeln!(writer, "of pick {first}")?;
+    } else if !selection.is_open() {
         writeln!(writer, "of picks {first} to {last}")?;
     } else if first > 1 {
         writeln!(writer, "of picks {first} to the last")?;
     }
-    if selection.backlogged {
-        writer.write_all(b"of picks at which each I/O queue has waiting commands\n")?;
+    Ok(())
+}
+
+// Writes which of these were looked at, where not all were.
+fn put_backlogged<W: Write>(counted: &Statistics, writer: &mut W) -> io::Result<()> {
+    if counted.part.selection.backlogged {
+        writer.write_all(b"of picks at which each I/O queue has waiting commands")?;
+        if counted.mechanism == Mechanism::Weighted {
+            writer.write_all(b", the urgent ones aside where a level is picked")?;
+        }
+        writer.write_all(b"\n")?;
     }
     Ok(())
 }
 
+// Writes why no pick was looked at, or none of a level.
+fn put_nothing<W: Write>(counted: &Statistics, writer: &mut W) -> io::Result<()> {
+    if let Some(last) = counted.last_before() {
+        let first = counted.part.selection.first;
+        return writeln!(writer, "--from {first} is behind the last pick, {last}");
+    }
+    if !counted.part.selection.backlogged {
+        return Ok(());
+    }
+    if counted.picks == 0 {
+        return writer.write_all(
+            b"no pick is looked at: at none do all these queues have waiting commands\n",
+        );
+    }
+    if counted.mechanism == Mechanism::Weighted && counted.has_idle_levels() {
+        return writer.write_all(
+            b"no pick of a level is looked at: none is made while all queues of the levels have waiting commands\n",
+        );
+    }
+    Ok(())
+}
+
+// Writes an index, or a line where there is none.
+fn put_index<W: Write>(name: &str, index: Option<u128>, writer: &mut W) -> io::Result<()> {
+    let Some(index) = index else {
+        return writeln!(writer, "{name}: -");
+    };
+    let (whole, part) = (index / 10_000, index % 10_000);
+    writeln!(writer, "{name}: {whole}.{part:04}")
+}
+
+// Writes how fair the picks are.
+fn put_fairness<W: Write>(counted: &Statistics, writer: &mut W) -> io::Result<()> {
+    put_index("Jain's index of the I/O queues", counted.jain(), writer)?;
+    if counted.mechanism == Mechanism::Weighted {
+        put_index("Jain's index by weight", counted.jain_by_weight(), writer)?;
+    }
+    Ok(())
+}
+
+// Writes how long the low level waits.
+fn put_behind<W: Write>(counted: &Statistics, writer: &mut W) -> io::Result<()> {
+    let (longest, bound) = (counted.behind.longest, counted.behind.bound);
+    let of_commands = plural(longest);
+    writeln!(
+        writer,
+        "low behind high and medium: {longest} command{of_commands}, at most {bound}"
+    )
+}
+
 // Writes what was counted as a row of the table.
 fn put_row<W: Write>(counted: &Statistics, tally: &Tally, writer: &mut W) -> io::Result<()> {
-    let share = share(tally.commands, counted.commands);
-    let (whole, part) = (share / 100, share % 100);
+    let share = millionths(tally.commands, counted.commands);
+    let (whole, part) = (share / 10_000, share % 10_000);
     let (picks, commands, longest) = (tally.picks, tally.commands, tally.longest);
     let bound = counted.bound();
     writeln!(
         writer,
-        "{picks:>10}{commands:>10}{whole:>6}.{part:02}%{longest:>8}{bound:>8}"
+        "{picks:>10}{commands:>10}{whole:>4}.{part:04}%{longest:>13}{bound:>7}"
     )
 }
 
@@ -118,9 +181,9 @@ fn put_window<W: Write>(counted: &Statistics, window: &Window, writer: &mut W) -
     write!(writer, "{first:>10}{last:>10}{commands:>10}")?;
     for qid in 0..=IO_QUEUES as u16 {
         if counted.of_queue(qid).seen {
-            let share = share(window.of_queue(qid), commands);
-            let (whole, part) = (share / 100, share % 100);
-            write!(writer, "{whole:>6}.{part:02}%")?;
+            let share = millionths(window.of_queue(qid), commands);
+            let (whole, part) = (share / 10_000, share % 10_000);
+            write!(writer, "{whole:>4}.{part:04}%")?;
         }
     }
     writer.write_all(b"\n")
@@ -149,20 +212,14 @@ pub fn put_table<W: Write>(counted: &Statistics, writer: &mut W) -> io::Result<(
     put_head(counted, writer)?;
     writeln!(
         writer,
-        "queue class        picks  commands    share    wait   below"
+        "queue class        picks  commands     share  passed over  bound"
     )?;
     put_queues(counted, writer)?;
     put_classes(counted, writer)?;
     if counted.mechanism == Mechanism::Weighted {
-        let (longest, bound) = (counted.behind.longest, counted.behind.bound);
-        writeln!(
-            writer,
-            "low behind high and medium: {longest} commands, at most {bound}"
-        )?;
+        put_behind(counted, writer)?;
     }
-    let jain = counted.jain();
-    let (whole, part) = (jain / 10_000, jain % 10_000);
-    writeln!(writer, "Jain's index of the I/O queues: {whole}.{part:04}")?;
+    put_fairness(counted, writer)?;
     put_waits(counted, writer)?;
     match &counted.windows {
         Some(series) => put_windows(counted, series, writer),
