@@ -2,7 +2,7 @@
 use crate::examples::CHANGED;
 use crate::runs::random_log;
 use nvme_arbiter::{Mechanism, Settings};
-use nvme_chart::chart;
+use nvme_chart::{Form, Style, chart, chart_in};
 use nvme_stats::{Selection, stats};
 use nvme_tracer::write_trace;
 use std::alloc::Global;
@@ -26,11 +26,11 @@ fn statistics(rt: HostRuntime) -> Result<(), Fail> {
     assert!(rt; counted.write_text(&mut text).is_ok());
     let want = "round-robin: 4 picks, 4 commands, 0 changes of the settings
 burst 1
-queue class        picks  commands    share    wait   below
-q1    high             3         3    75.00%       1      65
-q2    low              1         1    25.00%       2      65
-all   high             3         3    75.00%       1      65
-all   low              1         1    25.00%       2      65
+queue class        picks  commands     share  passed over  bound
+q1    high             3         3  75.0000%            1     65
+q2    low              1         1  25.0000%            2     65
+all   high             3         3  75.0000%            1     65
+all   low              1         1  25.0000%            2     65
 Jain's index of the I/O queues: 0.8000
 commands of others between two services of a queue that is ready all the time:
 queue      waits        mean       p50       p95       p99       max
@@ -41,7 +41,7 @@ q2             0           -         -         -         -         -
     let mut json = Vec::new(rt.alloc());
     assert!(rt; counted.write_json(&mut json).is_ok());
     let want =
-        "{\"mechanism\":\"round-robin\",\"picks\":4,\"commands\":4,\"changes\":0,\"queues\":[{\"queue\":1,\"class\":\"high\",\"picks\":3,\"commands\":3,\"share\":0.7500,\"wait\":1,\"below\":65},{\"queue\":2,\"class\":\"low\",\"picks\":1,\"commands\":1,\"share\":0.2500,\"wait\":2,\"below\":65}],\"classes\":[{\"class\":\"high\",\"picks\":3,\"commands\":3,\"share\":0.7500,\"wait\":1,\"below\":65},{\"class\":\"low\",\"picks\":1,\"commands\":1,\"share\":0.2500,\"wait\":2,\"below\":65}],\"low_behind\":{\"commands\":0,\"at_most\":0},\"jain\":0.8000,\"settings\":{\"burst\":1,\"high\":1,\"medium\":1,\"low\":1},\"settings_at_end\":{\"burst\":1,\"high\":1,\"medium\":1,\"low\":1},\"waits\":[{\"queue\":1,\"waits\":2,\"mean\":0.00,\"p50\":0,\"p95\":0,\"p99\":0,\"max\":0},{\"queue\":2,\"waits\":0,\"mean\":null,\"p50\":null,\"p95\":null,\"p99\":null,\"max\":null}]}\n";
+        "{\"mechanism\":\"round-robin\",\"picks\":4,\"commands\":4,\"changes\":0,\"form\":1,\"from\":1,\"to\":null,\"backlogged\":false,\"queues\":[{\"queue\":1,\"class\":\"high\",\"picks\":3,\"commands\":3,\"share\":0.750000,\"wait\":1,\"below\":65},{\"queue\":2,\"class\":\"low\",\"picks\":1,\"commands\":1,\"share\":0.250000,\"wait\":2,\"below\":65}],\"classes\":[{\"class\":\"high\",\"picks\":3,\"commands\":3,\"share\":0.750000,\"wait\":1,\"below\":65},{\"class\":\"low\",\"picks\":1,\"commands\":1,\"share\":0.250000,\"wait\":2,\"below\":65}],\"low_behind\":{\"commands\":0,\"at_most\":0},\"jain\":0.8000,\"jain_by_weight\":null,\"settings\":{\"burst\":1,\"high\":1,\"medium\":1,\"low\":1},\"settings_at_end\":{\"burst\":1,\"high\":1,\"medium\":1,\"low\":1},\"waits\":[{\"queue\":1,\"waits\":2,\"mean\":0.00,\"p50\":0,\"p95\":0,\"p99\":0,\"max\":0},{\"queue\":2,\"waits\":0,\"mean\":null,\"p50\":null,\"p95\":null,\"p99\":null,\"max\":null}]}\n";
     assert_eq!(rt; json.as_slice(), want.as_bytes());
     Ok(())
 }
@@ -94,7 +94,7 @@ fn other_picks_end_a_row_of_high(rt: HostRuntime) -> Result<(), Fail> {
     let table = table_of(rt.alloc(), BEHIND)?;
     for line in [
         "weighted: 5 picks, 18 commands, 0 changes of the settings\n",
-        "\nq2    high             3         4    22.22%       0      64\n",
+        "\nq2    high             3         4  22.2222%            0     64\n",
         "\nlow behind high and medium: 2 commands, at most 4\n",
     ] {
         assert!(rt; table.as_str().contains(line), "{table}");
@@ -114,12 +114,45 @@ fn queues_wait_by_a_pick_of_none_that_is_seen(rt: HostRuntime) -> Result<(), Fai
     let table = table_of(rt.alloc(), UNSEEN)?;
     let want = "round-robin: 3 picks, 4 commands, 0 changes of the settings
 burst 1
-queue class        picks  commands    share    wait   below
-q1    high             1         2    50.00%       2      65
-all   high             1         2    50.00%       2      65
+queue class        picks  commands     share  passed over  bound
+q1    high             1         2  50.0000%            2     65
+all   high             1         2  50.0000%            2     65
 Jain's index of the I/O queues: 1.0000
 ";
     assert!(rt; table.as_str().starts_with(want), "{table}");
+    Ok(())
+}
+
+// The levels wait at all picks but the last, and the urgent queue at the first alone.
+const BESIDE_URGENT: &str = "{\"version\":1,\"mechanism\":\"weighted\",\"cdw11\":0}
+{\"pick\":1,\"n\":1,\"fresh\":false,\"seen\":[[1,\"urgent\",1],[2,\"high\",2],[3,\"low\",1]]}
+{\"pick\":2,\"n\":1,\"fresh\":false,\"seen\":[[1,\"urgent\",0],[2,\"high\",2],[3,\"low\",1]]}
+{\"pick\":3,\"n\":1,\"fresh\":false,\"seen\":[[1,\"urgent\",0],[2,\"high\",1],[3,\"low\",1]]}
+{\"pick\":2,\"n\":1,\"fresh\":false,\"seen\":[[1,\"urgent\",0],[2,\"high\",1],[3,\"low\",0]]}
+";
+
+#[test]
+fn urgent_queues_need_not_wait_at_picks_of_levels(rt: HostRuntime) -> Result<(), Fail> {
+    let selection = Selection {
+        first: 1,
+        last: u64::MAX,
+        backlogged: true,
+    };
+    let Ok(counted) = stats(rt.alloc(), BESIDE_URGENT.as_bytes(), selection, None) else {
+        return Err(Fail::from(std::alloc::AllocError));
+    };
+    let mut table = Vec::new(rt.alloc());
+    assert!(rt; counted.write_text(&mut table).is_ok());
+    let want = "weighted: 3 picks, 3 commands, 0 changes of the settings
+burst 1, high 1, medium 1, low 1
+of picks at which each I/O queue has waiting commands, the urgent ones aside where a level is picked
+queue class        picks  commands     share  passed over  bound
+q1    urgent           1         1  33.3333%            0     64
+q2    high             1         1  33.3333%            0     64
+q3    low              1         1  33.3333%            0     64
+";
+    assert!(rt; table.as_slice().starts_with(want.as_bytes()));
+    assert_eq!(rt; counted.last_before(), None);
     Ok(())
 }
 
@@ -162,16 +195,17 @@ fn changes_drawn(alloc: Global, text: &str) -> Result<usize, Fail> {
 }
 
 #[test]
-fn changes_behind_the_last_pick_are_drawn(rt: HostRuntime) -> Result<(), Fail> {
+fn changes_behind_the_first_pick_are_drawn(rt: HostRuntime) -> Result<(), Fail> {
     let head = "{\"version\":1,\"mechanism\":\"weighted\",\"cdw11\":0}\n";
     let set = "{\"set\":1}\n";
     let pick = "{\"pick\":1,\"n\":1,\"fresh\":false,\"seen\":[[1,\"high\",5]]}\n";
     for (events, want) in [
         (["", "", ""], 0),
-        ([set, "", ""], 1),
+        ([set, "", ""], 0),
         ([pick, "", ""], 0),
         ([pick, set, ""], 1),
-        ([set, pick, set], 2),
+        ([set, pick, ""], 0),
+        ([set, pick, set], 1),
         ([pick, set, pick], 1),
         ([pick, set, set], 1),
     ] {
@@ -233,5 +267,161 @@ fn long_charts(rt: HostRuntime) -> Result<(), Fail> {
     ] {
         assert!(rt; svg.as_str().contains(part), "{part}");
     }
+    Ok(())
+}
+
+// The picture of picks of a text in a style.
+fn drawn_in(alloc: Global, text: &str, selection: Selection, style: Style) -> Result<String, Fail> {
+    let Ok(picture) = chart_in(alloc, text.as_bytes(), selection, style) else {
+        return Err(Fail::from(std::alloc::AllocError));
+    };
+    let mut svg = Vec::new(alloc);
+    if picture.write_svg(&mut svg).is_err() {
+        return Err(Fail::from(std::alloc::AllocError));
+    }
+    let Ok(svg) = String::from_utf8(svg) else {
+        return Err(Fail::from(std::alloc::AllocError));
+    };
+    Ok(svg)
+}
+
+// The picks from one on.
+fn from(first: u64) -> Selection {
+    Selection {
+        first,
+        ..Selection::ALL
+    }
+}
+
+#[test]
+fn changes_before_the_first_pick_are_not_drawn(rt: HostRuntime) -> Result<(), Fail> {
+    // (its third pick is behind the change, and the settings are those of the change)
+    let svg = drawn_in(rt.alloc(), CHANGED, from(3), Style::COMMON)?;
+    let title = ">weighted: 1 pick, 3 commands; burst 4, high 3, medium 1, low 2<";
+    assert!(rt; svg.as_str().contains(title), "{svg}");
+    assert_eq!(rt; svg.as_str().matches(" 72V").count(), 0);
+    assert!(rt; !svg.as_str().contains("settings change"));
+    // (a second pick before the change)
+    let svg = drawn_in(rt.alloc(), CHANGED, from(2), Style::COMMON)?;
+    let title = "; at first burst 2, high 4, medium 2, low 1<";
+    assert!(rt; svg.as_str().contains(title), "{svg}");
+    assert_eq!(rt; svg.as_str().matches(" 72V").count(), 1);
+    Ok(())
+}
+
+#[test]
+fn charts_of_no_pick_say_why(rt: HostRuntime) -> Result<(), Fail> {
+    let svg = drawn_in(rt.alloc(), CHANGED, from(9), Style::COMMON)?;
+    assert!(rt;
+        svg.as_str()
+            .contains(">--from 9 is behind the last pick, 3<"),
+        "{svg}"
+    );
+    let head = "{\"version\":1,\"mechanism\":\"round-robin\",\"cdw11\":0}";
+    let svg = drawn_in(rt.alloc(), head, Selection::ALL, Style::COMMON)?;
+    assert!(rt;
+        svg.as_str().contains(">There is no pick to draw.<"),
+        "{svg}"
+    );
+    assert!(rt; !svg.as_str().contains("the highest has"));
+    Ok(())
+}
+
+#[test]
+fn charts_of_few_picks_have_curves_where_asked(rt: HostRuntime) -> Result<(), Fail> {
+    let style = Style {
+        form: Form::Curves,
+        admin: false,
+    };
+    let svg = drawn_in(rt.alloc(), CHANGED, Selection::ALL, style)?;
+    for part in [
+        "A curve is the share of the commands of a window of 1 pick.",
+        ">weighted: 3 picks, 6 commands;",
+        "<title>q1 high 100.00 %</title></polyline>",
+        "<title>pick 2: q1 high 100.00 %</title>",
+    ] {
+        assert!(rt; svg.as_str().contains(part), "{part}: {svg}");
+    }
+    // (neither the row of the admin queue, nor its pick)
+    assert!(rt; !svg.as_str().contains("admin"), "{svg}");
+    assert!(rt; !svg.as_str().contains("<title>pick 1:"), "{svg}");
+    Ok(())
+}
+
+// A trace under round robin of picks of queues in turn. From pick 65 on the last queue has nothing waiting, and isn't
+// picked.
+fn turns(alloc: Global, queues: u32, picks: u32) -> Result<String, Fail> {
+    let mut text = String::new(alloc);
+    writeln!(
+        text,
+        "{{\"version\":1,\"mechanism\":\"round-robin\",\"cdw11\":0}}"
+    )?;
+    for pick in 0..picks {
+        let qid = if pick < 64 {
+            pick % queues
+        } else {
+            pick % (queues - 1)
+        };
+        write!(
+            text,
+            "{{\"pick\":{},\"n\":1,\"fresh\":false,\"seen\":[",
+            qid + 1
+        )?;
+        for other in 1..queues {
+            write!(text, "[{other},\"high\",9],")?;
+        }
+        let left = if pick < 64 { 9 } else { 0 };
+        writeln!(text, "[{queues},\"high\",{left}]]}}")?;
+    }
+    Ok(text)
+}
+
+// How many points the curve of a queue has.
+fn points_of(svg: &str, name: &str) -> Option<usize> {
+    let end = svg.find(name)?;
+    let curve = svg.get(..end)?;
+    let begin = curve.rfind("points=\"")?;
+    Some(curve.get(begin..)?.matches(",").count())
+}
+
+#[test]
+fn curves_end_where_queues_end(rt: HostRuntime) -> Result<(), Fail> {
+    let style = Style {
+        form: Form::Curves,
+        admin: true,
+    };
+    // (windows of four picks, of which the last queue waits in 16)
+    let text = turns(rt.alloc(), 2, 256)?;
+    let svg = drawn_in(rt.alloc(), text.as_str(), Selection::ALL, style)?;
+    assert_eq!(rt; points_of(svg.as_str(), "\"><title>q1 87.50 %<"), Some(64));
+    assert_eq!(rt; points_of(svg.as_str(), "\"><title>q2 12.50 %<"), Some(16));
+    Ok(())
+}
+
+#[test]
+fn many_queues_have_names(rt: HostRuntime) -> Result<(), Fail> {
+    let style = Style {
+        form: Form::Curves,
+        admin: true,
+    };
+    let text = turns(rt.alloc(), 10, 100)?;
+    let svg = drawn_in(rt.alloc(), text.as_str(), Selection::ALL, style)?;
+    // (ten turns of six picks and four more before pick 65, and then nine queues in turn: pick 64 is of the second)
+    for part in [">q10</text>", "<title>q10 6.00 %</title>", ">6.00 %</text>"] {
+        assert!(rt; svg.as_str().contains(part), "{part}: {svg}");
+    }
+    assert_eq!(rt; svg.as_str().matches("<polyline").count(), 10);
+    assert_eq!(rt; svg.as_str().matches("<circle").count(), 0);
+    Ok(())
+}
+
+#[test]
+fn axes_have_round_numbers(rt: HostRuntime) -> Result<(), Fail> {
+    let text = turns(rt.alloc(), 2, 1_200)?;
+    let svg = drawn_in(rt.alloc(), text.as_str(), Selection::ALL, Style::COMMON)?;
+    for part in [">100</text>", ">1,000</text>", ">1,200</text>"] {
+        assert!(rt; svg.as_str().contains(part), "{part}");
+    }
+    assert!(rt; !svg.as_str().contains(">101</text>"));
     Ok(())
 }
