@@ -25,9 +25,11 @@ bench: ## measure, COUNT=1000000 steps each, or with COUNT=worst count the instr
 gate: ## prove and test all that changed since it last passed here, and try the must-fail edits
 	.ci/run
 
-install: all ## install program, manual page, completions, C library, documents, examples, Rust and Python packages, below PREFIX=/usr/local
+install: all ## install program, manual pages, completions, C library, documents, examples, Rust and Python packages, below PREFIX=/usr/local
 	install -D $(or $(PROGRAM),crates/nvmearb/out/nvmearb) $(TO)/bin/nvmearb
 	install -D -m 644 docs/nvmearb.1 $(TO)/share/man/man1/nvmearb.1
+	mkdir -p out && packaging/formats > out/nvmearb.5
+	install -D -m 644 out/nvmearb.5 $(TO)/share/man/man5/nvmearb.5
 	install -D -m 644 completions/nvmearb.bash $(TO)/share/bash-completion/completions/nvmearb
 	install -D -m 644 completions/_nvmearb $(TO)/share/zsh/site-functions/_nvmearb
 	install -D -m 644 completions/nvmearb.fish $(TO)/share/fish/vendor_completions.d/nvmearb.fish

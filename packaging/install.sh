@@ -1,6 +1,6 @@
 #!/bin/sh
 # SPDX-License-Identifier: MIT
-# Installs what lies beside it: program, C library, header, manual page, completions, documents, examples, and the Rust
+# Installs what lies beside it: program, C library, header, manual pages, completions, documents, examples, and the Rust
 # and Python packages.
 #
 #   ./install.sh [PREFIX]             below PREFIX, /usr/local by default
