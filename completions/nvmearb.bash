@@ -5,25 +5,26 @@ _nvmearb() {
     local cur=${COMP_WORDS[COMP_CWORD]} prev=${COMP_WORDS[COMP_CWORD - 1]} words="" files=""
     COMPREPLY=()
     if [ "$COMP_CWORD" = 1 ]; then
-        words="run trace lint expand check stats chart loaded live once settings help --help --version"
+        words="demo run trace check stats chart lint expand settings once loaded live help --help --version"
     else
         case $prev in
             --workers) words="1 2 3 4 5 6 7 8" ;;
-            --format) words="text json csv" ;;
+            --format) words=$([ "${COMP_WORDS[1]}" = check ] && echo text json junit || echo text json csv) ;;
             -o | --output) files=any ;;
             --burst) words="1 2 4 8 16 32 64 none" ;;
             --blocks | --from | --to | --weights | --window) return ;;
             *)
                 case ${COMP_WORDS[1]} in
-                    run | trace) words="--live --workers --help" files=toml ;;
+                    run) words="--live --workers --help" files=toml ;;
+                    trace) words="--live --workers --output --help" files=toml ;;
                     lint | expand) words="--help" files=toml ;;
-                    check) words="--spec --all --help" files=any ;;
+                    check) words="--spec --all --quiet --format --help" files=any ;;
                     chart) words="--from --to --output --help" files=any ;;
                     stats) words="--from --to --backlogged --window --format --help" files=any ;;
                     loaded | live) words="--workers --help" ;;
                     once) words="--blocks --help" ;;
                     settings) words="--burst --weights --help" ;;
-                    help) words="run trace lint expand check stats chart loaded live once settings" ;;
+                    help) words="workload run trace check stats chart lint expand settings once loaded live" ;;
                 esac
                 ;;
         esac

@@ -1,12 +1,13 @@
 # SPDX-License-Identifier: MIT
 # Completions of nvmearb for fish.
 
-set -l all run trace lint expand check stats chart loaded live once settings help
+set -l all demo run trace lint expand check stats chart loaded live once settings help
 
 complete -c nvmearb -f
 complete -c nvmearb -s h -l help -d 'Print help'
 complete -c nvmearb -n "not __fish_seen_subcommand_from $all" -s V -l version -d 'Print the version'
 
+complete -c nvmearb -n "not __fish_seen_subcommand_from $all" -a demo -d 'Show a workload and what arbitration makes of it'
 complete -c nvmearb -n "not __fish_seen_subcommand_from $all" -a run -d 'Run the workload of a file and print its report'
 complete -c nvmearb -n "not __fish_seen_subcommand_from $all" -a trace -d 'Run the workload of a file and print its trace'
 complete -c nvmearb -n "not __fish_seen_subcommand_from $all" -a lint -d 'Look for faults of a workload file'
@@ -24,15 +25,17 @@ complete -c nvmearb -n '__fish_seen_subcommand_from run trace' -l live -d 'Let t
 complete -c nvmearb -n '__fish_seen_subcommand_from run trace loaded live' -l workers -x -a '1 2 3 4 5 6 7 8' -d 'Number of workers'
 complete -c nvmearb -n '__fish_seen_subcommand_from check' -l spec -d 'Judge by what the specification alone asks'
 complete -c nvmearb -n '__fish_seen_subcommand_from check' -l all -d 'Tell all picks that differ'
+complete -c nvmearb -n '__fish_seen_subcommand_from check' -l quiet -d 'Tell nothing but the status'
+complete -c nvmearb -n '__fish_seen_subcommand_from check' -l format -x -a 'text json junit' -d 'How the answer is written'
 complete -c nvmearb -n '__fish_seen_subcommand_from stats' -l format -x -a 'text json csv' -d 'How the numbers are written'
 complete -c nvmearb -n '__fish_seen_subcommand_from stats' -l backlogged -d 'Count only picks at which each I/O queue has waiting commands'
 complete -c nvmearb -n '__fish_seen_subcommand_from stats' -l window -x -d 'Tell shares by windows of so many picks'
 complete -c nvmearb -n '__fish_seen_subcommand_from stats chart' -l from -x -d 'Number of the first pick to look at'
 complete -c nvmearb -n '__fish_seen_subcommand_from stats chart' -l to -x -d 'Number of the last pick to look at'
-complete -c nvmearb -n '__fish_seen_subcommand_from chart' -s o -l output -r -F -d 'File that is written'
+complete -c nvmearb -n '__fish_seen_subcommand_from chart trace' -s o -l output -r -F -d 'File that is written'
 complete -c nvmearb -n '__fish_seen_subcommand_from once' -l blocks -x -d 'Size of namespace 1 in logical blocks'
 complete -c nvmearb -n '__fish_seen_subcommand_from settings' -l burst -x -a '1 2 4 8 16 32 64 none' -d 'Most commands of a pick'
 complete -c nvmearb -n '__fish_seen_subcommand_from settings' -l weights -x -d 'Weights of high, medium and low'
 complete -c nvmearb -n '__fish_seen_subcommand_from run trace lint expand' -k -a '(__fish_complete_suffix .toml)'
 complete -c nvmearb -n '__fish_seen_subcommand_from check chart stats' -F
-complete -c nvmearb -n '__fish_seen_subcommand_from help' -a 'run trace lint expand check stats chart loaded live once settings'
+complete -c nvmearb -n '__fish_seen_subcommand_from help' -a 'workload run trace lint expand check stats chart loaded live once settings'

@@ -8,7 +8,7 @@ use nvme_front::FrontError;
 use nvme_runs::RunError;
 use nvme_settings::SettingsFault;
 use nvme_trace::{Field, LineFault, TraceError};
-use nvme_words::{InputError, OnceError, OptionsFault, WordsError};
+use nvme_words::{InputError, MAX_INPUT, OnceError, OptionsFault, WordsError, reads_input_alone};
 use nvme_workload::WorkloadError;
 use std::alloc::{AllocError, Global};
 use std::io::Write;
@@ -138,6 +138,9 @@ impl Fault {
                     errors,
                     "nvmearb: trace: line {line}: {fault}: wanted true or false"
                 )
+            }
+            Fault::Input(InputError::TooLong) if !reads_input_alone(words) => {
+                writeln!(errors, "{self}: above {MAX_INPUT} bytes")
             }
             Fault::GaveUp(patience) => {
                 let turns = if *patience == 1 { "turn" } else { "turns" };

@@ -12,7 +12,8 @@ pub use commands::command;
 pub use nvme_report::{Mode, WriteFault, report};
 pub use nvme_runs::{Ran, RunError, run, run_with, settled_run};
 pub use nvme_words::{
-    InputError, MAX_INPUT, MAX_READS, OnceError, file_named, once, output_named, take_input,
+    InputError, MAX_INPUT, MAX_READS, OnceError, Request, asked_of, file_named, once, output_named,
+    take_input,
 };
 pub use output::flushed;
 pub use pipes::{Errors, Output};

@@ -18,7 +18,7 @@ use Rattle.clap.proofs.ValueTestLemmas.{accepts-Accepts}
 use Rattle.nvme_words.specs.CommandLine.{AreFormats, Names, command_line}
 use Rattle.nvme_words.specs.Examples.{AsksFor, HasFault, IsMemory, NamesFile, NamesOutput, OverLine, RefusesBy, ShowsText}
 use Rattle.nvme_words.specs.Requests.{Given, IsAnswerTo, IsGivenBy, IsHelp, IsNumber, IsRequestOf, IsSaid, faults_of, file_given, given_by, value_given}
-use Rattle.nvme_words.specs.Words.{asks, asks_alone, reads_input}
+use Rattle.nvme_words.specs.Words.{asks, asks_alone, reads_input, writes_file}
 use Rattle.nvme_words.specs.declared.requests.Request.{Request}
 use Rattle.nvme_words.specs.declared.requests.Request.TheVariants as request
 use Rattle.nvme_words.specs.declared.requests.WordsError.{WordsError}
@@ -150,11 +150,11 @@ line_names name rest file at = over_names _ (λ p q r words e.
 -- the file that a line with a subcommand names for the output
 abbrev pub output_at : Place → Place → Place × Place → Text → List Text → Option Text
 output_at p q r name rest =
-    if not (pointwise nat_eq name (codes "chart")) || not (is_empty (fault_of (command_line (names_at p q r)) (codes "nvmearb" ∷ name ∷ rest))) then None
+    if not (pointwise nat_eq name (codes "chart") || pointwise nat_eq name (codes "trace")) || not (is_empty (fault_of (command_line (names_at p q r)) (codes "nvmearb" ∷ name ∷ rest))) then None
     else value_given (codes "output") (subcommand_of (command_line (names_at p q r)) (codes "nvmearb" ∷ name ∷ rest))
 
 line_word : (words : List (String Global)) (name : Text) (rest : List Text) → map string_bytes words ≡ codes "nvmearb" ∷ name ∷ rest
-    → asks (codes "chart") words ≡ pointwise nat_eq name (codes "chart")
+    → writes_file words ≡ (pointwise nat_eq name (codes "chart") || pointwise nat_eq name (codes "trace"))
 line_word [] name rest e = cc
 line_word (w ∷ []) name rest e = cc
 line_word (w ∷ x ∷ xs) name rest e = let same : string_bytes x ≡ name = cc in rw same refl
@@ -162,7 +162,7 @@ line_word (w ∷ x ∷ xs) name rest e = let same : string_bytes x ≡ name = cc
 pub line_outputs : (name : Text) (rest : List Text) (file : Option Text) → ((p q : Place) (r : Place × Place) → output_at p q r name rest ≡ file)
     → NamesOutput (name ∷ rest) file
 line_outputs name rest file at = over_names _ (λ p q r words e.
-    ap₂ (λ (chart : Bool) (line : List Text). cond (not chart || not (is_empty (fault_of (command_line (names_at p q r)) line))) None
+    ap₂ (λ (written : Bool) (line : List Text). cond (not written || not (is_empty (fault_of (command_line (names_at p q r)) line))) None
     (value_given (codes "output") (subcommand_of (command_line (names_at p q r)) line))) (line_word words name rest e) e ∙ at p q r)
 
 -- ---- texts

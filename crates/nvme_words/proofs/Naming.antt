@@ -9,7 +9,7 @@ use Rattle.clap.specs.declared.error.kind.ErrorKind.{ErrorKind}
 use Rattle.clap.specs.declared.parser.matches.ArgMatches.{ArgMatches}
 use Rattle.clap.proofs.WalkLemmas.{first_value-rows}
 use Rattle.nvme_words.specs.Requests.{Given, faults_of, file_given, file_of, given_by, named, output_of, value_given}
-use Rattle.nvme_words.specs.Words.{asks, names_no_trace, reads_input, reads_input_alone}
+use Rattle.nvme_words.specs.Words.{names_no_trace, reads_input, reads_input_alone, writes_file}
 
 -- the file of a subcommand with these rows
 value_in_rows : (id : Text) (given : Option Given) (rows : List Row) → option_map (λ g. g.1) given ≡ Some rows
@@ -61,16 +61,16 @@ none_of_refused app words kind among = go (reads_input words) (is_empty (faults_
 
 -- ---- the output
 
-pub output_of_taken : (app : App) (words : List (String Global)) → asks (codes "chart") words ≡ true
+pub output_of_taken : (app : App) (words : List (String Global)) → writes_file words ≡ true
     → faults_of app words ≡ [] → output_of app words ≡ value_given (codes "output") (given_by app words)
 output_of_taken app words chart none = rw (chart, none) refl
 
-pub no_output_of_others : (app : App) (words : List (String Global)) → asks (codes "chart") words ≡ false → None ≡ output_of app words
+pub no_output_of_others : (app : App) (words : List (String Global)) → writes_file words ≡ false → None ≡ output_of app words
 no_output_of_others app words other = rw other refl
 
 pub no_output_of_refused : (app : App) (words : List (String Global)) (kind : ErrorKind) → IsAmong kind (faults_of app words)
     → None ≡ output_of app words
-no_output_of_refused app words kind among = go (not (asks (codes "chart") words)) (is_empty (faults_of app words)) (some_kind kind _ among)
+no_output_of_refused app words kind among = go (not (writes_file words)) (is_empty (faults_of app words)) (some_kind kind _ among)
   where
     go : (other empty : Bool) → empty ≡ false
         → None ≡ cond (other || not empty) None (value_given (codes "output") (given_by app words))

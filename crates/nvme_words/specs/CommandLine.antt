@@ -74,6 +74,14 @@ mode name = with_rule (new_app name) (required workers)
 abbrev pub run : Text → App
 run name = with_rule (with_rule (with_rule (new_app name) (required file)) live) (with_default (codes "1") workers)
 
+-- the file that an answer is written to
+abbrev pub output : Rule
+output = record (new_rule (codes "output")) { long = Some (codes "output"); short = Some 111; action = Some Set; value_names = 1 }
+
+-- the subcommand that writes the trace of a run
+abbrev pub traced : App
+traced = with_rule (run (codes "trace")) output
+
 abbrev pub lint : App
 lint = with_rule (new_app (codes "lint")) (required file)
 
@@ -93,26 +101,26 @@ spec = record (new_rule (codes "spec")) { long = Some (codes "spec"); action = S
 abbrev pub all : Rule
 all = record (new_rule (codes "all")) { long = Some (codes "all"); action = Some SetTrue }
 
+-- nothing but the status is told
+abbrev pub quiet : Rule
+quiet = record (new_rule (codes "quiet")) { long = Some (codes "quiet"); action = Some SetTrue }
+
+-- an option with one value, which is any text
+abbrev pub text_option : Text → Rule
+text_option name = record (new_rule name) { long = Some name; action = Some Set; value_names = 1 }
+
 abbrev pub check : App
-check = with_rule (with_rule (trace (codes "check")) spec) all
+check = with_rule (with_rule (with_rule (with_rule (trace (codes "check")) spec) all) quiet) (text_option (codes "format"))
 
 -- a subcommand that shows a part of a trace
 abbrev pub ranged : Text → App
 ranged name = with_rule (with_rule (trace name) first) last
-
--- the file that a picture is written to
-abbrev pub output : Rule
-output = record (new_rule (codes "output")) { long = Some (codes "output"); short = Some 111; action = Some Set; value_names = 1 }
 
 abbrev pub chart : App
 chart = with_rule (ranged (codes "chart")) output
 
 abbrev pub stats : Names → App
 stats names = with_rule (with_rule (with_rule (ranged (codes "stats")) backlogged) window) (format names)
-
--- an option with one value, which is any text
-abbrev pub text_option : Text → Rule
-text_option name = record (new_rule name) { long = Some name; action = Some Set; value_names = 1 }
 
 -- a dword, in place of a file
 abbrev pub dword : Rule
@@ -134,14 +142,17 @@ alone = record {
 abbrev pub with_input : App → App
 with_input app = with_subcommand (with_subcommand (with_subcommand app once.top) (mode (codes "loaded")).top) (mode (codes "live")).top
 
+abbrev pub with_run : App → App
+with_run app = with_subcommand (with_subcommand app (run (codes "run")).top) traced.top
+
 abbrev pub with_file : App → App
-with_file app = with_subcommand (with_subcommand (with_subcommand (with_subcommand app (run (codes "run")).top) lint.top) (run (codes "trace")).top) expand.top
+with_file app = with_subcommand (with_subcommand app lint.top) expand.top
 
 abbrev pub with_trace : Names → App → App
-with_trace names app = with_subcommand (with_subcommand (with_subcommand app check.top) chart.top) (stats names).top
+with_trace names app = with_subcommand (with_subcommand (with_subcommand app check.top) (stats names).top) chart.top
 
 abbrev pub command_line : Names → App
-command_line names = with_subcommand (with_trace names (with_file (with_input alone))) settings.top
+command_line names = with_input (with_subcommand (with_file (with_trace names (with_run alone))) settings.top)
 
 -- P holds of the command line. Where the names of the formats lie is left open, and parsing doesn't ask for it
 abbrev pub OnCommandLine : (App → Type 0) → Type 0

@@ -124,6 +124,12 @@ trace_2 = codes "trace" ∷ codes "a.toml" ∷ codes "--workers=2" ∷ []
 abbrev pub trace_live : List Text
 trace_live = codes "trace" ∷ codes "a.toml" ∷ codes "--live" ∷ []
 
+abbrev pub trace_output : List Text
+trace_output = codes "trace" ∷ codes "a.toml" ∷ codes "--output" ∷ codes "a.jsonl" ∷ []
+
+abbrev pub check_format : List Text
+check_format = codes "check" ∷ codes "--format=json" ∷ codes "a.json" ∷ codes "--quiet" ∷ []
+
 abbrev pub check_file : List Text
 check_file = codes "check" ∷ codes "a.json" ∷ []
 

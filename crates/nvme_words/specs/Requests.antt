@@ -21,7 +21,7 @@ use Rattle.nvme_settings.specs.declared.reading.SettingsFault.{SettingsFault}
 use Rattle.nvme_lane.specs.declared.mode.Mode.TheVariants.{Loaded, Live}
 use Rattle.nvme_words.specs.declared.requests.WordsError.{WordsError}
 use Rattle.nvme_words.specs.declared.requests.WordsError.TheVariants as error
-use Rattle.nvme_words.specs.Words.{asks, asks_alone, reads_input, reads_workload, shows_trace}
+use Rattle.nvme_words.specs.Words.{asks, asks_alone, reads_input, reads_workload, shows_trace, writes_file}
 
 -- the word after the program's name is one that asks for this. Words that ask for a check alone don't ask for help, nor for more
 abbrev pub IsAskedBy : List (String Global) → Request → Type 0
@@ -175,8 +175,8 @@ abbrev pub file_of : App → List (String Global) → Option Text
 file_of app words =
     if reads_input words || not (is_empty (faults_of app words)) then None else file_given (given_by app words)
 
--- the file that the words name for the output, as those that ask for a picture may
+-- the file that the words name for the output, as those that ask for a picture or for the trace of a run may
 abbrev pub output_of : App → List (String Global) → Option Text
 output_of app words =
-    if not (asks (codes "chart") words) || not (is_empty (faults_of app words)) then None
+    if not (writes_file words) || not (is_empty (faults_of app words)) then None
     else value_given (codes "output") (given_by app words)

@@ -41,6 +41,10 @@ names_no_trace words = (length words == 2) && (asks (codes "check") words || ask
 abbrev pub reads_input : List (String Global) → Bool
 reads_input words = reads_input_alone words || names_no_trace words
 
+-- the words are of a subcommand that may write its answer to a file
+abbrev pub writes_file : List (String Global) → Bool
+writes_file words = asks (codes "chart") words || asks (codes "trace") words
+
 -- the words are of a subcommand that shows a trace and judges none of its picks
 abbrev pub shows_trace : List (String Global) → Bool
 shows_trace words = asks (codes "chart") words || asks (codes "stats") words

@@ -1,12 +1,12 @@
 // The files that the words name, as the input and for the output.
-ghost use Rattle.std.specs.Prelude.{◌≡◌, true, false, None, IfOk, codes, option_map};
+ghost use Rattle.std.specs.Prelude.{◌≡◌, true, false, None, IfOk, option_map};
 ghost use Rattle.clap.specs.Words.{subcommand_rows_of};
 ghost use Rattle.nvme_words.specs.CommandLine.{OnCommandLine};
 ghost use Rattle.nvme_words.specs.Requests.{file_of, output_of, value_given};
-ghost use Rattle.nvme_words.specs.Words.{asks, reads_input};
+ghost use Rattle.nvme_words.specs.Words.{reads_input, writes_file};
 
 use crate::program::program;
-use crate::words::{asks, names_no_trace, reads_input_alone};
+use crate::words::{names_no_trace, reads_input_alone, writes_file};
 use clap::ArgMatches;
 use clap::error::ErrorKind;
 use std::alloc::{AllocError, Global};
@@ -43,13 +43,13 @@ pub fn file_named<'a>(alloc: Global, words: &'a [String]) -> Result<Option<&'a s
     }
 }
 
-/// The name of the output's file, by the words, which `chart` alone has. `None` means standard output: without the
+/// The name of the output's file, by the words, which `chart` and `trace` may have. `None` means standard output: without the
 /// option and with `-`. It is `None` too where the words are refused or ask for help.
 pub fn output_named<'a>(alloc: Global, words: &'a [String]) -> Result<Option<&'a str>, AllocError>
     ensures named { IfOk result (λ name. OnCommandLine (λ app. option_map (λ text. text.now) name ≡ output_of app words.now)) }
-    ensures others { asks (codes "chart") words.now ≡ false → IfOk result (λ name. name ≡ None) }
+    ensures others { writes_file words.now ≡ false → IfOk result (λ name. name ≡ None) }
 {
-    if !asks(words, "chart") {
+    if !writes_file(words) {
         return Ok(None);
     }
     match program(alloc)?.try_get_matches_from(words) {

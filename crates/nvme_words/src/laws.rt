@@ -1,7 +1,7 @@
 //! Laws of the command line, over the definitions alone. Each function does nothing: its contract is the law.
 ghost use Rattle.std.specs.Prelude.{[], None, Some, Ok, Err, codes, true};
 ghost use Rattle.clap.specs.declared.error.kind.ErrorKind.TheVariants as kind;
-ghost use Rattle.nvme_words.specs.Examples.{AsksFor, AsksForNothing, AsksForOneThing, HasFault, NamesFile, NamesOutput, RefusesBy, ShowsText, all_numbers, all_picks, alone, chart_behind, chart_file, chart_from_0, chart_one_pick, chart_output, chart_printed, check_all, check_all_spec, check_file, check_spec, expand_file, lint_file, lint_input, live_0, live_8, loaded_2, loaded_9, once_8, once_most, once_none, once_too_many, run_file, run_live_3, run_two_files, settings_both, settings_dword, settings_words, stats_behind, stats_json, stats_output, stats_part, stats_xml, trace_2, trace_live};
+ghost use Rattle.nvme_words.specs.Examples.{AsksFor, AsksForNothing, AsksForOneThing, HasFault, NamesFile, NamesOutput, RefusesBy, ShowsText, all_numbers, all_picks, alone, chart_behind, chart_file, chart_from_0, chart_one_pick, chart_output, chart_printed, check_all, check_all_spec, check_file, check_format, check_spec, expand_file, lint_file, lint_input, live_0, live_8, loaded_2, loaded_9, once_8, once_most, once_none, once_too_many, run_file, run_live_3, run_two_files, settings_both, settings_dword, settings_words, stats_behind, stats_json, stats_output, stats_part, stats_xml, trace_2, trace_live, trace_output};
 ghost use Rattle.nvme_words.specs.declared.requests.Format.TheVariants as format;
 ghost use Rattle.nvme_words.specs.declared.requests.OptionsFault.TheVariants as unfit;
 ghost use Rattle.nvme_words.specs.declared.requests.Request.TheVariants as request;
@@ -21,6 +21,7 @@ pub fn lines_ask_for()
     ensures expand { AsksFor expand_file request.Expand }
     ensures check { AsksFor (alone (codes "check")) request.Check }
     ensures check_file { AsksFor check_file request.Check }
+    ensures check_format { AsksFor check_format request.Check }
     ensures check_spec { AsksFor check_spec request.CheckSpec }
     ensures check_all { AsksFor check_all request.CheckAll }
     ensures check_all_spec { AsksFor check_all_spec (request.Unfit unfit.AllOfSpec) }
@@ -74,12 +75,13 @@ pub fn lines_name_files()
     ensures refused { NamesFile run_two_files None }
 {}
 
-/// Each worked line of a picture names the file that it gives for the output, and none with `-` and where none is given.
+/// Each worked line of a picture or of a trace names the file that it gives for the output, and none with `-` and where none is given.
 pub fn lines_name_outputs()
     ensures given { NamesOutput chart_output (Some (codes "a.svg")) }
     ensures dash { NamesOutput chart_printed None }
     ensures none_given { NamesOutput chart_file None }
     ensures no_picture { NamesOutput stats_json None }
+    ensures traced { NamesOutput trace_output (Some (codes "a.jsonl")) }
     ensures input { NamesFile chart_output (Some (codes "a.json")) }
 {}
 

@@ -17,3 +17,4 @@ pub use laws::{
     one_request,
 };
 pub use requests::{Format, Numbers, OptionsFault, Range, Request, WordsError, asked_of};
+pub use words::reads_input_alone;

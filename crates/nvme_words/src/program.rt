@@ -1,7 +1,7 @@
 // The command line of the program, by `clap`.
 ghost use Rattle.std.specs.Prelude.{◌≡◌, IfOk, codes};
 ghost use Rattle.clap.specs.Words.{App, app_of};
-ghost use Rattle.nvme_words.specs.CommandLine.{OnCommandLine, all, backlogged, blocks, chart, check, dword, expand, file, first, last, lint, mode, once, option, ranged, run, settings, stats, text_option, trace, window, with_file, with_input, with_trace, workers};
+ghost use Rattle.nvme_words.specs.CommandLine.{OnCommandLine, all, backlogged, blocks, chart, check, dword, expand, file, first, last, lint, mode, once, option, ranged, run, output, quiet, settings, stats, text_option, trace, traced, window, with_file, with_input, with_run, with_trace, workers};
 ghost use Rattle.nvme_words.specs.inside.Built.{AddsIfMade, HasApp, HasRule};
 
 use clap::builder::ValueParser;
@@ -14,15 +14,21 @@ const FORMATS: &[&str] = &["text", "json", "csv"];
 
 // The text below the help.
 const AFTER_HELP: &str = "\
+First steps, without a file:
+  nvmearb demo           a workload, what arbitration makes of it, and how to go on
+  nvmearb help workload  the keys of a workload file: type, default, range, example
+  nvmearb help trace     the fields of a trace
+
 Input:
-  FILE            a file, or - for standard input; without FILE check, chart
-                  and stats read standard input
-  once            a submission entry: 128 hexadecimal digits
-  run, loaded, live, lint, trace, expand
+  FILE            a file, or - for standard input; without FILE check, stats
+                  and chart read standard input
+  run, trace, lint, expand
                   a workload file: TOML, at most 16777216 bytes
-  check, chart, stats
+  check, stats, chart
                   a trace: JSON, a line of at most 4096 bytes for each event
   settings        none
+  once            a submission entry: 128 hexadecimal digits
+  loaded, live    a workload file as expand writes it, from standard input
 
 Ranges:
   N               1 to 8 workers
@@ -33,8 +39,9 @@ Ranges:
   WEIGHTS         of high, medium and low, each 1 to 256, as 8:4:2
 
 Exit status:
-  0  done; with lint there is nothing to say, with check each pick is allowed
-  1  the input is at fault; with check also: a pick is not allowed
+  0  done; with lint there is nothing to say, with check each pick is the one that
+     this front makes, or with --spec one that the specification allows
+  1  the input is at fault; with check also: a pick is another one
   2  the command line is at fault
   3  the run is: a file, a read or a write failed, memory was refused, or not all was done
   4  with lint: the workload is lawful, and there are warnings
@@ -44,7 +51,9 @@ Example:
   nvmearb lint examples/five-queues.toml
   nvmearb run examples/five-queues.toml --workers 2
   nvmearb trace examples/five-queues.toml | nvmearb check
-  nvmearb settings --burst 8 --weights 8:4:2";
+  nvmearb settings --burst 8 --weights 8:4:2
+
+Manual pages: nvmearb(1), and nvmearb(5) for files, traces and reports";
 
 // An option with one value.
 fn option_arg<'a>(
@@ -136,6 +145,26 @@ fn run_command<'a>(alloc: Global, name: &'a str, about: &'a str) -> Result<Comma
         .arg(workers_arg(alloc).default_value("1"))
 }
 
+// The file that an answer is written to.
+fn output_arg<'a>(alloc: Global) -> Arg<'a>
+    ensures { HasRule output result }
+{
+    Arg::new(alloc, "output")
+        .short('o')
+        .long("output")
+        .value_name("FILE")
+        .help("The file that is written; standard output where it is - or is left out")
+        .action(ArgAction::Set)
+}
+
+// The subcommand that writes the trace of a run.
+fn traced_command<'a>(alloc: Global) -> Result<Command<'a>, AllocError>
+    ensures { IfOk result (HasApp traced) }
+{
+    let about = "Runs the workload of a file, and prints its trace, or writes it to a file";
+    run_command(alloc, "trace", about)?.arg(output_arg(alloc))
+}
+
 // The subcommand that looks at the workload of a file.
 fn lint_command<'a>(alloc: Global) -> Result<Command<'a>, AllocError>
     ensures { IfOk result (HasApp lint) }
@@ -191,10 +220,18 @@ fn check_command<'a>(alloc: Global) -> Result<Command<'a>, AllocError>
         .long("spec")
         .help("Judge by what the NVM Express Base Specification alone asks of a pick")
         .action(ArgAction::SetTrue);
-    let about = "Tells whether each pick of a trace is the one that this front makes";
+    let quiet = Arg::new(alloc, "quiet")
+        .long("quiet")
+        .help("Tell nothing but the status; faults stay")
+        .action(ArgAction::SetTrue);
+    let format = "text, json or junit; without it text";
+    let about =
+        "Tells whether each pick of a trace, or of several, is the one that this front makes";
     trace_command(alloc, "check", about)?
         .arg(spec)?
-        .arg(all_arg(alloc))
+        .arg(all_arg(alloc))?
+        .arg(quiet)?
+        .arg(text_arg(alloc, "format", "FORMAT", format))
 }
 
 // From which pick of a trace on it is looked at.
@@ -255,14 +292,8 @@ fn ranged_command<'a>(
 fn chart_command<'a>(alloc: Global) -> Result<Command<'a>, AllocError>
     ensures { IfOk result (HasApp chart) }
 {
-    let output = Arg::new(alloc, "output")
-        .short('o')
-        .long("output")
-        .value_name("FILE")
-        .help("The file that is written; standard output where it is - or is left out")
-        .action(ArgAction::Set);
     let about = "Prints a picture of a trace as SVG, or writes it to a file";
-    ranged_command(alloc, "chart", about)?.arg(output)
+    ranged_command(alloc, "chart", about)?.arg(output_arg(alloc))
 }
 
 // The subcommand that tells what a trace shows in numbers.
@@ -293,23 +324,27 @@ fn with<'a>(
 fn with_input<'a>(alloc: Global, program: Command<'a>) -> Result<Command<'a>, AllocError>
     ensures { (app : App) → HasApp app program.entry → IfOk result (HasApp (with_input app)) }
 {
-    let loaded =
-        "Runs a workload whose hosts submit all before the front begins, and prints its report";
-    let live = "Runs a workload whose hosts submit while the front works, and prints its report";
+    let loaded = "Runs a workload of standard input, in the form that expand writes, as run does";
+    let live = "The same, as run --live does";
     let program = with(Ok(program), once_command(alloc));
     let program = with(program, mode_command(alloc, "loaded", loaded));
     with(program, mode_command(alloc, "live", live))
 }
 
-// The subcommands that read a workload file.
+// The subcommands that run the workload of a file.
+fn with_run<'a>(alloc: Global, program: Command<'a>) -> Result<Command<'a>, AllocError>
+    ensures { (app : App) → HasApp app program.entry → IfOk result (HasApp (with_run app)) }
+{
+    let run = "Runs the workload of a file, and prints its report";
+    let program = with(Ok(program), run_command(alloc, "run", run));
+    with(program, traced_command(alloc))
+}
+
+// The other subcommands that read a workload file.
 fn with_file<'a>(alloc: Global, program: Command<'a>) -> Result<Command<'a>, AllocError>
     ensures { (app : App) → HasApp app program.entry → IfOk result (HasApp (with_file app)) }
 {
-    let run = "Runs the workload of a file, and prints its report";
-    let trace = "Runs the workload of a file, and prints its trace";
-    let program = with(Ok(program), run_command(alloc, "run", run));
-    let program = with(program, lint_command(alloc));
-    let program = with(program, run_command(alloc, "trace", trace));
+    let program = with(Ok(program), lint_command(alloc));
     with(program, expand_command(alloc))
 }
 
@@ -322,8 +357,8 @@ fn with_trace<'a>(
     ensures { (app : App) → HasApp app program.entry → IfOk result (HasApp (with_trace formats.entry app)) }
 {
     let program = with(Ok(program), check_command(alloc));
-    let program = with(program, chart_command(alloc));
-    with(program, stats_command(alloc, formats))
+    let program = with(program, stats_command(alloc, formats));
+    with(program, chart_command(alloc))
 }
 
 // An option with one value, which is any text.
@@ -369,7 +404,7 @@ pub(crate) fn program<'a>(alloc: Global) -> Result<Command<'a>, AllocError>
         .about("The command-fetching and arbitration front of an NVMe controller")
         .after_help(AFTER_HELP)
         .subcommand_required(true);
-    let program = with_file(alloc, with_input(alloc, program)?)?;
-    let program = with_trace(alloc, FORMATS, program);
-    with(program, settings_command(alloc))
+    let shown = with_trace(alloc, FORMATS, with_run(alloc, program)?)?;
+    let set = with(with_file(alloc, shown), settings_command(alloc))?;
+    with_input(alloc, set)
 }

@@ -51,7 +51,7 @@ pub enum Format {
 #[derive(Clone, Copy, Debug, PartialEq, Eq, Error)]
 pub enum OptionsFault {
     /// `check` is given `--spec` and `--all`. Which picks differ is asked of the profile alone.
-    #[error("--all is of the profile alone, not of --spec")]
+    #[error("--all and --spec don't go together")]
     AllOfSpec,
     /// The first pick that is to be looked at is behind the last one.
     #[error("--from {first} is behind --to {last}", first = .0.first, last = .0.last)]

@@ -1,6 +1,6 @@
 // Which word follows the program's name, and how many words follow that.
 ghost use Rattle.std.specs.Prelude.{◌≡◌};
-ghost use Rattle.nvme_words.specs.Words.{asks, asks_alone, is_option, names_no_trace, reads_input_alone};
+ghost use Rattle.nvme_words.specs.Words.{asks, asks_alone, is_option, names_no_trace, reads_input_alone, writes_file};
 
 /// Whether the word after the program's name is this one.
 pub(crate) fn asks(words: &[String], name: &str) -> bool
@@ -31,8 +31,16 @@ pub(crate) fn asks_alone(words: &[String], name: &str) -> bool
     }
 }
 
-/// Whether the words are of a subcommand that reads standard input alone.
-pub(crate) fn reads_input_alone(words: &[String]) -> bool
+/// Whether the words are of a subcommand that may write its answer to a file.
+pub(crate) fn writes_file(words: &[String]) -> bool
+    ensures { result ≡ writes_file words.now }
+{
+    asks(words, "chart") || asks(words, "trace")
+}
+
+/// Whether the words, of which the first is the program's name, are of a subcommand that reads standard input alone:
+/// `once`, `loaded` or `live`.
+pub fn reads_input_alone(words: &[String]) -> bool
     ensures { result ≡ reads_input_alone words.now }
 {
     asks(words, "once") || asks(words, "loaded") || asks(words, "live")

@@ -1,12 +1,21 @@
-//! The program `nvmearb`: it calls `nvme_sim::command` with its command line and the three standard streams.
+//! The program `nvmearb`: it calls `nvme_sim::command` with its command line and the three standard streams, and tells
+//! what its streams met.
 #![tactic(auto)]
 
 ghost use Rattle.std.specs.Prelude.{◌≡◌, ◌≤◌};
 
+mod checks;
+mod demo;
 mod kept;
+mod noted;
+mod telling;
+mod topics;
 
+use checks::{Checks, Form, Judged, asked, put_json, put_junit, put_named};
 use kept::Kept;
-use nvme_sim::{Errors, Output, command, file_named, flushed, output_named};
+use noted::{Noted, Notes};
+use nvme_sim::{Errors, Output, Request, asked_of, command, file_named, flushed, output_named};
+use std::alloc::{AllocError, Global};
 use std::cell::Cell;
 use std::io::{BufWriter, ErrorKind, Write};
 use std::process::ExitCode;
@@ -14,50 +23,50 @@ use std::rt::Files;
 use std::sync::Wait;
 use std::thread::Threads;
 use std::{env, fs, io};
+use telling::{failed, no_memory, subcommand, tell};
+use topics::topic;
 
 // The exit status where nobody reads the output any more: that of a program which the signal of a closed pipe ended, as
 // shells tell it.
 const UNREAD: u8 = 141;
+
+// The exit status of a fault of the command line.
+const BAD_LINE: u8 = 2;
 
 // The words of the command line, the program's name first.
 fn words_of(rt: &HostRuntime) -> io::Result<Vec<String>> {
     Ok(env::args(rt)?.collect(rt.alloc())?)
 }
 
-// Writes that memory was refused. The answer is the exit status.
-fn no_memory<E: Write>(errors: &mut E) -> u8
-    ensures { result ≡ 3 }
-{
-    let _ = writeln!(errors, "nvmearb: out of memory");
-    3
-}
-
-// Writes that a file can't be opened, or written. The answer is the exit status.
-fn failed<E: Write>(what: &str, name: &str, error: &io::Error, errors: &mut E) -> u8
-    ensures { result ≡ 3 }
-{
-    if error.kind() == ErrorKind::OutOfMemory {
-        return no_memory(errors);
-    }
-    let _ = writeln!(errors, "nvmearb: {what} failed: {name:?}: {error}");
-    3
+// Whether the options of the words don't go together, so that no file is opened.
+fn is_unfit(alloc: Global, words: &[String]) -> bool {
+    matches!(asked_of(alloc, words), Ok(Request::Unfit(_)))
 }
 
 // Does what the words ask for. The input is the file that they name, or standard input. The answer is the exit status.
 fn served<R: AllocGlobal + Files + Input + Threads + Wait + Sync, W: Write, E: Write>(
     rt: &R,
     words: &[String],
+    notes: &Notes,
     output: &mut W,
     errors: &mut E,
 ) -> u8
     ensures { result ≤ 4 }
 {
-    match file_named(rt.alloc(), words) {
-        Ok(None) => command(rt, rt.alloc(), words, rt.reader(), output, errors),
-        Ok(Some(name)) => match fs::open(rt, name) {
-            Ok(file) => command(rt, rt.alloc(), words, file, output, errors),
+    let alloc = rt.alloc();
+    match file_named(alloc, words) {
+        Ok(Some(name)) if !is_unfit(alloc, words) => match fs::open(rt, name) {
+            Ok(file) => command(rt, alloc, words, Noted::new(file, notes), output, errors),
             Err(error) => failed("open", name, &error, errors),
         },
+        Ok(_) => command(
+            rt,
+            alloc,
+            words,
+            Noted::new(rt.reader(), notes),
+            output,
+            errors,
+        ),
         Err(_) => no_memory(errors),
     }
 }
@@ -74,13 +83,21 @@ fn write_to<R: Files>(rt: &R, name: &str, answer: &[u8]) -> io::Result<()> {
 fn saved<R: AllocGlobal + Files + Input + Threads + Wait + Sync, E: Write>(
     rt: &R,
     words: &[String],
+    notes: &Notes,
     name: &str,
     errors: &mut E,
 ) -> u8
     ensures { result ≤ 4 }
 {
+    if file_named(rt.alloc(), words) == Ok(Some(name)) {
+        let _ = writeln!(
+            errors,
+            "nvmearb: --output {name:?} is the file that is read"
+        );
+        return BAD_LINE;
+    }
     let mut kept = Kept::new(rt.alloc());
-    let status = served(rt, words, &mut kept, errors);
+    let status = served(rt, words, notes, &mut kept, errors);
     if status != 0 {
         return status;
     }
@@ -90,6 +107,164 @@ fn saved<R: AllocGlobal + Files + Input + Threads + Wait + Sync, E: Write>(
     match write_to(rt, name, answer) {
         Ok(()) => 0,
         Err(error) => failed("write", name, &error, errors),
+    }
+}
+
+// Checks one file of several. Standard input is `-`.
+fn judged<R: AllocGlobal + Files + Input + Threads + Wait + Sync>(
+    rt: &R,
+    checks: &Checks,
+    file: &str,
+) -> Result<Judged, AllocError> {
+    let alloc = rt.alloc();
+    let words = checks.words_for(alloc, file)?;
+    let notes = Notes::new();
+    let (mut answer, mut first, mut told) = (Kept::new(alloc), Kept::new(alloc), Kept::new(alloc));
+    let status = served(rt, words.as_slice(), &notes, &mut answer, &mut first);
+    let status = tell(alloc, words.as_slice(), &first, &notes, status, &mut told);
+    if answer.answer().is_none() || told.answer().is_none() {
+        return Err(AllocError);
+    }
+    Ok(Judged {
+        file: String::from_str(alloc, file)?,
+        status,
+        answer,
+        told,
+    })
+}
+
+// Checks each file. A line that isn't one of the program's ends with its first file.
+fn all_judged<R: AllocGlobal + Files + Input + Threads + Wait + Sync>(
+    rt: &R,
+    checks: &Checks,
+) -> Result<Vec<Judged>, AllocError> {
+    let mut answers = Vec::new(rt.alloc());
+    for file in &checks.files {
+        let answer = judged(rt, checks, file.as_str())?;
+        let is_bad = answer.status == BAD_LINE;
+        answers.push(answer)?;
+        if is_bad {
+            break;
+        }
+    }
+    Ok(answers)
+}
+
+// Writes the answers as text, each line behind the name of its file where there are several, and the faults.
+fn put_texts<W: Write, E: Write>(
+    answers: &[Judged],
+    output: &mut W,
+    errors: &mut E,
+) -> io::Result<()> {
+    for it in answers {
+        let (answer, told) = (it.answer.answer(), it.told.answer());
+        put_named(it.file.as_str(), answer.unwrap_or(b""), output)?;
+        let _ = put_named(it.file.as_str(), told.unwrap_or(b""), errors);
+    }
+    Ok(())
+}
+
+// Writes the faults of checks whose answers aren't written.
+fn put_faults<E: Write>(answers: &[Judged], errors: &mut E) {
+    for it in answers {
+        let _ = errors.write_all(it.told.answer().unwrap_or(b""));
+    }
+}
+
+// Writes the answers to checks. The answer is the worst status.
+fn put_answers<W: Write, E: Write>(
+    form: Form,
+    answers: &[Judged],
+    output: &mut W,
+    errors: &mut E,
+) -> u8
+    ensures { result ≤ 4 }
+{
+    let status = answers.iter().map(|it| it.status).max().unwrap_or(0).min(3);
+    if answers.iter().any(|it| it.status == BAD_LINE) {
+        put_faults(answers, errors);
+        return BAD_LINE;
+    }
+    let written = match form {
+        Form::Text => put_texts(answers, output, errors),
+        Form::Json => put_json(answers, output),
+        Form::Junit => put_junit(answers, output),
+        Form::Quiet => {
+            put_faults(answers, errors);
+            Ok(())
+        }
+    };
+    // (at a status of 3 nothing else writes what is left)
+    if written.is_err() || output.flush().is_err() {
+        let _ = writeln!(errors, "nvmearb: write failed");
+        return 3;
+    }
+    status
+}
+
+// Checks several files, or one whose answer is wanted in another form. The answer is the worst status.
+#[inline(never)]
+fn checked<R: AllocGlobal + Files + Input + Threads + Wait + Sync, W: Write, E: Write>(
+    rt: &R,
+    checks: &Checks,
+    output: &mut W,
+    errors: &mut E,
+) -> u8
+    ensures { result ≤ 4 }
+{
+    if let Some(name) = &checks.unknown {
+        let name = name.as_str();
+        let _ = writeln!(
+            errors,
+            "nvmearb: --format {name:?}: expected text, json or junit"
+        );
+        return BAD_LINE;
+    }
+    match all_judged(rt, checks) {
+        Ok(answers) => put_answers(checks.form, answers.as_slice(), output, errors),
+        Err(_) => no_memory(errors),
+    }
+}
+
+// Writes a text of the help. The answer is the exit status.
+fn helped<W: Write, E: Write>(text: &str, output: &mut W, errors: &mut E) -> u8
+    ensures { result ≤ 4 }
+{
+    match output.write_all(text.as_bytes()) {
+        Ok(()) => 0,
+        Err(_) => {
+            let _ = writeln!(errors, "nvmearb: write failed");
+            3
+        }
+    }
+}
+
+// Does what the words ask for. The answer is the exit status.
+fn done<R: AllocGlobal + Files + Input + Threads + Wait + Sync, W: Write, E: Write>(
+    rt: &R,
+    words: &[String],
+    notes: &Notes,
+    output: &mut W,
+    errors: &mut E,
+) -> u8
+    ensures { result ≤ 4 }
+{
+    let alloc = rt.alloc();
+    if let Some(text) = topic(words) {
+        return helped(text, output, errors);
+    }
+    if demo::is_asked(words) {
+        return demo::show(rt, alloc, output, errors);
+    }
+    match asked(alloc, words) {
+        Ok(Some(checks)) if checks.are_more() => return checked(rt, &checks, output, errors),
+        Ok(_) => {}
+        Err(_) => return no_memory(errors),
+    }
+    match output_named(alloc, words) {
+        Ok(None) => served(rt, words, notes, output, errors),
+        Ok(Some(name)) => saved(rt, words, notes, name, errors),
+        Err(_) => no_memory(errors),
     }
 }
 
@@ -104,28 +279,45 @@ fn answered<R, W: Write + Drop, E: Write + Drop>(
 where
     R: AllocGlobal + Files + Input + Threads + Wait + Sync,
 {
+    let alloc = rt.alloc();
     let is_unread = Cell::new(false);
+    let notes = Notes::new();
     let mut errors = Errors::new(errors, &is_unread);
-    let Ok(mut output) = BufWriter::new(rt.alloc(), Output::new(output, &is_unread)) else {
+    let output = Output::new(Noted::new(output, &notes), &is_unread);
+    let Ok(mut output) = BufWriter::new(alloc, output) else {
         return no_memory(&mut errors);
     };
-    let status = match output_named(rt.alloc(), words) {
-        Ok(None) => served(rt, words, &mut output, &mut errors),
-        Ok(Some(name)) => saved(rt, words, name, &mut errors),
-        Err(_) => no_memory(&mut errors),
-    };
-    let status = flushed(status, &mut output, &mut errors);
+    let mut told = Kept::new(alloc);
+    let status = done(rt, words, &notes, &mut output, &mut told);
+    let status = flushed(status, &mut output, &mut told);
     // After a failed write the rest isn't written.
     let _ = output.into_parts();
+    let status = tell(alloc, words, &told, &notes, status, &mut errors);
     if is_unread.get() { UNREAD } else { status }
+}
+
+// The words, in which `--json` of `stats` and `check` stands for `--format=json`.
+fn written_out(alloc: Global, mut words: Vec<String>) -> Result<Vec<String>, AllocError> {
+    if !matches!(subcommand(words.as_slice()), "stats" | "check") {
+        return Ok(words);
+    }
+    for word in words.iter_mut() {
+        if word.as_str() == "--json" {
+            *word = String::from_str(alloc, "--format=json")?;
+        }
+    }
+    Ok(words)
 }
 
 fn main(rt: HostRuntime) -> ExitCode {
     match words_of(&rt) {
-        Ok(words) => {
-            let status = answered(&rt, words.as_slice(), io::writer(&rt), rt.stderr());
-            ExitCode::from(status)
-        }
+        Ok(words) => match written_out(rt.alloc(), words) {
+            Ok(words) => {
+                let status = answered(&rt, words.as_slice(), io::writer(&rt), rt.stderr());
+                ExitCode::from(status)
+            }
+            Err(_) => ExitCode::from(no_memory(&mut rt.stderr())),
+        },
         // Words that aren't text are a fault of the command line.
         Err(error) => {
             let no_memory = error.kind() == ErrorKind::OutOfMemory;

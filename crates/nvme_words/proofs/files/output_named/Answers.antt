@@ -7,8 +7,8 @@ use Rattle.nvme_words.proofs.Answering.{free, given_in, same_faults, some_names}
 use Rattle.nvme_words.proofs.Naming.{no_output_of_others, no_output_of_refused, output_of_taken}
 use Rattle.nvme_words.proofs.files.output_named.Goals as goal
 
-pub returns-then-not-asks-clause-named : goal.returns-then-not-asks-clause-named
-returns-then-not-asks-clause-named c = (some_names, refl, no_output_of_others (command_line some_names) c.args.words.now (search rules))
+pub returns-then-not-writes_file-clause-named : goal.returns-then-not-writes_file-clause-named
+returns-then-not-writes_file-clause-named c = (some_names, refl, no_output_of_others (command_line some_names) c.args.words.now (search rules))
 
 pub returns-in-Ok-clause-named : goal.returns-in-Ok-clause-named
 returns-in-Ok-clause-named c =

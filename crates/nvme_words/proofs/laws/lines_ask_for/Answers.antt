@@ -5,7 +5,7 @@ use Rattle.clap.specs.ValueTests.{accepts}
 use Rattle.clap.specs.Words.{Text, first_of, one_of}
 use Rattle.clap.specs.declared.builder.value_parser.ValueParser.TheVariants as vp
 use Rattle.clap.proofs.OnLiterals.{clap_on_literals}
-use Rattle.nvme_words.specs.Examples.{all_numbers, all_picks, alone, chart_behind, chart_file, chart_one_pick, chart_output, check_all, check_all_spec, check_file, check_spec, expand_file, lint_input, live_8, loaded_2, once_8, once_most, run_file, run_live_3, settings_both, settings_dword, settings_words, stats_behind, stats_json, stats_part, trace_2, trace_live}
+use Rattle.nvme_words.specs.Examples.{all_numbers, all_picks, alone, chart_behind, chart_file, chart_one_pick, chart_output, check_all, check_all_spec, check_file, check_format, check_spec, expand_file, lint_input, live_8, loaded_2, once_8, once_most, run_file, run_live_3, settings_both, settings_dword, settings_words, stats_behind, stats_json, stats_part, trace_2, trace_live}
 use Rattle.std.specs.Global.{Global}
 use Rattle.nvme_words.specs.Words.{asks_alone}
 use Rattle.nvme_words.specs.Requests.{IsRange, SubmitsBy}
@@ -62,6 +62,10 @@ returns-clause-check c = line_asks (codes "check") _ (given_at (alone (codes "ch
 pub returns-clause-check_file : goal.returns-clause-check_file
 unfolding clap_on_literals
 returns-clause-check_file c = line_asks (codes "check") _ (given_at check_file) (request.Check) refl (refl, other_text (first_of (codes "spec") (given_at check_file).1) (codes "false") (codes "true") refl refl, other_text (first_of (codes "all") (given_at check_file).1) (codes "false") (codes "true") refl refl) (λ words e. tt) (λ p q r. (refl, refl))
+
+pub returns-clause-check_format : goal.returns-clause-check_format
+unfolding clap_on_literals
+returns-clause-check_format c = line_asks (codes "check") _ (given_at check_format) (request.Check) refl (refl, other_text (first_of (codes "spec") (given_at check_format).1) (codes "false") (codes "true") refl refl, other_text (first_of (codes "all") (given_at check_format).1) (codes "false") (codes "true") refl refl) (λ words e. tt) (λ p q r. (refl, refl))
 
 -- a check with an option isn't one alone
 not_alone : (a b : Text) (words : List (String Global)) → map string_bytes words ≡ codes "nvmearb" ∷ codes "check" ∷ a ∷ b ∷ [] → asks_alone (codes "check") words ≡ false

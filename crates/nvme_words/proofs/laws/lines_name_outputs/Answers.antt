@@ -20,6 +20,10 @@ pub returns-clause-no_picture : goal.returns-clause-no_picture
 unfolding clap_on_literals
 returns-clause-no_picture c = line_outputs (codes "stats") _ None (λ p q r. refl)
 
+pub returns-clause-traced : goal.returns-clause-traced
+unfolding clap_on_literals
+returns-clause-traced c = line_outputs (codes "trace") _ (Some (codes "a.jsonl")) (λ p q r. refl)
+
 pub returns-clause-input : goal.returns-clause-input
 unfolding clap_on_literals
 returns-clause-input c = line_names (codes "chart") _ (Some (codes "a.json")) (λ p q r. refl)

@@ -5,5 +5,5 @@ use Rattle.nvme_words.proofs.program.with_trace.Goals as goal
 pub returns : goal.returns
 returns c = λ app has.
     let one = c.with-program.ensures app check refl has c.check_command.ensures in
-    let two = c.with-program-2.ensures _ chart refl one c.chart_command.ensures in
-    c.with.ensures _ (stats c.args.formats) refl two c.stats_command.ensures
+    let two = c.with-program-2.ensures _ (stats c.args.formats) refl one c.stats_command.ensures in
+    c.with.ensures _ chart refl two c.chart_command.ensures

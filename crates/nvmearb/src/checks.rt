@@ -1,0 +1,275 @@
+// Checks of several traces, and their answers for other programs.
+use crate::kept::Kept;
+use crate::telling::subcommand;
+use std::alloc::{AllocError, Global};
+use std::io::{self, Write};
+
+// The version of the form of the JSON answer.
+const JSON_VERSION: u8 = 1;
+
+/// How the answers are written.
+#[derive(Clone, Copy, Debug, PartialEq, Eq)]
+pub(crate) enum Form {
+    Text,
+    Json,
+    Junit,
+    /// Nothing is written.
+    Quiet,
+}
+
+/// What a line that asks for checks says: how the answers are written, and the words for the check of each file.
+#[derive(Drop)]
+pub(crate) struct Checks {
+    pub(crate) form: Form,
+    pub(crate) files: Vec<String>,
+    // The name of a format that there isn't.
+    pub(crate) unknown: Option<String>,
+    options: Vec<String>,
+}
+
+impl Checks {
+    // A line of a check before its first option and file.
+    fn new(alloc: Global) -> Checks {
+        Checks {
+            form: Form::Text,
+            files: Vec::new(alloc),
+            unknown: None,
+            options: Vec::new(alloc),
+        }
+    }
+
+    // Whether the words ask for the help.
+    fn ask_for_help(&self) -> bool {
+        let mut options = self.options.iter();
+        options.any(|it| it.as_str() == "--help" || it.as_str() == "-h")
+    }
+
+    /// Whether the answer isn't that of one check as it stands.
+    pub(crate) fn are_more(&self) -> bool {
+        if self.ask_for_help() {
+            return false;
+        }
+        self.form != Form::Text || self.files.len() > 1 || self.unknown.is_some()
+    }
+
+    /// The words for the check of this file.
+    pub(crate) fn words_for(&self, alloc: Global, file: &str) -> Result<Vec<String>, AllocError> {
+        let mut words = Vec::new(alloc);
+        for word in ["nvmearb", "check"] {
+            words.push(String::from_str(alloc, word)?)?;
+        }
+        for word in &self.options {
+            words.push(String::from_str(alloc, word.as_str())?)?;
+        }
+        for word in ["--", file] {
+            words.push(String::from_str(alloc, word)?)?;
+        }
+        Ok(words)
+    }
+}
+
+// The form of this name.
+fn form_named(name: &str) -> Option<Form> {
+    match name {
+        "text" => Some(Form::Text),
+        "json" => Some(Form::Json),
+        "junit" => Some(Form::Junit),
+        _ => None,
+    }
+}
+
+// What the words behind `check` say. What it takes for an option that isn't its own is left to the command line.
+fn read(alloc: Global, words: &[String]) -> Result<Checks, AllocError> {
+    let mut checks = Checks::new(alloc);
+    let (mut is_quiet, mut ended, mut is_format) = (false, false, false);
+    for word in words {
+        let word = word.as_str();
+        let named = word.strip_prefix("--format=");
+        if is_format || (!ended && named.is_some()) {
+            let name = named.filter(|_| !is_format).unwrap_or(word);
+            match form_named(name) {
+                Some(form) => checks.form = form,
+                None => checks.unknown = Some(String::from_str(alloc, name)?),
+            }
+            is_format = false;
+        } else if ended || word == "-" || !word.starts_with('-') {
+            checks.files.push(String::from_str(alloc, word)?)?;
+        } else {
+            match word {
+                "--" => ended = true,
+                "--quiet" => is_quiet = true,
+                "--format" => is_format = true,
+                _ => checks.options.push(String::from_str(alloc, word)?)?,
+            }
+        }
+    }
+    if is_quiet {
+        checks.form = Form::Quiet;
+    }
+    if checks.files.is_empty() {
+        checks.files.push(String::from_str(alloc, "-")?)?;
+    }
+    Ok(checks)
+}
+
+/// What a line of `check` asks for. `None` where it is another line.
+pub(crate) fn asked(alloc: Global, words: &[String]) -> Result<Option<Checks>, AllocError> {
+    match words {
+        [_, _, rest @ ..] if subcommand(words) == "check" => Ok(Some(read(alloc, rest)?)),
+        _ => Ok(None),
+    }
+}
+
+/// The answer to the check of one file.
+#[derive(Drop)]
+pub(crate) struct Judged {
+    pub(crate) file: String,
+    pub(crate) status: u8,
+    pub(crate) answer: Kept,
+    pub(crate) told: Kept,
+}
+
+impl Judged {
+    // What was written of it, the answer or a fault.
+    fn text(&self) -> &[u8] {
+        match (self.answer.answer(), self.told.answer()) {
+            (Some(answer), _) if !answer.is_empty() => answer,
+            (_, Some(told)) => told,
+            _ => b"nvmearb: out of memory\n",
+        }
+    }
+
+    // A fault was told, and there is no answer.
+    fn is_fault(&self) -> bool {
+        !matches!(self.answer.answer(), Some(answer) if !answer.is_empty())
+    }
+
+    // The answer in a word.
+    fn result(&self) -> &'static str {
+        match self.status {
+            0 => "lawful",
+            1 if self.is_fault() => "faulty",
+            1 if self.text().starts_with(b"unlawful") => "unlawful",
+            1 => "differs",
+            _ => "failed",
+        }
+    }
+}
+
+// The lines of a text.
+fn lines(text: &[u8]) -> &[u8] {
+    match text {
+        [text @ .., b'\n'] => text,
+        _ => text,
+    }
+}
+
+/// Writes each line of a text behind the name of a file.
+pub(crate) fn put_named<W: Write>(file: &str, text: &[u8], output: &mut W) -> io::Result<()> {
+    if text.is_empty() {
+        return Ok(());
+    }
+    for line in lines(text).split(|byte| *byte == b'\n') {
+        output.write_all(file.as_bytes())?;
+        output.write_all(b": ")?;
+        output.write_all(line)?;
+        output.write_all(b"\n")?;
+    }
+    Ok(())
+}
+
+// Writes a text as a string of JSON.
+fn put_string<W: Write>(text: &[u8], output: &mut W) -> io::Result<()> {
+    output.write_all(b"\"")?;
+    for byte in text {
+        match byte {
+            b'"' => output.write_all(b"\\\"")?,
+            b'\\' => output.write_all(b"\\\\")?,
+            0..=0x1f => write!(output, "\\u{byte:04x}")?,
+            _ => output.write_all(&[*byte])?,
+        }
+    }
+    output.write_all(b"\"")
+}
+
+// Writes the lines of a text as an array of JSON.
+fn put_lines<W: Write>(text: &[u8], output: &mut W) -> io::Result<()> {
+    let mut before: &[u8] = b"[";
+    for line in lines(text).split(|byte| *byte == b'\n') {
+        output.write_all(before)?;
+        put_string(line, output)?;
+        before = b",";
+    }
+    output.write_all(b"]")
+}
+
+/// Writes the answers as an object of JSON.
+pub(crate) fn put_json<W: Write>(answers: &[Judged], output: &mut W) -> io::Result<()> {
+    write!(output, "{{\"version\":{JSON_VERSION},\"files\":[")?;
+    let mut before = "";
+    for judged in answers {
+        write!(output, "{before}{{\"file\":")?;
+        put_string(judged.file.as_bytes(), output)?;
+        let (status, result) = (judged.status, judged.result());
+        write!(
+            output,
+            ",\"status\":{status},\"result\":\"{result}\",\"lines\":"
+        )?;
+        put_lines(judged.text(), output)?;
+        output.write_all(b"}")?;
+        before = ",";
+    }
+    output.write_all(b"]}\n")
+}
+
+// Writes a text of XML. What no XML may have is written as a question mark.
+fn put_xml<W: Write>(text: &[u8], output: &mut W) -> io::Result<()> {
+    for byte in text {
+        match byte {
+            b'&' => output.write_all(b"&amp;")?,
+            b'<' => output.write_all(b"&lt;")?,
+            b'>' => output.write_all(b"&gt;")?,
+            b'"' => output.write_all(b"&quot;")?,
+            b'\t' | b'\n' => output.write_all(&[*byte])?,
+            0..=0x1f => output.write_all(b"?")?,
+            _ => output.write_all(&[*byte])?,
+        }
+    }
+    Ok(())
+}
+
+// Writes the answer to one check as a test case.
+fn put_case<W: Write>(judged: &Judged, output: &mut W) -> io::Result<()> {
+    output.write_all(b"<testcase classname=\"nvmearb check\" name=\"")?;
+    put_xml(judged.file.as_bytes(), output)?;
+    if judged.status == 0 {
+        return output.write_all(b"\"/>\n");
+    }
+    let kind = if judged.is_fault() {
+        "error"
+    } else {
+        "failure"
+    };
+    write!(output, "\"><{kind} message=\"{}\">", judged.result())?;
+    put_xml(lines(judged.text()), output)?;
+    write!(output, "</{kind}></testcase>\n")
+}
+
+/// Writes the answers as test cases of JUnit.
+pub(crate) fn put_junit<W: Write>(answers: &[Judged], output: &mut W) -> io::Result<()> {
+    let faults = answers.iter().filter(|it| it.is_fault()).count();
+    let refused = answers
+        .iter()
+        .filter(|it| it.status != 0 && !it.is_fault())
+        .count();
+    let tests = answers.len();
+    writeln!(output, "<?xml version=\"1.0\" encoding=\"UTF-8\"?>")?;
+    writeln!(
+        output,
+        "<testsuite name=\"nvmearb check\" tests=\"{tests}\" failures=\"{refused}\" errors=\"{faults}\">"
+    )?;
+    for judged in answers {
+        put_case(judged, output)?;
+    }
+    writeln!(output, "</testsuite>")
+}

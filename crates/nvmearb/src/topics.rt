@@ -1,0 +1,83 @@
+// Help on the files that the program reads: `nvmearb help workload` and `nvmearb help trace`.
+
+const WORKLOAD: &str = r#"A short workload file is TOML. All keys but version may be left out.
+
+Key             Default        Range                                   Example
+version         (required)     1                                       version = 1
+mechanism       "round-robin"  "round-robin", "weighted"               mechanism = "weighted"
+burst           1              1, 2, 4, 8, 16, 32, 64, "none"          burst = 8
+weights         each 1         high, medium, low: each 1 to 256        weights = { high = 8, low = 2 }
+namespaces      [1048576]      at most 16 sizes, 1 to 2^63 - 1 blocks  namespaces = [1000, 2000]
+patience        100000000      1 to 4294967295 turns                   patience = 1000000
+admin_depth     1024           2 to 4096 slots                         admin_depth = 16
+admin_cq_depth  1024           2 to 4096 slots                         admin_cq_depth = 64
+queue           none           at most 64 tables                       [[queue]]
+admin           none           an array of commands                    admin = [{ op = "delete", queue = 1 }]
+
+Each [[queue]], of which the first is queue 1:
+class           "medium"       "urgent", "high", "medium", "low"       class = "high"
+depth           1024           2 to 4096 slots                         depth = 64
+cq              one of its own the number of an earlier queue          cq = 1
+cq_depth        1024           2 to 4096 slots, not beside cq          cq_depth = 64
+script          none           an array of items                       script = [{ op = "read" }]
+
+An item of a script, by op:
+op              (required)     "read", "write", "flush", 0 to 255      { op = "read", blocks = 8, count = 100 }
+nsid            1              0 to 4294967295                         { op = "flush", nsid = 2 }
+slba            0              0 to 2^63 - 1 (read, write)             { op = "read", slba = 4096 }
+blocks          1              1 to 65536 (read, write)                { op = "write", blocks = 8 }
+count           1              1 to 65536 commands                     { op = "write", count = 4 }
+spread          "same"         "same", "sequential" (read, write)      { op = "read", count = 9, spread = "sequential" }
+repeat          instead of op  1 to 65536, beside a script of its own  { repeat = 10, script = [{ op = "flush" }] }
+
+An item of admin, by op:
+create, delete  queue          the number of a queue                   { op = "create", queue = 2 }
+abort           queue, cid     0 to 65535                              { op = "abort", queue = 1, cid = 0 }
+set-arbitration burst, weights as above                                { op = "set-arbitration", burst = 4 }
+get-features    feature        "arbitration", "number-of-queues"       { op = "get-features" }
+
+  nvmearb lint FILE     what of a file is at fault, or comes to nothing
+  nvmearb expand FILE   the same workload entry by entry; nvmearb(5) has that form
+"#;
+
+const TRACE: &str =
+    r#"A trace has a JSON object on each line: a head, then a line for each pick and each change of the settings.
+
+Field      Value                                                                 Example
+Head:
+version    1                                                                     "version":1
+mechanism  "round-robin", "weighted"                                             "mechanism":"weighted"
+cdw11      0 to 4294967295: the settings, as nvmearb settings tells them         "cdw11":117637379
+
+A pick:
+pick       0 to 65535: the queue                                                 "pick":1
+n          0 to 65535: how many commands were taken                              "n":2
+fresh      true where a new round starts, false else; check --spec needs none    "fresh":false
+seen       for each open queue, by number: [queue, class, commands that wait]    "seen":[[1,"high",5],[4,"low",5]]
+           queue 0 to 64; "admin" (queue 0), "urgent", "high", "medium", "low";
+           0 to 256, as before the pick, where 256 stands for more
+
+A change of the settings:
+set        0 to 4294967295: the new settings                                     "set":33554690
+
+Fields of your own begin with x_.
+
+{"version":1,"mechanism":"weighted","cdw11":50397185}
+{"pick":1,"n":2,"fresh":false,"seen":[[1,"high",5],[4,"low",5]]}
+
+  nvmearb check FILE         is each pick the one that this front makes?
+  nvmearb check --spec FILE  is each pick one that the specification allows?
+  nvmearb stats FILE         picks, commands, shares and waits
+"#;
+
+/// The help on files that the words ask for.
+pub(crate) fn topic(words: &[String]) -> Option<&'static str> {
+    match words {
+        [_, help, topic] if help.as_str() == "help" => match topic.as_str() {
+            "workload" => Some(WORKLOAD),
+            "trace" => Some(TRACE),
+            _ => None,
+        },
+        _ => None,
+    }
+}
