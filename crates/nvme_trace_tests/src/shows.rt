@@ -357,15 +357,16 @@ fn turns(alloc: Global, queues: u32, picks: u32) -> Result<String, Fail> {
         "{{\"version\":1,\"mechanism\":\"round-robin\",\"cdw11\":0}}"
     )?;
     for pick in 0..picks {
-        let qid = if pick < 64 {
-            pick % queues
+        let among = if pick < 64 {
+            queues
         } else {
-            pick % (queues - 1)
+            queues.saturating_sub(1)
         };
+        let qid = pick.checked_rem(among).unwrap_or(0);
         write!(
             text,
             "{{\"pick\":{},\"n\":1,\"fresh\":false,\"seen\":[",
-            qid + 1
+            qid.saturating_add(1)
         )?;
         for other in 1..queues {
             write!(text, "[{other},\"high\",9],")?;
