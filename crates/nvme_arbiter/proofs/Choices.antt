@@ -1,5 +1,5 @@
 -- The rules of a pick, taken apart.
-use Rattle.std.proofs.Common.{◌≡◌, ℕ, ◌<◌, ◌==◌, ◌⊎◌, inl, inr, ◌&&◌, min, Bool, true, false, cond, nat_lt, List, [], ◌∷◌, slice_index_or, find, refl, sym, ap, subst, ◌∙◌, arith}
+use Rattle.std.proofs.Common.{◌≡◌, ℕ, ◌<◌, ◌≤◌, ◌==◌, ◌⊎◌, inl, inr, ◌&&◌, min, Bool, true, false, cond, nat_lt, List, [], ◌∷◌, slice_index_or, find, refl, sym, ap, subst, ◌∙◌, arith}
 use Rattle.std.specs.Prelude.{filter, Option, Some, None, All, AllPairs, IfSome, IsNone, ◌↔◌, if◌then◌else◌}
 use Rattle.std.specs.Option.{option_or}
 use Rattle.std.proofs.lemmas.Bool.{le-ltb, ltb-true, ltb-false, lt-ltb, eq-eqb, ne_eqb, cond-true, cond-false, cases_Bool, and_right, and_parts}
@@ -12,6 +12,9 @@ use Rattle.nvme_arbiter.specs.declared.settings.Class.TheVariants.{Admin, Urgent
 use Rattle.nvme_arbiter.specs.Observation.{is_class, IsIdle, ready, ready_of, class_in}
 use Rattle.nvme_arbiter.specs.Next.{lower, least, above, next}
 use Rattle.nvme_arbiter.specs.Rules.{within_burst, take_from, round_robin_pick, credit, admin_pick, urgent_pick, level_pick, levels_pick, weighted_pick}
+use Rattle.nvme_arbiter.specs.History.{History, settings_after, last_served, last_served_of, used_in_round}
+use Rattle.nvme_arbiter.specs.Lawful.{IsCutOf, IsLimitedPick}
+use Rattle.nvme_arbiter.specs.declared.settings.Mechanism.TheVariants.{RoundRobin, Weighted}
 use Rattle.nvme_arbiter.proofs.NextLemmas.{Below, below_rest, rest_ascends}
 
 -- ---- one of two
@@ -30,14 +33,22 @@ none_or (Some y) b h k = h
 -- ---- what is taken from a queue
 pub record IsTaken (fresh : Bool) (number : Seen → ℕ) (queue : Seen) (p : Pick) : Type 0 where
   pub qid : p.qid ≡ queue.qid
-  pub n : p.n ≡ number queue
+  pub few : p.n ≤ number queue
+  pub some : 1 ≤ number queue → 1 ≤ p.n
   pub fresh_is : p.fresh ≡ fresh
 
 pub take_from_some : (fresh : Bool) (number : Seen → ℕ) (o : Option Seen) (p : Pick) → take_from fresh number o ≡ Some p → (q : Seen) × (o ≡ Some q) × IsTaken fresh number q p
 take_from_some fresh number None p h = absurd (cc)
 take_from_some fresh number (Some q) p h =
     let e : record { qid = q.qid; n = number q; fresh = fresh } ≡ p = cc in
-    (q, refl, record { qid = sym (ap (λ r. r.qid) e); n = sym (ap (λ r. r.n) e); fresh_is = sym (ap (λ r. r.fresh) e) })
+    let same : number q ≡ p.n = ap (λ r. r.n) e in
+    (q, refl, record { qid = sym (ap (λ r. r.qid) e); few = omega arith; some = λ h. omega arith; fresh_is = sym (ap (λ r. r.fresh) e) })
+
+pub taken_cut : (fresh : Bool) (number : Seen → ℕ) (queue : Seen) (whole p : Pick) → IsTaken fresh number queue whole → IsCutOf whole p → 1 ≤ p.n → IsTaken fresh number queue p
+taken_cut fresh number queue whole p t c one =
+    let few : whole.n ≤ number queue = t.few in
+    let fewer : p.n ≤ whole.n = c.few in
+    record { qid = c.qid ∙ t.qid; few = omega arith; some = λ h. one; fresh_is = c.fresh ∙ t.fresh_is }
 
 pub take_from_none : (fresh : Bool) (number : Seen → ℕ) (o : Option Seen) → take_from fresh number o ≡ None → o ≡ None
 take_from_none fresh number None h = refl
@@ -169,6 +180,16 @@ pub data Choice (s : ArbitrationFields) (last : Class → Option ℕ) (used : Cl
   of_urgent : IsFrom last seen Urgent false (λ q. within_burst (burst_of s) q.count) p → Choice s last used seen p
   of_level : (fresh : Bool) (level : Class) → IsOfLevel s last used seen fresh level p → Choice s last used seen p
 
+from_cut : (last : Class → Option ℕ) (seen : List Seen) (class : Class) (fresh : Bool) (number : Seen → ℕ) (whole p : Pick) → IsFrom last seen class fresh number whole → IsCutOf whole p → 1 ≤ p.n → IsFrom last seen class fresh number p
+from_cut last seen class fresh number whole p f c one = record { queue = f.queue; next_is = f.next_is; taken_is = taken_cut fresh number f.queue whole p f.taken_is c one }
+
+-- a pick of fewer commands is of the same choice
+pub choice_cut : (s : ArbitrationFields) (last : Class → Option ℕ) (used : Class → ℕ) (seen : List Seen) (whole p : Pick) → Choice s last used seen whole → IsCutOf whole p → 1 ≤ p.n → Choice s last used seen p
+choice_cut s last used seen whole p (of_admin f) c one = of_admin (from_cut last seen Admin false _ whole p f c one)
+choice_cut s last used seen whole p (of_urgent f) c one = of_urgent (from_cut last seen Urgent false _ whole p f c one)
+choice_cut s last used seen whole p (of_level fresh level f) c one =
+    of_level fresh level (record { level_is = f.level_is; has_credit = f.has_credit; from = from_cut last seen level fresh _ whole p f.from c one })
+
 pub weighted_some : (s : ArbitrationFields) (last : Class → Option ℕ) (used : Class → ℕ) (seen : List Seen) (p : Pick) → weighted_pick s last used seen ≡ Some p → Choice s last used seen p
 weighted_some s last used seen p h =
     elim (or_some (admin_pick s last used seen) (option_or (urgent_pick s last used seen) (option_or (levels_pick s last used seen false) (levels_pick s last used seen true))) p h) [
@@ -181,6 +202,19 @@ weighted_some s last used seen p h =
         ]
       ]
     ]
+
+-- the choice of a pick that is lawful for some limit
+pub limited_choice : (first : ArbitrationFields) (past : History) (seen : List Seen) (p : Pick) → IsLimitedPick Weighted first past seen p → Choice (settings_after first past) (λ c. last_served_of c past) (λ l. used_in_round l past) seen p
+limited_choice first past seen p h =
+    choice_cut (settings_after first past) (λ c. last_served_of c past) (λ l. used_in_round l past) seen h.whole p
+    (weighted_some (settings_after first past) (λ c. last_served_of c past) (λ l. used_in_round l past) seen h.whole h.lawful) h.is_cut h.some
+
+-- and under round robin its queue
+pub limited_from : (first : ArbitrationFields) (past : History) (seen : List Seen) (p : Pick) → IsLimitedPick RoundRobin first past seen p → (q : Seen) × (next (last_served past) (ready seen) ≡ Some q) × IsTaken false (λ v. cond (v.qid == 0) 1 (within_burst (burst_of (settings_after first past)) v.count)) q p
+limited_from first past seen p h =
+    let number : Seen → ℕ = λ v. cond (v.qid == 0) 1 (within_burst (burst_of (settings_after first past)) v.count) in
+    let t = take_from_some false number (next (last_served past) (ready seen)) h.whole h.lawful in
+    (t.0, t.1, taken_cut false number t.0 h.whole p t.2 h.is_cut h.some)
 
 -- ---- nothing is picked where nothing is ready
 pub filter_nil : (p : Seen → Bool) (xs : List Seen) → filter p xs ≡ [] → All (λ s. p s ≡ false) xs

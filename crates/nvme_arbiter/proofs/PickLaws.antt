@@ -1,6 +1,6 @@
 -- Laws of lawful picks and lawful runs.
 use Rattle.std.proofs.Common.{◌≡◌, ◌≢◌, ℕ, ◌-◌, ◌<◌, ◌≤◌, ◌==◌, ◌^◌, inl, inr, min, true, false, cond, nat_lt, List, [], ◌∷◌, slice_index_or, find, refl, sym, ap, subst, ◌∙◌, arith}
-use Rattle.std.specs.Prelude.{Option, Some, None, All, AllPairs}
+use Rattle.std.specs.Prelude.{Option, Some, None, All, AllPairs, IfSome, option_map}
 use Rattle.std.specs.Option.{option_or}
 use Rattle.std.proofs.lemmas.Bool.{ltb-true, ltb-false, cases_Bool, cond-true, cond-false, true≢false}
 use Rattle.std.proofs.lemmas.Nat.{pow_pos}
@@ -12,13 +12,15 @@ use Rattle.nvme_arbiter.specs.declared.settings.Class.{Class}
 use Rattle.nvme_arbiter.specs.declared.settings.Class.TheVariants.{Admin, Urgent, High, Medium, Low}
 use Rattle.nvme_arbiter.specs.declared.settings.Mechanism.{Mechanism}
 use Rattle.nvme_arbiter.specs.declared.settings.Mechanism.TheVariants.{RoundRobin, Weighted}
-use Rattle.nvme_arbiter.specs.Observation.{is_class, ready, ready_of}
+use Rattle.nvme_arbiter.specs.Observation.{is_class, IsSeen, IsObservation, ready, ready_of}
+use Rattle.nvme_arbiter.specs.Limits.{highest_count}
 use Rattle.nvme_arbiter.specs.Next.{next}
-use Rattle.nvme_arbiter.specs.History.{Picked, Changed, settings_after, last_served, last_served_of, used_in_round}
+use Rattle.nvme_arbiter.specs.History.{Picked, Changed, History, settings_after, last_served, last_served_of, used_in_round}
 use Rattle.nvme_arbiter.specs.Rules.{within_burst, take_from, credit, admin_pick, urgent_pick, level_pick, levels_pick, weighted_pick}
-use Rattle.nvme_arbiter.specs.Laws.{OneLawfulPick, IsMeasured, LawfulPicksAreMeasured, IsRoundOver, FreshWhereDue, PrefixesAreLawful}
-use Rattle.nvme_arbiter.proofs.NextLemmas.{Below}
-use Rattle.nvme_arbiter.proofs.Choices.{or_some, or_none, take_from_some, take_from_none, next_none, next_nil, next_is_one, found_itself, same_class, next_of_class, levels_some, Choice, of_admin, of_urgent, of_level, weighted_some}
+use Rattle.nvme_arbiter.specs.Laws.{OneLawfulPick, IsMeasured, LawfulPicksAreMeasured, IsRoundOver, FreshWhereDue, PrefixesAreLawful, LimitedPicksAreMeasured, LimitsArePicks, PicksAreOfLimits, WideLimitsCutNothing, LawfulRunsAreLimited, LimitedPrefixes}
+use Rattle.nvme_arbiter.specs.Lawful.{lawful_pick, cut, IsLawfulPick, IsLimitedPick}
+use Rattle.nvme_arbiter.proofs.NextLemmas.{Below, IfSome-find}
+use Rattle.nvme_arbiter.proofs.Choices.{or_some, or_none, take_from_some, take_from_none, next_none, next_nil, next_is_one, found_itself, same_class, next_of_class, levels_some, Choice, of_admin, of_urgent, of_level, weighted_some, IsTaken, limited_choice, limited_from}
 
 pub one_pick : OneLawfulPick
 one_pick mechanism first past seen p q h k =
@@ -70,15 +72,17 @@ all_ready seen a = λ k d h.
 round_robin_within : (s : ArbitrationFields) (count qid : ℕ) → 0 < count → IsWithin (burst_of s) count (cond (qid == 0) 1 (within_burst (burst_of s) count))
 round_robin_within s count qid h = elim (qid == 0) as (λ b. IsWithin (burst_of s) count (cond b 1 (within_burst (burst_of s) count))) [ true ↦ one_within s count h | false ↦ all_within s count h ]
 
-measured : (m : Mechanism) (s : ArbitrationFields) (seen : List Seen) (p : Pick) (queue : Seen) (n : ℕ) → find (λ t. t.qid == queue.qid) seen ≡ Some queue → p.qid ≡ queue.qid → p.n ≡ n → IsWithin (burst_of s) queue.count n → (m ≡ Weighted → IsLevel queue.class → n ≤ weight_of s queue.class) → IsMeasured m s seen p
-measured m s seen p queue n there e f w l = record {
-  queue = queue;
-  was_seen = subst (λ i. find (λ t. t.qid == i) seen ≡ Some queue) (sym e) there;
-  at_least_one = subst (λ i. 1 ≤ i) (sym f) w.one;
-  within_count = subst (λ i. i ≤ queue.count) (sym f) w.few;
-  within_burst = λ b h. subst (λ i. i ≤ b) (sym f) (w.short b h);
-  within_weight = λ a b. subst (λ i. i ≤ weight_of s queue.class) (sym f) (l a b);
-}
+measured : (m : Mechanism) (s : ArbitrationFields) (seen : List Seen) (p : Pick) (queue : Seen) (n : ℕ) → find (λ t. t.qid == queue.qid) seen ≡ Some queue → p.qid ≡ queue.qid → p.n ≤ n → (1 ≤ n → 1 ≤ p.n) → IsWithin (burst_of s) queue.count n → (m ≡ Weighted → IsLevel queue.class → n ≤ weight_of s queue.class) → IsMeasured m s seen p
+measured m s seen p queue n there e f g w l =
+    let few : n ≤ queue.count = w.few in
+    record {
+      queue = queue;
+      was_seen = subst (λ i. find (λ t. t.qid == i) seen ≡ Some queue) (sym e) there;
+      at_least_one = g w.one;
+      within_count = omega arith;
+      within_burst = λ b h. let x : n ≤ b = w.short b h in omega arith;
+      within_weight = λ a b. let x : n ≤ weight_of s queue.class = l a b in omega arith;
+    }
 
 -- a class that is no level has no weight
 no_level : (class other : Class) → (IsLevel class → ⊥) → is_class class other ≡ true → IsLevel other → ⊥
@@ -87,10 +91,10 @@ no_level class other h e l = h (subst IsLevel (sym (same_class class other e)) l
 measured_choice : (s : ArbitrationFields) (last : Class → Option ℕ) (used : Class → ℕ) (seen : List Seen) (p : Pick) → AllPairs Below seen → Choice s last used seen p → IsMeasured Weighted s seen p
 measured_choice s last used seen p a (of_admin f) =
     let is = next_of_class Admin (last Admin) seen f.queue a f.next_is in
-    measured Weighted s seen p f.queue 1 is.there f.taken_is.qid f.taken_is.n (one_within s f.queue.count is.waits) (λ e l. absurd (no_level Admin f.queue.class (λ x. x) is.class_is l))
+    measured Weighted s seen p f.queue 1 is.there f.taken_is.qid f.taken_is.few f.taken_is.some (one_within s f.queue.count is.waits) (λ e l. absurd (no_level Admin f.queue.class (λ x. x) is.class_is l))
 measured_choice s last used seen p a (of_urgent f) =
     let is = next_of_class Urgent (last Urgent) seen f.queue a f.next_is in
-    measured Weighted s seen p f.queue (within_burst (burst_of s) f.queue.count) is.there f.taken_is.qid f.taken_is.n (all_within s f.queue.count is.waits) (λ e l. absurd (no_level Urgent f.queue.class (λ x. x) is.class_is l))
+    measured Weighted s seen p f.queue (within_burst (burst_of s) f.queue.count) is.there f.taken_is.qid f.taken_is.few f.taken_is.some (all_within s f.queue.count is.waits) (λ e l. absurd (no_level Urgent f.queue.class (λ x. x) is.class_is l))
 measured_choice s last used seen p a (of_level fresh level f) =
     let is = next_of_class level (last level) seen f.from.queue a f.from.next_is in
     let w = all_within s f.from.queue.count is.waits in
@@ -101,20 +105,73 @@ measured_choice s last used seen p a (of_level fresh level f) =
     let few : within_burst (burst_of s) f.from.queue.count ≤ f.from.queue.count = w.few in
     let small : c ≤ weight_of s level = elim fresh as (λ b. credit s used b level ≤ weight_of s level) [ true ↦ omega arith | false ↦ omega arith ] in
     let same : level ≡ f.from.queue.class = same_class level f.from.queue.class is.class_is in
-    measured Weighted s seen p f.from.queue n is.there f.from.taken_is.qid f.from.taken_is.n
+    measured Weighted s seen p f.from.queue n is.there f.from.taken_is.qid f.from.taken_is.few f.from.taken_is.some
     (record { one = omega arith; few = omega arith; short = λ b e. let x = w.short b e in omega arith })
     (λ e l. subst (λ k. n ≤ weight_of s k) same (omega arith))
 
+measured_robin : (s : ArbitrationFields) (last : Option ℕ) (seen : List Seen) (p : Pick) → AllPairs Below seen → (q : Seen) × (next last (ready seen) ≡ Some q) × IsTaken false (λ v. cond (v.qid == 0) 1 (within_burst (burst_of s) v.count)) q p → IsMeasured RoundRobin s seen p
+measured_robin s last seen p a t =
+    let is = next_is_one (IsReady seen) last (ready seen) t.0 (all_ready seen a) t.1 in
+    measured RoundRobin s seen p t.0 (cond (t.0.qid == 0) 1 (within_burst (burst_of s) t.0.count)) is.there t.2.qid t.2.few t.2.some (round_robin_within s t.0.count t.0.qid is.waits) (λ e l. absurd (cc))
+
 pub picks_are_measured : LawfulPicksAreMeasured
 picks_are_measured RoundRobin first past seen p o h =
-    let s : ArbitrationFields = settings_after first past in
-    let number : Seen → ℕ = λ q. cond (q.qid == 0) 1 (within_burst (burst_of s) q.count) in
-    let t = take_from_some false number (next (last_served past) (ready seen)) p h in
-    let is = next_is_one (IsReady seen) (last_served past) (ready seen) t.0 (all_ready seen o.ascending) t.1 in
-    measured RoundRobin s seen p t.0 (number t.0) is.there t.2.qid t.2.n (round_robin_within s t.0.count t.0.qid is.waits) (λ e l. absurd (cc))
+    measured_robin (settings_after first past) (last_served past) seen p o.ascending
+    (take_from_some false (λ q. cond (q.qid == 0) 1 (within_burst (burst_of (settings_after first past)) q.count)) (next (last_served past) (ready seen)) p h)
 picks_are_measured Weighted first past seen p o h =
     measured_choice (settings_after first past) (λ c. last_served_of c past) (λ l. used_in_round l past) seen p o.ascending
     (weighted_some (settings_after first past) (λ c. last_served_of c past) (λ l. used_in_round l past) seen p h)
+
+pub limited_are_measured : LimitedPicksAreMeasured
+limited_are_measured RoundRobin first past seen p o h = measured_robin (settings_after first past) (last_served past) seen p o.ascending (limited_from first past seen p h)
+limited_are_measured Weighted first past seen p o h =
+    measured_choice (settings_after first past) (λ c. last_served_of c past) (λ l. used_in_round l past) seen p o.ascending (limited_choice first past seen p h)
+
+-- ---- limits
+pub whole_is_limited : (m : Mechanism) (first : ArbitrationFields) (past : History) (seen : List Seen) (p : Pick) → IsObservation seen → IsLawfulPick m first past seen p → IsLimitedPick m first past seen p
+whole_is_limited m first past seen p o h =
+    record { whole = p; lawful = h; is_cut = record { qid = refl; fresh = refl; few = omega arith }; some = (picks_are_measured m first past seen p o h).at_least_one }
+
+cut_of : (limit : ℕ) (o : Option Pick) (p : Pick) → option_map (cut limit) o ≡ Some p → (w : Pick) × (o ≡ Some w) × (cut limit w ≡ p)
+cut_of limit None p h = absurd (cc)
+cut_of limit (Some w) p h = (w, refl, cc)
+
+pub limits_are_picks : LimitsArePicks
+limits_are_picks limit m first past seen p o one h =
+    let w = cut_of limit (lawful_pick m first past seen) p h in
+    let n : min w.0.n limit ≡ p.n = ap (λ r. r.n) w.2 in
+    let some : 1 ≤ w.0.n = (picks_are_measured m first past seen w.0 o w.1).at_least_one in
+    (record { whole = w.0; lawful = w.1; is_cut = record { qid = sym (ap (λ r. r.qid) w.2); fresh = sym (ap (λ r. r.fresh) w.2); few = omega arith }; some = omega arith }, omega arith)
+
+pub same_pick : (p q : Pick) → p.qid ≡ q.qid → p.n ≡ q.n → p.fresh ≡ q.fresh → p ≡ q
+same_pick p q a b c = λ i. record { qid = a i; n = b i; fresh = c i }
+
+pub picks_are_of_limits : PicksAreOfLimits
+picks_are_of_limits m first past seen p h =
+    let few : p.n ≤ h.whole.n = h.is_cut.few in
+    let n : min h.whole.n p.n ≡ p.n = omega arith in
+    ap (option_map (cut p.n)) h.lawful ∙ ap Some (same_pick (cut p.n h.whole) p (sym h.is_cut.qid) n (sym h.is_cut.fresh))
+
+pub wide_limits : WideLimitsCutNothing
+wide_limits limit m first past seen o wide = by (lawful_pick m first past seen) refl where
+  by : (x : Option Pick) → lawful_pick m first past seen ≡ x → option_map (cut limit) x ≡ x
+  by None e = refl
+  by (Some p) e =
+      let is = picks_are_measured m first past seen p o e in
+      let is_seen : IsSeen is.queue = subst (λ (x : Option Seen). IfSome x IsSeen) is.was_seen (IfSome-find IsSeen (λ t. t.qid == p.qid) seen o.each) in
+      let few : p.n ≤ is.queue.count = is.within_count in
+      let fewer : is.queue.count ≤ highest_count = is_seen.count in
+      ap Some (same_pick (cut limit p) p refl (omega arith) refl)
+
+pub lawful_is_limited : LawfulRunsAreLimited
+lawful_is_limited m first [] r = tt
+lawful_is_limited m first (Changed settings ∷ past) r = lawful_is_limited m first past r
+lawful_is_limited m first (Picked seen pick ∷ past) r = (r.0, whole_is_limited m first past seen pick r.0 r.1, lawful_is_limited m first past r.2)
+
+pub limited_prefixes : LimitedPrefixes
+limited_prefixes m first [] past h = h
+limited_prefixes m first (Picked seen pick ∷ later) past h = limited_prefixes m first later past h.2
+limited_prefixes m first (Changed settings ∷ later) past h = limited_prefixes m first later past h
 
 -- ---- new rounds
 ready_from_next : (last : Option ℕ) (xs : List Seen) (q : Seen) → next last xs ≡ Some q → xs ≢ []
@@ -166,9 +223,11 @@ fresh_choice s last used seen p (of_level false level f) r =
     let some : 0 < weight_of s level - used level = f.has_credit in
     absurd (omega arith)
 
+pub limited_over : (first : ArbitrationFields) (past : History) (seen : List Seen) (p : Pick) → IsLimitedPick Weighted first past seen p → p.fresh ≡ true → IsRoundOver (settings_after first past) (λ l. used_in_round l past) seen
+limited_over first past seen p h fresh = round_over (settings_after first past) (λ c. last_served_of c past) (λ l. used_in_round l past) seen h.whole h.lawful (sym h.is_cut.fresh ∙ fresh)
+
 pub fresh_due : FreshWhereDue
 fresh_due first past seen p h = (
-  round_over (settings_after first past) (λ c. last_served_of c past) (λ l. used_in_round l past) seen p h,
-  fresh_choice (settings_after first past) (λ c. last_served_of c past) (λ l. used_in_round l past) seen p
-      (weighted_some (settings_after first past) (λ c. last_served_of c past) (λ l. used_in_round l past) seen p h),
+  limited_over first past seen p h,
+  fresh_choice (settings_after first past) (λ c. last_served_of c past) (λ l. used_in_round l past) seen p (limited_choice first past seen p h),
 )

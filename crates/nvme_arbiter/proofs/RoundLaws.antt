@@ -12,7 +12,7 @@ use Rattle.nvme_arbiter.specs.Observation.{is_class, IsObservation, class_in}
 use Rattle.nvme_arbiter.specs.History.{Picked, Changed, settings_after, last_served, last_served_of, is_in_class, taken, used_in_round}
 use Rattle.nvme_arbiter.specs.Rules.{within_burst, credit}
 use Rattle.nvme_arbiter.specs.Laws.{UsedIsWithinWeight, NoneWhereIdle}
-use Rattle.nvme_arbiter.proofs.Choices.{same_class, Choice, of_admin, of_urgent, of_level, weighted_some, round_robin_idle, weighted_idle}
+use Rattle.nvme_arbiter.proofs.Choices.{same_class, Choice, of_admin, of_urgent, of_level, limited_choice, round_robin_idle, weighted_idle}
 use Rattle.nvme_arbiter.proofs.Stands.{from_in}
 
 -- a pick takes of its own class alone
@@ -48,7 +48,8 @@ pick_within s last used seen p level o l h (of_urgent f) =
     rw (none, f.taken_is.fresh_is) kept
 pick_within s last used seen p level o l h (of_level fresh class f) =
     let number : Seen → ℕ = λ q. min (within_burst (burst_of s) q.count) (credit s used fresh class) in
-    let few : p.n ≤ credit s used fresh class = rw f.from.taken_is.n (omega arith) in
+    let taken : p.n ≤ number f.from.queue = f.from.taken_is.few in
+    let few : p.n ≤ credit s used fresh class = omega arith in
     rw (taken_of level class seen p (from_in last seen class fresh number p o f.from), f.from.taken_is.fresh_is) (level_within s used level class fresh p.n h few f.has_credit)
 
 pub used_within : UsedIsWithinWeight
@@ -56,7 +57,7 @@ used_within first [] level r l = omega arith
 used_within first (Changed settings ∷ past) level r l = omega arith
 used_within first (Picked seen pick ∷ past) level r l =
     pick_within (settings_after first past) (λ c. last_served_of c past) (λ k. used_in_round k past) seen pick level r.0 l (used_within first past level r.2 l)
-    (weighted_some (settings_after first past) (λ c. last_served_of c past) (λ k. used_in_round k past) seen pick r.1)
+    (limited_choice first past seen pick r.1)
 
 -- ---- where nothing is picked
 pub idle_law : NoneWhereIdle

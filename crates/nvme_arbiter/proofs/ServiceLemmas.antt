@@ -15,13 +15,13 @@ use Rattle.nvme_arbiter.specs.declared.settings.Mechanism.TheVariants.{RoundRobi
 use Rattle.nvme_arbiter.specs.Observation.{is_class, IsSeen, IsObservation, ready, ready_of, class_in}
 use Rattle.nvme_arbiter.specs.Next.{lower, least, above, next}
 use Rattle.nvme_arbiter.specs.History.{History, settings_after, last_served, last_served_of, is_in_class, used_in_round}
-use Rattle.nvme_arbiter.specs.Rules.{within_burst, credit, weighted_pick}
-use Rattle.nvme_arbiter.specs.Lawful.{IsLawfulPick, IsLawfulRun}
+use Rattle.nvme_arbiter.specs.Rules.{within_burst, credit}
+use Rattle.nvme_arbiter.specs.Lawful.{IsLimitedPick, IsLimitedRun}
 use Rattle.nvme_arbiter.specs.Laws.{IsRoundOver}
 use Rattle.nvme_arbiter.specs.Service.{Turn, events_of, sees_ready, sees_ready_in, is_of_class, is_picked, RoundRobinServes, sees_where_of, ClassServes, is_empty, sees_low_without_urgent, taken_in, LowIsServed}
-use Rattle.nvme_arbiter.proofs.Choices.{next_is_one, take_from_some, next_none, next_nil, same_class, IsFrom, Choice, of_admin, of_urgent, of_level, weighted_some, filter_nil, IfSome-least}
+use Rattle.nvme_arbiter.proofs.Choices.{next_is_one, next_none, next_nil, same_class, IsFrom, Choice, of_admin, of_urgent, of_level, limited_choice, limited_from, filter_nil, IfSome-least}
 use Rattle.nvme_arbiter.proofs.Stands.{from_in}
-use Rattle.nvme_arbiter.proofs.PickLaws.{round_over}
+use Rattle.nvme_arbiter.proofs.PickLaws.{limited_over}
 
 -- ---- the least and the next
 least_as : (x : Seen) (xs : List Seen) (o : Option Seen) → least xs ≡ o → ((t : Seen) → o ≡ Some t → All (λ s. t.qid ≤ s.qid) xs) → All (λ s. (lower x o).qid ≤ s.qid) (x ∷ xs)
@@ -144,7 +144,7 @@ nearer base (Some l) xs p q b h w n =
 pub between_all : (seen : List Seen) → IsObservation seen → All (IsBetween 0) seen
 between_all seen o = λ k d h. let s = o.each k d h in record { from_base = omega arith; to_highest = s.qid }
 
-round_robin_falls : (first : ArbitrationFields) (past : History) (turns : List Turn) (q : ℕ) → IsLawfulRun RoundRobin first (events_of turns ++ past) → list_all (sees_ready q) turns ≡ true → is_picked q turns ≡ false → dist 0 (last_served (events_of turns ++ past)) q + length turns ≤ dist 0 (last_served past) q
+round_robin_falls : (first : ArbitrationFields) (past : History) (turns : List Turn) (q : ℕ) → IsLimitedRun RoundRobin first (events_of turns ++ past) → list_all (sees_ready q) turns ≡ true → is_picked q turns ≡ false → dist 0 (last_served (events_of turns ++ past)) q + length turns ≤ dist 0 (last_served past) q
 round_robin_falls first past [] q h w n = omega arith
 round_robin_falls first past (t ∷ rest) q h w n =
     let before : History = events_of rest ++ past in
@@ -153,7 +153,7 @@ round_robin_falls first past (t ∷ rest) q h w n =
     let ih : dist 0 (last_served before) q + length rest ≤ dist 0 (last_served past) q = round_robin_falls first past rest q h.2 sees.1 not_now.1 in
     let s : ArbitrationFields = settings_after first before in
     let number : Seen → ℕ = λ v. cond (v.qid == 0) 1 (within_burst (burst_of s) v.count) in
-    let p = take_from_some false number (next (last_served before) (ready t.seen)) t.pick h.1 in
+    let p = limited_from first before t.seen t.pick h.1 in
     let same : t.pick.qid ≡ p.0.qid = p.2.qid in
     let other : p.0.qid ≢ q = λ e. eqb-false t.pick.qid q not_now.0 (same ∙ e) in
     let step : dist 0 (Some p.0.qid) q < dist 0 (last_served before) q =
@@ -205,9 +205,9 @@ next_chosen s past class t o w (of_admin f) = next_from past class Admin t false
 next_chosen s past class t o w (of_urgent f) = next_from past class Urgent t false (λ q. within_burst (burst_of s) q.count) o w f
 next_chosen s past class t o w (of_level fresh level f) = next_from past class level t fresh (λ q. min (within_burst (burst_of s) q.count) (credit s (λ l. used_in_round l past) fresh level)) o w f.from
 
-pub next_lawful : (first : ArbitrationFields) (past : History) (class : Class) (t : Turn) → IsObservation t.seen → IsLawfulPick Weighted first past t.seen t.pick → is_of_class class t ≡ true → IsNextOf past class t
+pub next_lawful : (first : ArbitrationFields) (past : History) (class : Class) (t : Turn) → IsObservation t.seen → IsLimitedPick Weighted first past t.seen t.pick → is_of_class class t ≡ true → IsNextOf past class t
 next_lawful first past class t o h w =
-    next_chosen (settings_after first past) past class t o w (weighted_some (settings_after first past) (λ c. last_served_of c past) (λ l. used_in_round l past) t.seen t.pick h)
+    next_chosen (settings_after first past) past class t o w (limited_choice first past t.seen t.pick h)
 
 -- the ready queues of a class, by their identifiers
 between_class : (class : Class) (seen : List Seen) → IsObservation seen → class ≢ Admin → All (IsBetween 1) (ready_of class seen)
@@ -240,7 +240,7 @@ sees_then class q t h w =
 not_here : (class : Class) (q : ℕ) (t : Turn) → (is_of_class class t && (t.pick.qid == q)) ≡ false → is_of_class class t ≡ true → t.pick.qid ≢ q
 not_here class q t n w e = both_ways (is_of_class class t && (t.pick.qid == q)) n (and_from (is_of_class class t) (t.pick.qid == q) w (eq-eqb t.pick.qid q e))
 
-class_falls : (first : ArbitrationFields) (past : History) (turns : List Turn) (class : Class) (q : ℕ) → class ≢ Admin → IsLawfulRun Weighted first (events_of turns ++ past) → list_all (sees_where_of class q) turns ≡ true → list_any (λ t. is_of_class class t && (t.pick.qid == q)) turns ≡ false → dist 1 (last_served_of class (events_of turns ++ past)) q + length (filter (is_of_class class) turns) ≤ dist 1 (last_served_of class past) q
+class_falls : (first : ArbitrationFields) (past : History) (turns : List Turn) (class : Class) (q : ℕ) → class ≢ Admin → IsLimitedRun Weighted first (events_of turns ++ past) → list_all (sees_where_of class q) turns ≡ true → list_any (λ t. is_of_class class t && (t.pick.qid == q)) turns ≡ false → dist 1 (last_served_of class (events_of turns ++ past)) q + length (filter (is_of_class class) turns) ≤ dist 1 (last_served_of class past) q
 class_falls first past [] class q na h w n = omega arith
 class_falls first past (t ∷ rest) class q na h w n =
     let before : History = events_of rest ++ past in
@@ -265,7 +265,7 @@ class_falls first past (t ∷ rest) class q na h w n =
     ]
 
 -- the admin queue is the only one of its class
-admin_stays : (first : ArbitrationFields) (past : History) (turns : List Turn) (q : ℕ) → IsLawfulRun Weighted first (events_of turns ++ past) → list_all (sees_where_of Admin q) turns ≡ true → list_any (λ t. is_of_class Admin t && (t.pick.qid == q)) turns ≡ false → length (filter (is_of_class Admin) turns) ≡ 0
+admin_stays : (first : ArbitrationFields) (past : History) (turns : List Turn) (q : ℕ) → IsLimitedRun Weighted first (events_of turns ++ past) → list_all (sees_where_of Admin q) turns ≡ true → list_any (λ t. is_of_class Admin t && (t.pick.qid == q)) turns ≡ false → length (filter (is_of_class Admin) turns) ≡ 0
 admin_stays first past [] q h w n = refl
 admin_stays first past (t ∷ rest) q h w n =
     let before : History = events_of rest ++ past in
@@ -283,7 +283,7 @@ admin_stays first past (t ∷ rest) q h w n =
     ]
 
 -- a class that picks sees its queue
-class_within : (first : ArbitrationFields) (past : History) (turns : List Turn) (class : Class) (q : ℕ) → class ≢ Admin → IsLawfulRun Weighted first (events_of turns ++ past) → list_all (sees_where_of class q) turns ≡ true → 0 < length (filter (is_of_class class) turns) → (1 ≤ q) × (q ≤ highest_qid)
+class_within : (first : ArbitrationFields) (past : History) (turns : List Turn) (class : Class) (q : ℕ) → class ≢ Admin → IsLimitedRun Weighted first (events_of turns ++ past) → list_all (sees_where_of class q) turns ≡ true → 0 < length (filter (is_of_class class) turns) → (1 ≤ q) × (q ≤ highest_qid)
 class_within first past [] class q na h w l = absurd (omega arith)
 class_within first past (t ∷ rest) class q na h w l =
     let sees = and_parts (sees_where_of class q t) (list_all (sees_where_of class q) rest) w in
@@ -293,7 +293,7 @@ class_within first past (t ∷ rest) class q na h w l =
       | inr f ↦ class_within first past rest class q na h.2 sees.1 (subst (λ n. 0 < n) (ap length (cond-false (is_of_class class t) (t ∷ filter (is_of_class class) rest) (filter (is_of_class class) rest) f)) l)
     ]
 
-other_serves : (first : ArbitrationFields) (past : History) (turns : List Turn) (class : Class) (q : ℕ) → class ≢ Admin → IsLawfulRun Weighted first (events_of turns ++ past) → list_all (sees_where_of class q) turns ≡ true → highest_qid ≤ length (filter (is_of_class class) turns) → list_any (λ t. is_of_class class t && (t.pick.qid == q)) turns ≡ false → ⊥
+other_serves : (first : ArbitrationFields) (past : History) (turns : List Turn) (class : Class) (q : ℕ) → class ≢ Admin → IsLimitedRun Weighted first (events_of turns ++ past) → list_all (sees_where_of class q) turns ≡ true → highest_qid ≤ length (filter (is_of_class class) turns) → list_any (λ t. is_of_class class t && (t.pick.qid == q)) turns ≡ false → ⊥
 other_serves first past turns class q na h w long n =
     let falls = class_falls first past turns class q na h w n in
     let within = class_within first past turns class q na h w (omega arith) in
@@ -303,7 +303,7 @@ other_serves first past turns class q na h w long n =
     let most = dist_max 1 (last_served_of class past) q (omega arith) low high in
     omega arith
 
-not_served : (first : ArbitrationFields) (past : History) (turns : List Turn) (class : Class) (q : ℕ) → IsLawfulRun Weighted first (events_of turns ++ past) → list_all (sees_where_of class q) turns ≡ true → highest_qid ≤ length (filter (is_of_class class) turns) → list_any (λ t. is_of_class class t && (t.pick.qid == q)) turns ≡ false → ⊥
+not_served : (first : ArbitrationFields) (past : History) (turns : List Turn) (class : Class) (q : ℕ) → IsLimitedRun Weighted first (events_of turns ++ past) → list_all (sees_where_of class q) turns ≡ true → highest_qid ≤ length (filter (is_of_class class) turns) → list_any (λ t. is_of_class class t && (t.pick.qid == q)) turns ≡ false → ⊥
 not_served first past turns Admin q h w long n = let none = admin_stays first past turns q h w n in omega arith
 not_served first past turns Urgent q h w long n = other_serves first past turns Urgent q (λ e. cc) h w long n
 not_served first past turns High q h w long n = other_serves first past turns High q (λ e. cc) h w long n
@@ -408,7 +408,8 @@ step_chosen s before rest t h o w nl over (of_level fresh level f) =
     let used : Class → ℕ = λ l. used_in_round l before in
     let number : Seen → ℕ = λ q. min (within_burst (burst_of s) q.count) (credit s used fresh level) in
     let class_is : class_in t.seen t.pick.qid ≡ Some level = from_in (λ c. last_served_of c before) t.seen level fresh number t.pick o f.from in
-    let few : t.pick.n ≤ credit s used fresh level = rw f.from.taken_is.n (omega arith) in
+    let taken : t.pick.n ≤ number f.from.queue = f.from.taken_is.few in
+    let few : t.pick.n ≤ credit s used fresh level = omega arith in
     let spent : fresh ≡ true → 0 < used_in_round Low before = λ e. let x = (over (f.from.taken_is.fresh_is ∙ e)).spent Low tt waits in omega arith in
     let not_low : level ≢ Low = λ e. true≢false (sym (ap (is_in_class Low) class_is ∙ ap (is_class Low) e) ∙ nl) in
     subst (λ c. StepOf s before rest c t.pick.n t.pick.fresh) (sym class_is)
@@ -419,17 +420,19 @@ settings_stay : (first : ArbitrationFields) (past : History) (turns : List Turn)
 settings_stay first past [] = refl
 settings_stay first past (t ∷ rest) = settings_stay first past rest
 
-low_step : (first : ArbitrationFields) (past : History) (t : Turn) (rest : List Turn) → IsObservation t.seen → IsLawfulPick Weighted first (events_of rest ++ past) t.seen t.pick → sees_low_without_urgent t ≡ true → not (is_of_class Low t) ≡ true → PhaseOf (settings_after first past) (events_of rest ++ past) rest → PhaseOf (settings_after first past) (events_of (t ∷ rest) ++ past) (t ∷ rest)
+low_step : (first : ArbitrationFields) (past : History) (t : Turn) (rest : List Turn) → IsObservation t.seen → IsLimitedPick Weighted first (events_of rest ++ past) t.seen t.pick → sees_low_without_urgent t ≡ true → not (is_of_class Low t) ≡ true → PhaseOf (settings_after first past) (events_of rest ++ past) rest → PhaseOf (settings_after first past) (events_of (t ∷ rest) ++ past) (t ∷ rest)
 unfolding PhaseOf StepOf
 low_step first past t rest o h w n phase =
     let before : History = events_of rest ++ past in
     let last : Class → Option ℕ = λ c. last_served_of c before in
     let used : Class → ℕ = λ l. used_in_round l before in
     let s : ArbitrationFields = settings_after first past in
-    let picked : weighted_pick s last used t.seen ≡ Some t.pick = subst (λ x. weighted_pick x last used t.seen ≡ Some t.pick) (settings_stay first past rest) h in
-    step_chosen s before rest t phase o w (not-true (is_of_class Low t) n) (round_over s last used t.seen t.pick picked) (weighted_some s last used t.seen t.pick picked)
+    let stay : settings_after first before ≡ s = settings_stay first past rest in
+    step_chosen s before rest t phase o w (not-true (is_of_class Low t) n)
+    (λ e. subst (λ x. IsRoundOver x used t.seen) stay (limited_over first before t.seen t.pick h e))
+    (subst (λ x. Choice x last used t.seen t.pick) stay (limited_choice first before t.seen t.pick h))
 
-low_phase : (first : ArbitrationFields) (past : History) (turns : List Turn) → IsLawfulRun Weighted first (events_of turns ++ past) → list_all sees_low_without_urgent turns ≡ true → list_all (λ t. not (is_of_class Low t)) turns ≡ true → PhaseOf (settings_after first past) (events_of turns ++ past) turns
+low_phase : (first : ArbitrationFields) (past : History) (turns : List Turn) → IsLimitedRun Weighted first (events_of turns ++ past) → list_all sees_low_without_urgent turns ≡ true → list_all (λ t. not (is_of_class Low t)) turns ≡ true → PhaseOf (settings_after first past) (events_of turns ++ past) turns
 unfolding PhaseOf
 low_phase first past [] h w n = phase_first (weight_of (settings_after first past) High) (weight_of (settings_after first past) Medium) (used_in_round High past) (used_in_round Medium past) (used_in_round Low past)
 low_phase first past (t ∷ rest) h w n =

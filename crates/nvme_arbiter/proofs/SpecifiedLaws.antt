@@ -19,30 +19,30 @@ use Rattle.nvme_arbiter.specs.Observation.{is_class, IsObservation, ready, ready
 use Rattle.nvme_arbiter.specs.Next.{next}
 use Rattle.nvme_arbiter.specs.History.{Picked, Changed, History, settings_after, last_served, last_served_of, is_in_class, used_in_round}
 use Rattle.nvme_arbiter.specs.Rules.{within_burst, credit, admin_pick, urgent_pick, levels_pick, weighted_pick}
-use Rattle.nvme_arbiter.specs.Lawful.{IsLawfulPick, IsLawfulRun}
+use Rattle.nvme_arbiter.specs.Lawful.{IsLimitedPick, IsLimitedRun}
 use Rattle.nvme_arbiter.specs.Standing.{used_of, used_with, used_before}
 use Rattle.nvme_arbiter.specs.Laws.{IsRoundOver}
-use Rattle.nvme_arbiter.specs.Specified.{waiting, TakesCandidates, IsWithinBurst, strict_class, IsOfHighestPriority, has_credit, is_of_level, starts_round, round_used, IsWithinCredit, ready_in, is_pick_in, has_waited, NoneHasWaited, IsInTurn, IsSpecifiedPick, LawfulRunsAreSpecified}
+use Rattle.nvme_arbiter.specs.Specified.{waiting, TakesCandidates, IsWithinBurst, strict_class, IsOfHighestPriority, has_credit, is_of_level, starts_round, round_used, IsWithinCredit, ready_in, is_pick_in, has_waited, NoneHasWaited, IsInTurn, IsSpecifiedPick, LawfulRunsAreSpecified, LimitedRunsAreSpecified}
 use Rattle.nvme_arbiter.specs.Service.{Turn}
-use Rattle.nvme_arbiter.proofs.Choices.{or_some, take_from_some, take_from_none, next_none, same_class, class_itself, next_of_class, Choice, of_admin, of_urgent, of_level, weighted_some, levels_some, from_class, filter_nil}
+use Rattle.nvme_arbiter.proofs.Choices.{or_some, take_from_none, next_none, same_class, class_itself, next_of_class, Choice, of_admin, of_urgent, of_level, limited_choice, limited_from, levels_some, from_class, filter_nil}
 use Rattle.nvme_arbiter.proofs.Stands.{used_step, from_in}
-use Rattle.nvme_arbiter.proofs.PickLaws.{picks_are_measured, round_over}
+use Rattle.nvme_arbiter.proofs.PickLaws.{limited_are_measured, limited_over, lawful_is_limited}
 use Rattle.nvme_arbiter.proofs.RoundLaws.{used_within}
 use Rattle.nvme_arbiter.proofs.ServiceLemmas.{dist, nearer, between_all, IsBetween, next_lawful}
 
 -- ---- candidates and the burst
-takes_candidates : (m : Mechanism) (first : ArbitrationFields) (past : History) (seen : List Seen) (p : Pick) → IsObservation seen → IsLawfulPick m first past seen p → TakesCandidates seen p
+takes_candidates : (m : Mechanism) (first : ArbitrationFields) (past : History) (seen : List Seen) (p : Pick) → IsObservation seen → IsLimitedPick m first past seen p → TakesCandidates seen p
 takes_candidates m first past seen p o h =
-    let is = picks_are_measured m first past seen p o h in
+    let is = limited_are_measured m first past seen p o h in
     record { at_least_one = is.at_least_one; that_wait = subst (λ q. p.n ≤ waiting q) (sym is.was_seen) is.within_count }
 
 if_each : (P : ℕ → Type 0) (o : Option ℕ) → ((b : ℕ) → o ≡ Some b → P b) → IfSome o P
 if_each P None h = tt
 if_each P (Some b) h = h b refl
 
-within_the_burst : (m : Mechanism) (first : ArbitrationFields) (past : History) (seen : List Seen) (p : Pick) → IsObservation seen → IsLawfulPick m first past seen p → IsWithinBurst (settings_after first past) p
+within_the_burst : (m : Mechanism) (first : ArbitrationFields) (past : History) (seen : List Seen) (p : Pick) → IsObservation seen → IsLimitedPick m first past seen p → IsWithinBurst (settings_after first past) p
 within_the_burst m first past seen p o h =
-    if_each (λ b. p.n ≤ b) (burst_of (settings_after first past)) (picks_are_measured m first past seen p o h).within_burst
+    if_each (λ b. p.n ≤ b) (burst_of (settings_after first past)) (limited_are_measured m first past seen p o h).within_burst
 
 -- ---- the strict priority classes
 -- the class of a weighted pick, and which classes are not ready
@@ -98,9 +98,11 @@ highest_by seen p (as_admin e) = rw e (λ k d h w. omega arith)
 highest_by seen p (as_urgent e a) = rw e (λ k d h w. below_urgent (slice_index_or seen k d).class (not_of Admin seen a k d h w))
 highest_by seen p (as_level level e a u) = rw e (λ k d h w. below_levels level (slice_index_or seen k d).class (not_of Admin seen a k d h w) (not_of Urgent seen u k d h w))
 
-of_highest_priority : (m : Mechanism) (first : ArbitrationFields) (past : History) (seen : List Seen) (p : Pick) → IsObservation seen → IsLawfulPick m first past seen p → IsOfHighestPriority m seen p
+of_highest_priority : (m : Mechanism) (first : ArbitrationFields) (past : History) (seen : List Seen) (p : Pick) → IsObservation seen → IsLimitedPick m first past seen p → IsOfHighestPriority m seen p
 of_highest_priority RoundRobin first past seen p o h = tt
-of_highest_priority Weighted first past seen p o h = highest_by seen p (ranked (settings_after first past) (λ c. last_served_of c past) (λ l. used_in_round l past) seen p o h)
+of_highest_priority Weighted first past seen p o h =
+    subst (λ q. IfSome (class_in seen q) (λ class. All (λ s. 0 < s.count → strict_class class ≤ strict_class s.class) seen)) (sym h.is_cut.qid)
+    (highest_by seen h.whole (ranked (settings_after first past) (λ c. last_served_of c past) (λ l. used_in_round l past) seen h.whole o h.lawful))
 
 -- ---- rounds
 -- a queue that is found decides whether some queue passes
@@ -178,13 +180,12 @@ starts_by s used past seen p o a over (of_level false level f) =
     let has : has_credit s used f.from.queue ≡ true = and_from (nat_lt 0 f.from.queue.count) (nat_lt (used_of used f.from.queue.class) (weight_of s f.from.queue.class)) (lt-ltb 0 f.from.queue.count is.waits) (lt-ltb (used_of used f.from.queue.class) (weight_of s f.from.queue.class) left) in
     level_starts s used seen p level (from_in (λ c. last_served_of c past) seen level false _ p o f.from) f.level_is true (any_found (λ t. t.qid == f.from.queue.qid) (has_credit s used) seen f.from.queue is.there has) ∙ sym f.from.taken_is.fresh_is
 
-starts_where_fresh : (first : ArbitrationFields) (past : History) (seen : List Seen) (p : Pick) (used : Used) → IsObservation seen → IsLawfulPick Weighted first past seen p → Agrees used past → starts_round (settings_after first past) used seen p ≡ p.fresh
+starts_where_fresh : (first : ArbitrationFields) (past : History) (seen : List Seen) (p : Pick) (used : Used) → IsObservation seen → IsLimitedPick Weighted first past seen p → Agrees used past → starts_round (settings_after first past) used seen p ≡ p.fresh
 starts_where_fresh first past seen p used o h a =
     starts_by (settings_after first past) used past seen p o a
-    (round_over (settings_after first past) (λ c. last_served_of c past) (λ l. used_in_round l past) seen p h)
-    (weighted_some (settings_after first past) (λ c. last_served_of c past) (λ l. used_in_round l past) seen p h)
+    (limited_over first past seen p h) (limited_choice first past seen p h)
 
-rounds_agree : (first : ArbitrationFields) (past : History) → IsLawfulRun Weighted first past → Agrees (round_used first past) past
+rounds_agree : (first : ArbitrationFields) (past : History) → IsLimitedRun Weighted first past → Agrees (round_used first past) past
 unfolding Agrees
 rounds_agree first [] r Admin l = absurd l
 rounds_agree first [] r Urgent l = absurd l
@@ -203,7 +204,7 @@ rounds_agree first (Picked seen pick ∷ past) r level l =
     ap (λ b. used_of (used_with (used_before b used) (class_in seen pick.qid) pick.n) level) starts ∙
     used_step used (class_in seen pick.qid) level pick.n pick.fresh (used_in_round level past) l (before level l)
 
-within_credit : (m : Mechanism) (first : ArbitrationFields) (past : History) (seen : List Seen) (p : Pick) → IsLawfulRun m first (Picked seen p ∷ past) → IsWithinCredit m first past seen p
+within_credit : (m : Mechanism) (first : ArbitrationFields) (past : History) (seen : List Seen) (p : Pick) → IsLimitedRun m first (Picked seen p ∷ past) → IsWithinCredit m first past seen p
 unfolding Agrees
 within_credit RoundRobin first past seen p r = tt
 within_credit Weighted first past seen p r = λ level l.
@@ -224,17 +225,15 @@ never_itself class q (Picked seen pick ∷ past) =
     ]
 
 -- a lawful pick is nearer to each other ready queue than the one before
-robin_nearer : (first : ArbitrationFields) (past : History) (seen : List Seen) (p : Pick) (other : ℕ) → IsObservation seen → IsLawfulPick RoundRobin first past seen p → list_any (λ s. s.qid == other) (ready_in None seen) ≡ true → p.qid ≢ other → dist 0 (Some p.qid) other < dist 0 (last_served past) other
+robin_nearer : (first : ArbitrationFields) (past : History) (seen : List Seen) (p : Pick) (other : ℕ) → IsObservation seen → IsLimitedPick RoundRobin first past seen p → list_any (λ s. s.qid == other) (ready_in None seen) ≡ true → p.qid ≢ other → dist 0 (Some p.qid) other < dist 0 (last_served past) other
 robin_nearer first past seen p other o h w n =
-    let s : ArbitrationFields = settings_after first past in
-    let number : Seen → ℕ = λ v. cond (v.qid == 0) 1 (within_burst (burst_of s) v.count) in
-    let t = take_from_some false number (next (last_served past) (ready seen)) p h in
+    let t = limited_from first past seen p h in
     let apart : t.0.qid ≢ other = λ e. n (t.2.qid ∙ e) in
     let step : dist 0 (Some t.0.qid) other < dist 0 (last_served past) other =
     nearer 0 (last_served past) (ready seen) t.0 other (All-filter (λ v. nat_lt 0 v.count) (IsBetween 0) seen (between_all seen o)) t.1 w apart in
     subst (λ i. dist 0 (Some i) other < dist 0 (last_served past) other) (sym t.2.qid) step
 
-class_nearer : (first : ArbitrationFields) (past : History) (class : Class) (seen : List Seen) (p : Pick) (other : ℕ) → IsObservation seen → IsLawfulPick Weighted first past seen p → is_in_class class (class_in seen p.qid) ≡ true → list_any (λ s. s.qid == other) (ready_in (Some class) seen) ≡ true → p.qid ≢ other → dist 0 (Some p.qid) other < dist 0 (last_served_of class past) other
+class_nearer : (first : ArbitrationFields) (past : History) (class : Class) (seen : List Seen) (p : Pick) (other : ℕ) → IsObservation seen → IsLimitedPick Weighted first past seen p → is_in_class class (class_in seen p.qid) ≡ true → list_any (λ s. s.qid == other) (ready_in (Some class) seen) ≡ true → p.qid ≢ other → dist 0 (Some p.qid) other < dist 0 (last_served_of class past) other
 class_nearer first past class seen p other o h y w n =
     let t : Turn = record { seen = seen; pick = p } in
     let f = next_lawful first past class t o h y in
@@ -244,7 +243,7 @@ class_nearer first past class seen p other o h y w n =
     subst (λ i. dist 0 (Some i) other < dist 0 (last_served_of class past) other) (sym f.qid) step
 
 -- a queue that has waited since the latest pick of another is at most as far from the one that was served last
-robin_waits : (first : ArbitrationFields) (past : History) (q other : ℕ) → IsLawfulRun RoundRobin first past → has_waited None q other past ≡ true → dist 0 (last_served past) other ≤ dist 0 (Some q) other
+robin_waits : (first : ArbitrationFields) (past : History) (q other : ℕ) → IsLimitedRun RoundRobin first past → has_waited None q other past ≡ true → dist 0 (last_served past) other ≤ dist 0 (Some q) other
 robin_waits first [] q other r h = absurd (true≢false (sym h))
 robin_waits first (Changed settings ∷ past) q other r h = robin_waits first past q other r h
 robin_waits first (Picked seen pick ∷ past) q other r h =
@@ -256,7 +255,7 @@ robin_waits first (Picked seen pick ∷ past) q other r h =
           let step = robin_nearer first past seen pick other r.0 r.1 a.0 (eqb-false pick.qid other (not-true (pick.qid == other) b.0)) in omega arith)
     ]
 
-class_waits : (first : ArbitrationFields) (past : History) (class : Class) (q other : ℕ) → IsLawfulRun Weighted first past → has_waited (Some class) q other past ≡ true → dist 0 (last_served_of class past) other ≤ dist 0 (Some q) other
+class_waits : (first : ArbitrationFields) (past : History) (class : Class) (q other : ℕ) → IsLimitedRun Weighted first past → has_waited (Some class) q other past ≡ true → dist 0 (last_served_of class past) other ≤ dist 0 (Some q) other
 class_waits first [] class q other r h = absurd (true≢false (sym h))
 class_waits first (Changed settings ∷ past) class q other r h = class_waits first past class q other r h
 class_waits first (Picked seen pick ∷ past) class q other r h =
@@ -286,7 +285,7 @@ itself_in xs = λ k d h. list_any_at (λ t. t.qid == (slice_index_or xs k d).qid
 is_other : (class : Option Class) (q other : ℕ) (past : History) → has_waited class q other past ≡ true → q ≢ other
 is_other class q other past w e = true≢false (sym w ∙ (ap (λ i. has_waited class q i past) (sym e) ∙ never_itself class q past))
 
-robin_in_turn : (first : ArbitrationFields) (past : History) (seen : List Seen) (p : Pick) → IsLawfulRun RoundRobin first (Picked seen p ∷ past) → NoneHasWaited None past seen p
+robin_in_turn : (first : ArbitrationFields) (past : History) (seen : List Seen) (p : Pick) → IsLimitedRun RoundRobin first (Picked seen p ∷ past) → NoneHasWaited None past seen p
 robin_in_turn first past seen p r = λ k d h.
     let s : Seen = slice_index_or (ready_in None seen) k d in
     elim (cases_Bool (has_waited None p.qid s.qid past)) [
@@ -297,7 +296,7 @@ robin_in_turn first past seen p r = λ k d h.
       | inr f ↦ f
     ]
 
-class_in_turn : (first : ArbitrationFields) (past : History) (class : Class) (seen : List Seen) (p : Pick) → class_in seen p.qid ≡ Some class → IsLawfulRun Weighted first (Picked seen p ∷ past) → NoneHasWaited (Some class) past seen p
+class_in_turn : (first : ArbitrationFields) (past : History) (class : Class) (seen : List Seen) (p : Pick) → class_in seen p.qid ≡ Some class → IsLimitedRun Weighted first (Picked seen p ∷ past) → NoneHasWaited (Some class) past seen p
 class_in_turn first past class seen p e r = λ k d h.
     let s : Seen = slice_index_or (ready_in (Some class) seen) k d in
     let y : is_in_class class (class_in seen p.qid) ≡ true = ap (is_in_class class) e ∙ class_itself class in
@@ -313,19 +312,22 @@ if_class : (P : Class → Type 0) (o : Option Class) → ((c : Class) → o ≡ 
 if_class P None h = tt
 if_class P (Some c) h = h c refl
 
-in_turn : (m : Mechanism) (first : ArbitrationFields) (past : History) (seen : List Seen) (p : Pick) → IsLawfulRun m first (Picked seen p ∷ past) → IsInTurn m past seen p
+in_turn : (m : Mechanism) (first : ArbitrationFields) (past : History) (seen : List Seen) (p : Pick) → IsLimitedRun m first (Picked seen p ∷ past) → IsInTurn m past seen p
 in_turn RoundRobin first past seen p r = robin_in_turn first past seen p r
 in_turn Weighted first past seen p r = if_class (λ c. NoneHasWaited (Some c) past seen p) (class_in seen p.qid) (λ c e. class_in_turn first past c seen p e r)
 
 -- ---- all of these
-each_rule : (m : Mechanism) (first : ArbitrationFields) (past : History) (seen : List Seen) (p : Pick) → IsLawfulRun m first (Picked seen p ∷ past) → IsSpecifiedPick m first past seen p
+each_rule : (m : Mechanism) (first : ArbitrationFields) (past : History) (seen : List Seen) (p : Pick) → IsLimitedRun m first (Picked seen p ∷ past) → IsSpecifiedPick m first past seen p
 each_rule m first past seen p r rule.Candidates = takes_candidates m first past seen p r.0 r.1
 each_rule m first past seen p r rule.Burst = within_the_burst m first past seen p r.0 r.1
 each_rule m first past seen p r rule.Priority = of_highest_priority m first past seen p r.0 r.1
 each_rule m first past seen p r rule.Credit = within_credit m first past seen p r
 each_rule m first past seen p r rule.Turn = in_turn m first past seen p r
 
+pub limited_specified : LimitedRunsAreSpecified
+limited_specified m first [] r = tt
+limited_specified m first (Changed settings ∷ past) r = limited_specified m first past r
+limited_specified m first (Picked seen pick ∷ past) r = (r.0, each_rule m first past seen pick r, limited_specified m first past r.2)
+
 pub lawful_specified : LawfulRunsAreSpecified
-lawful_specified m first [] r = tt
-lawful_specified m first (Changed settings ∷ past) r = lawful_specified m first past r
-lawful_specified m first (Picked seen pick ∷ past) r = (r.0, each_rule m first past seen pick r, lawful_specified m first past r.2)
+lawful_specified m first past r = limited_specified m first past (lawful_is_limited m first past r)

@@ -1,6 +1,6 @@
 -- What an arbiter keeps says what its history says.
 use Rattle.std.proofs.Common.{◌≡◌, ℕ, ◌+◌, ◌<◌, ◌≤◌, min, Bool, true, false, List, [], ◌∷◌, refl, sym, ap, subst, ◌∙◌, arith}
-use Rattle.std.specs.Prelude.{Option, Some, None, IsNone, ◌↔◌, if◌then◌else◌}
+use Rattle.std.specs.Prelude.{Option, Some, None, IsNone, IsSomeAnd, ◌↔◌, if◌then◌else◌}
 use Rattle.nvme_arbiter.specs.Settings.{ArbitrationFields, burst_of, weight_of, IsLevel}
 use Rattle.nvme_arbiter.specs.declared.pick.Seen.{Seen}
 use Rattle.nvme_arbiter.specs.declared.pick.Pick.{Pick}
@@ -12,9 +12,9 @@ use Rattle.nvme_arbiter.specs.declared.settings.Class.TheVariants.{Admin, Urgent
 use Rattle.nvme_arbiter.specs.declared.settings.Mechanism.{Mechanism}
 use Rattle.nvme_arbiter.specs.declared.settings.Mechanism.TheVariants.{RoundRobin, Weighted}
 use Rattle.nvme_arbiter.specs.Observation.{is_class, IsObservation, IsIdle, class_in}
-use Rattle.nvme_arbiter.specs.History.{Picked, Changed, History, settings_after, last_served_of, is_in_class, used_in_round}
+use Rattle.nvme_arbiter.specs.History.{Picked, History, settings_after, last_served_of, is_in_class, used_in_round}
 use Rattle.nvme_arbiter.specs.Rules.{within_burst, credit, round_robin_pick, weighted_pick}
-use Rattle.nvme_arbiter.specs.Lawful.{lawful_pick}
+use Rattle.nvme_arbiter.specs.Lawful.{lawful_pick, IsCutOf}
 use Rattle.nvme_arbiter.specs.Standing.{last_of, used_of, StandsAt, pick_by, pick_of, last_with, used_with, nothing_used, used_before, kept_after, StaysWithin, IsWithinWeight, first_kept}
 use Rattle.nvme_arbiter.proofs.ClassLemmas.{of_class_after, of_class_same}
 use Rattle.nvme_arbiter.proofs.Choices.{Choice, of_admin, of_urgent, of_level, weighted_some, class_of_next, weighted_idle, round_robin_idle, IsFrom}
@@ -124,12 +124,29 @@ within_by k seen p o (of_admin f) = rw (from_in (last_of k.last) seen Admin fals
 within_by k seen p o (of_urgent f) = rw (from_in (last_of k.last) seen Urgent false (λ q. within_burst (burst_of k.settings) q.count) p o f) (λ l. absurd l)
 within_by k seen p o (of_level fresh level f) =
     let number : Seen → ℕ = λ q. min (within_burst (burst_of k.settings) q.count) (credit k.settings (used_of k.used) fresh level) in
-    let few : p.n ≤ credit k.settings (used_of k.used) fresh level = rw f.from.taken_is.n (omega arith) in
+    let taken : p.n ≤ number f.from.queue = f.from.taken_is.few in
+    let few : p.n ≤ credit k.settings (used_of k.used) fresh level = omega arith in
     rw (from_in (last_of k.last) seen level fresh number p o f.from) (subst (λ b. StaysWithin k.settings (used_before b k.used) (Some level) p.n) (sym f.from.taken_is.fresh_is) (λ l. level_within k.settings k.used level fresh p.n f.has_credit few))
 
-within_for : (m : Mechanism) (k : Kept) (seen : List Seen) (p : Pick) → IsObservation seen → pick_by m k seen ≡ Some p → IsWithinWeight m k (class_in seen p.qid) p
-within_for RoundRobin k seen p o h = tt
-within_for Weighted k seen p o h = within_by k seen p o (weighted_some k.settings (last_of k.last) (used_of k.used) seen p h)
+-- what is used stays within for fewer commands too
+fewer_within : (s : ArbitrationFields) (used : Used) (class : Option Class) (n m : ℕ) → m ≤ n → StaysWithin s used class n → StaysWithin s used class m
+fewer_within s used None n m h w = tt
+fewer_within s used (Some class) n m h w = λ l. let x : used_of used class + n ≤ weight_of s class = w l in omega arith
 
-pub within : (k : Kept) (seen : List Seen) (p : Pick) → IsObservation seen → pick_of k seen ≡ Some p → IsWithinWeight k.mechanism k (class_in seen p.qid) p
-within k seen p o h = within_for k.mechanism k seen p o h
+within_for : (m : Mechanism) (k : Kept) (seen : List Seen) (w p : Pick) → IsObservation seen → pick_by m k seen ≡ Some w → IsCutOf w p → IsWithinWeight m k (class_in seen p.qid) p
+within_for RoundRobin k seen w p o h c = tt
+within_for Weighted k seen w p o h c =
+    let whole : StaysWithin k.settings (used_before w.fresh k.used) (class_in seen w.qid) w.n = within_by k seen w o (weighted_some k.settings (last_of k.last) (used_of k.used) seen w h) in
+    fewer_within k.settings (used_before p.fresh k.used) (class_in seen p.qid) w.n p.n c.few
+    (subst (λ q. StaysWithin k.settings (used_before p.fresh k.used) (class_in seen q) w.n) (sym c.qid)
+    (subst (λ b. StaysWithin k.settings (used_before b k.used) (class_in seen w.qid) w.n) (sym c.fresh) whole))
+
+pub within : (k : Kept) (seen : List Seen) (w p : Pick) → IsObservation seen → pick_of k seen ≡ Some w → IsCutOf w p → IsWithinWeight k.mechanism k (class_in seen p.qid) p
+within k seen w p o h c = within_for k.mechanism k seen w p o h c
+
+within_some : (k : Kept) (seen : List Seen) (o : Option Pick) (p : Pick) → IsObservation seen → pick_of k seen ≡ o → IsSomeAnd o (λ w. IsCutOf w p) → IsWithinWeight k.mechanism k (class_in seen p.qid) p
+within_some k seen None p o e c = absurd c
+within_some k seen (Some w) p o e c = within k seen w p o e c
+
+pub cut_within : (k : Kept) (seen : List Seen) (p : Pick) → IsObservation seen → IsSomeAnd (pick_of k seen) (λ w. IsCutOf w p) → IsWithinWeight k.mechanism k (class_in seen p.qid) p
+cut_within k seen p o c = within_some k seen (pick_of k seen) p o refl c

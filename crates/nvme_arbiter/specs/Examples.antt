@@ -2,10 +2,11 @@
 use Rattle.std.specs.Prelude.{◌≡◌, ℕ, ◌-◌, ◌==◌, true, false, if◌then◌else◌, List, [], ◌∷◌, map, Option, Some, None}
 use Rattle.nvme_arbiter.specs.Settings.{ArbitrationFields, settings_of}
 use Rattle.nvme_arbiter.specs.History.{Picked, Changed, History}
-use Rattle.nvme_arbiter.specs.Lawful.{lawful_pick, IsLawfulRun}
+use Rattle.nvme_arbiter.specs.Lawful.{lawful_pick, limited_pick, IsLawfulRun}
 use Rattle.nvme_arbiter.specs.declared.settings.Class.{Class}
 use Rattle.nvme_arbiter.specs.declared.settings.Class.TheVariants.{Admin, Urgent, High, Medium, Low}
 use Rattle.nvme_arbiter.specs.declared.settings.Mechanism.{Mechanism}
+use Rattle.nvme_arbiter.specs.declared.settings.Mechanism.TheVariants.{Weighted}
 use Rattle.nvme_arbiter.specs.declared.pick.Seen.{Seen}
 use Rattle.nvme_arbiter.specs.declared.pick.Pick.{Pick}
 use Rattle.nvme_arbiter.specs.declared.pick.OpenQueue.{OpenQueue}
@@ -64,6 +65,10 @@ two_rounds_picks = q 1 2 ∷ q 2 2 ∷ q 3 2 ∷ q 4 1 ∷ fresh 1 2 ∷ q 2 2 �
 -- its fifth pick is not told to be fresh
 abbrev pub two_rounds_not_fresh : List Pick
 two_rounds_not_fresh = q 1 2 ∷ q 2 2 ∷ q 3 2 ∷ q 4 1 ∷ q 1 2 ∷ []
+
+-- what is picked next with a limit, after these picks of the two rounds
+abbrev pub next_up_to : ℕ → List Pick → Option Pick
+next_up_to limit picks = limited_pick limit Weighted (settings_of 0x0301_0001) (played [] two_rounds picks) (left two_rounds picks)
 
 -- an urgent queue comes after two picks
 abbrev pub before_urgent : History

@@ -6,7 +6,7 @@ use Rattle.nvme_arbiter.specs.Settings.{ArbitrationFields, burst_of, weight_of, 
 use Rattle.nvme_arbiter.specs.Observation.{IsObservation, class_in, is_wanted}
 use Rattle.nvme_arbiter.specs.History.{Picked, Changed, History, settings_after, is_in_class}
 use Rattle.nvme_arbiter.specs.Standing.{used_of, used_with, used_before, nothing_used}
-use Rattle.nvme_arbiter.specs.Lawful.{IsLawfulRun}
+use Rattle.nvme_arbiter.specs.Lawful.{IsLawfulRun, IsLimitedRun}
 use Rattle.nvme_arbiter.specs.declared.settings.Class.{Class}
 use Rattle.nvme_arbiter.specs.declared.settings.Class.TheVariants.{Admin, Urgent, High, Medium, Low}
 use Rattle.nvme_arbiter.specs.declared.settings.Mechanism.{Mechanism}
@@ -130,3 +130,7 @@ IsSpecifiedRun mechanism first (Picked seen pick ∷ past) = IsObservation seen 
 -- what is lawful by the profile is allowed by the specification
 abbrev pub LawfulRunsAreSpecified : Type 0
 LawfulRunsAreSpecified = (mechanism : Mechanism) (first : ArbitrationFields) (past : History) → IsLawfulRun mechanism first past → IsSpecifiedRun mechanism first past
+
+-- so is what is lawful with limits
+abbrev pub LimitedRunsAreSpecified : Type 0
+LimitedRunsAreSpecified = (mechanism : Mechanism) (first : ArbitrationFields) (past : History) → IsLimitedRun mechanism first past → IsSpecifiedRun mechanism first past

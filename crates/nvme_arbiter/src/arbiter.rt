@@ -22,11 +22,11 @@ impl Model for Arbiter {
 }
 
 impl Arbiter {
-    ghost use Rattle.std.specs.Prelude.{◌≡◌, ◌↔◌, [], ◌∷◌, List, Option, Some, IsNone, IfSome, MatchOption};
+    ghost use Rattle.std.specs.Prelude.{◌≡◌, ◌↔◌, ◌≤◌, [], ◌∷◌, List, Option, Some, IsNone, IsSomeAnd, IfSome, MatchOption, option_map};
     ghost use Rattle.nvme_arbiter.specs.Settings.{ArbitrationFields};
     ghost use Rattle.nvme_arbiter.specs.Observation.{IsObservation, IsIdle, class_in};
     ghost use Rattle.nvme_arbiter.specs.History.{History, Picked, Changed};
-    ghost use Rattle.nvme_arbiter.specs.Lawful.{lawful_pick};
+    ghost use Rattle.nvme_arbiter.specs.Lawful.{lawful_pick, limited_pick, cut, IsCutOf};
     ghost use Rattle.nvme_arbiter.specs.Standing.{StandsAt, pick_of, first_kept, kept_after, nothing_used};
     ghost use Rattle.nvme_arbiter.specs.declared.settings.Mechanism.{Mechanism};
 
@@ -82,10 +82,24 @@ impl Arbiter {
         Some(pick)
     }
 
-    /// Keeps the pick that `peek` answers.
+    /// The lawful pick as `pick` makes it, but of at most so many commands: the burst is the most that may be taken.
+    /// (Base Specification, Command Arbitration)
+    pub fn pick_up_to(&mut self, seen: &[Seen], limit: u16) -> Option<Pick>
+        requires observed { IsObservation seen.now }
+        requires some { 1 ≤ limit }
+        ensures by_what_is_kept { result ≡ option_map (cut limit) (pick_of self.old seen.now) }
+        ensures lawful { (mechanism : Mechanism) (first : ArbitrationFields) (past : History) → StandsAt mechanism first past self.old → result ≡ limited_pick limit mechanism first past seen.now }
+        ensures none_where_idle { IsNone result ↔ IsIdle seen.now }
+        ensures stands { (mechanism : Mechanism) (first : ArbitrationFields) (past : History) → StandsAt mechanism first past self.old → MatchOption result (self.new ≡ self.old) (λ pick. StandsAt mechanism first (Picked seen.now pick ∷ past) self.new) }
+        ensures kept { MatchOption result (self.new ≡ self.old) (λ pick. self.new ≡ kept_after self.old.mechanism self.old (class_in seen.now pick.qid) pick) }
+    {
+        self.kept.pick_up_to(&seen, limit)
+    }
+
+    /// Keeps the pick that `peek` answers, or one of fewer of its commands.
     pub fn keep(&mut self, seen: &[Seen], pick: Pick)
         requires observed { IsObservation seen.now }
-        requires peeked { pick_of self.old seen.now ≡ Some pick }
+        requires peeked { IsSomeAnd (pick_of self.old seen.now) (λ whole. IsCutOf whole pick) }
         ensures stands { (mechanism : Mechanism) (first : ArbitrationFields) (past : History) → StandsAt mechanism first past self.old → StandsAt mechanism first (Picked seen.now pick ∷ past) self.new }
         ensures kept { self.new ≡ kept_after self.old.mechanism self.old (class_in seen.now pick.qid) pick }
     {

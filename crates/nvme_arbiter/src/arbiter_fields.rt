@@ -218,11 +218,11 @@ impl UsedFields {
 }
 
 impl ArbiterFields {
-    ghost use Rattle.std.specs.Prelude.{◌≡◌, ◌↔◌, [], ◌∷◌, Some, IsTrue, IsNone};
+    ghost use Rattle.std.specs.Prelude.{◌≡◌, ◌↔◌, ◌≤◌, [], ◌∷◌, Some, IsTrue, IsNone, IsSomeAnd, MatchOption, option_map};
     ghost use Rattle.nvme_arbiter.specs.Settings.{ArbitrationFields};
     ghost use Rattle.nvme_arbiter.specs.Observation.{IsObservation, IsIdle, class_in};
     ghost use Rattle.nvme_arbiter.specs.History.{History, Picked, Changed};
-    ghost use Rattle.nvme_arbiter.specs.Lawful.{lawful_pick};
+    ghost use Rattle.nvme_arbiter.specs.Lawful.{lawful_pick, limited_pick, cut, IsCutOf};
     ghost use Rattle.nvme_arbiter.specs.Standing.{StandsAt, pick_of, first_kept, kept_after, nothing_used, IsWithinWeight};
     ghost use Rattle.nvme_arbiter.specs.Layout.{is_arbiter, kept_of};
     ghost use Rattle.nvme_arbiter.specs.declared.settings.Mechanism.{Mechanism};
@@ -280,11 +280,29 @@ impl ArbiterFields {
         self.kept().peek(queues)
     }
 
-    /// Keeps the pick that `peek` answers.
+    /// The lawful pick of these queues, of at most so many commands, which is kept. `None` exactly where no command waits;
+    /// it changes nothing.
+    pub fn pick_up_to<Q: ReadyQueues>(&mut self, queues: &Q, limit: u16) -> Option<Pick>
+        requires observed { IsObservation (Q.seen queues.now) }
+        requires is_arbiter { IsTrue (is_arbiter self.old) }
+        requires some { 1 ≤ limit }
+        ensures by_what_is_kept { result ≡ option_map (cut limit) (pick_of (kept_of self.old) (Q.seen queues.now)) }
+        ensures lawful { (mechanism : Mechanism) (first : ArbitrationFields) (past : History) → StandsAt mechanism first past (kept_of self.old) → result ≡ limited_pick limit mechanism first past (Q.seen queues.now) }
+        ensures none_where_idle { IsNone result ↔ IsIdle (Q.seen queues.now) }
+        ensures stands { (mechanism : Mechanism) (first : ArbitrationFields) (past : History) → StandsAt mechanism first past (kept_of self.old) → MatchOption result (self.new ≡ self.old) (λ pick. StandsAt mechanism first (Picked (Q.seen queues.now) pick ∷ past) (kept_of self.new)) }
+        ensures kept { MatchOption result (self.new ≡ self.old) (λ pick. kept_of self.new ≡ kept_after (kept_of self.old).mechanism (kept_of self.old) (class_in (Q.seen queues.now) pick.qid) pick) }
+        ensures is_arbiter { IsTrue (is_arbiter self.new) }
+    {
+        let pick = self.peek(queues)?.up_to(limit);
+        self.keep(queues, pick);
+        Some(pick)
+    }
+
+    /// Keeps the pick that `peek` answers, or one of fewer of its commands.
     pub fn keep<Q: ReadyQueues>(&mut self, queues: &Q, pick: Pick)
         requires observed { IsObservation (Q.seen queues.now) }
         requires is_arbiter { IsTrue (is_arbiter self.old) }
-        requires peeked { pick_of (kept_of self.old) (Q.seen queues.now) ≡ Some pick }
+        requires peeked { IsSomeAnd (pick_of (kept_of self.old) (Q.seen queues.now)) (λ whole. IsCutOf whole pick) }
         ensures stands { (mechanism : Mechanism) (first : ArbitrationFields) (past : History) → StandsAt mechanism first past (kept_of self.old) → StandsAt mechanism first (Picked (Q.seen queues.now) pick ∷ past) (kept_of self.new) }
         ensures kept { kept_of self.new ≡ kept_after (kept_of self.old).mechanism (kept_of self.old) (class_in (Q.seen queues.now) pick.qid) pick }
         ensures is_arbiter { IsTrue (is_arbiter self.new) }

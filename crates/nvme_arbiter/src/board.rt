@@ -26,12 +26,12 @@ impl Model for Board {
 }
 
 impl Board {
-    ghost use Rattle.std.specs.Prelude.{◌≡◌, ◌↔◌, ◌+◌, ◌-◌, ◌<◌, ◌≤◌, [], ◌∷◌, List, Option, Some, None, IsSome, IsNone, IsSomeAnd, IfSome, MatchOption, replicate, slice_set};
+    ghost use Rattle.std.specs.Prelude.{◌≡◌, ◌↔◌, ◌+◌, ◌-◌, ◌<◌, ◌≤◌, [], ◌∷◌, List, Option, Some, None, IsSome, IsNone, IsSomeAnd, IfSome, MatchOption, option_map, replicate, slice_set};
     ghost use Rattle.nvme_arbiter.specs.Limits.{highest_qid, highest_count, queue_limit};
     ghost use Rattle.nvme_arbiter.specs.Settings.{ArbitrationFields};
     ghost use Rattle.nvme_arbiter.specs.Observation.{IsObservation, IsIdle, class_in};
     ghost use Rattle.nvme_arbiter.specs.History.{History, Picked, Changed};
-    ghost use Rattle.nvme_arbiter.specs.Lawful.{lawful_pick};
+    ghost use Rattle.nvme_arbiter.specs.Lawful.{lawful_pick, limited_pick, cut, IsCutOf};
     ghost use Rattle.nvme_arbiter.specs.Standing.{pick_of, first_kept, kept_after, nothing_used};
     ghost use Rattle.nvme_arbiter.specs.Queues.{seen_of, queue_at, FitsUnder};
     ghost use Rattle.nvme_arbiter.specs.Board.{IsBoard, BoardStandsAt, queues_after};
@@ -148,9 +148,26 @@ impl Board {
         Some(pick)
     }
 
-    /// Keeps the pick that `peek` answers. As many commands of its queue wait no longer.
+    /// The lawful pick as `pick` makes it, but of at most so many commands: the burst is the most that may be taken.
+    /// (Base Specification, Command Arbitration)
+    pub fn pick_up_to(&mut self, limit: u16) -> Option<Pick>
+        requires some { 1 ≤ limit }
+        ensures by_what_is_kept { result ≡ option_map (cut limit) (pick_of self.old.kept (seen_of self.old.queues)) }
+        ensures lawful { (mechanism : Mechanism) (first : ArbitrationFields) (past : History) → BoardStandsAt mechanism first past self.old → result ≡ limited_pick limit mechanism first past (seen_of self.old.queues) }
+        ensures none_where_idle { IsNone result ↔ IsIdle (seen_of self.old.queues) }
+        ensures stands { (mechanism : Mechanism) (first : ArbitrationFields) (past : History) → BoardStandsAt mechanism first past self.old → MatchOption result (self.new ≡ self.old) (λ pick. BoardStandsAt mechanism first (Picked (seen_of self.old.queues) pick ∷ past) self.new) }
+        ensures queues { MatchOption result (self.new ≡ self.old) (λ pick. self.new.queues ≡ queues_after self.old.queues pick) }
+        ensures kept { MatchOption result (self.new.kept ≡ self.old.kept) (λ pick. self.new.kept ≡ kept_after self.old.kept.mechanism self.old.kept (class_in (seen_of self.old.queues) pick.qid) pick) }
+        ensures is_board { IsBoard self.new }
+    {
+        let pick = self.peek()?.up_to(limit);
+        self.keep(pick);
+        Some(pick)
+    }
+
+    /// Keeps the pick that `peek` answers, or one of fewer of its commands. As many commands of its queue wait no longer.
     pub fn keep(&mut self, pick: Pick)
-        requires { pick_of self.old.kept (seen_of self.old.queues) ≡ Some pick }
+        requires { IsSomeAnd (pick_of self.old.kept (seen_of self.old.queues)) (λ whole. IsCutOf whole pick) }
         ensures stands { (mechanism : Mechanism) (first : ArbitrationFields) (past : History) → BoardStandsAt mechanism first past self.old → BoardStandsAt mechanism first (Picked (seen_of self.old.queues) pick ∷ past) self.new }
         ensures queues { self.new.queues ≡ queues_after self.old.queues pick }
         ensures kept { self.new.kept ≡ kept_after self.old.kept.mechanism self.old.kept (class_in (seen_of self.old.queues) pick.qid) pick }

@@ -17,12 +17,12 @@ pub struct BoardFields {
 }
 
 impl BoardFields {
-    ghost use Rattle.std.specs.Prelude.{◌≡◌, ◌↔◌, ◌+◌, ◌-◌, ◌<◌, ◌≤◌, [], ◌∷◌, List, Option, Some, None, IsTrue, IsSome, IsNone, IsSomeAnd, IfSome, MatchOption, replicate, slice_set};
+    ghost use Rattle.std.specs.Prelude.{◌≡◌, ◌↔◌, ◌+◌, ◌-◌, ◌<◌, ◌≤◌, [], ◌∷◌, List, Option, Some, None, IsTrue, IsSome, IsNone, IsSomeAnd, IfSome, MatchOption, replicate, slice_set, option_map};
     ghost use Rattle.nvme_arbiter.specs.Limits.{highest_qid, highest_count, queue_limit};
     ghost use Rattle.nvme_arbiter.specs.Settings.{ArbitrationFields};
     ghost use Rattle.nvme_arbiter.specs.Observation.{IsObservation, IsIdle, IsSeen, class_in};
     ghost use Rattle.nvme_arbiter.specs.History.{History, Picked, Changed};
-    ghost use Rattle.nvme_arbiter.specs.Lawful.{lawful_pick};
+    ghost use Rattle.nvme_arbiter.specs.Lawful.{lawful_pick, limited_pick, cut, IsCutOf};
     ghost use Rattle.nvme_arbiter.specs.Standing.{pick_of, first_kept, kept_after, nothing_used};
     ghost use Rattle.nvme_arbiter.specs.Queues.{seen_of, seen_as, queue_at, FitsUnder};
     ghost use Rattle.nvme_arbiter.specs.Board.{IsBoard, BoardStandsAt, queues_after};
@@ -144,10 +144,10 @@ impl BoardFields {
         self.arbiter.peek(&self.queues)
     }
 
-    /// Keeps the pick that `peek` answers. As many commands of its queue wait no longer.
+    /// Keeps the pick that `peek` answers, or one of fewer of its commands. As many commands of its queue wait no longer.
     pub fn keep(&mut self, pick: Pick)
         requires is_arbiter { IsTrue (is_arbiter self.old.arbiter) }
-        requires peeked { pick_of (board_of self.old).kept (seen_of (board_of self.old).queues) ≡ Some pick }
+        requires peeked { IsSomeAnd (pick_of (board_of self.old).kept (seen_of (board_of self.old).queues)) (λ whole. IsCutOf whole pick) }
         ensures stands { (mechanism : Mechanism) (first : ArbitrationFields) (past : History) → BoardStandsAt mechanism first past (board_of self.old) → BoardStandsAt mechanism first (Picked (seen_of (board_of self.old).queues) pick ∷ past) (board_of self.new) }
         ensures queues { (board_of self.new).queues ≡ queues_after (board_of self.old).queues pick }
         ensures kept { (board_of self.new).kept ≡ kept_after (board_of self.old).kept.mechanism (board_of self.old).kept (class_in (seen_of (board_of self.old).queues) pick.qid) pick }
@@ -173,6 +173,24 @@ impl BoardFields {
         ensures is_arbiter { IsTrue (is_arbiter self.new.arbiter) }
     {
         let pick = self.peek()?;
+        self.keep(pick);
+        Some(pick)
+    }
+
+    /// The lawful pick for `seen()`, of at most so many commands. `None` exactly where no command waits; it changes nothing.
+    pub fn pick_up_to(&mut self, limit: u16) -> Option<Pick>
+        requires is_arbiter { IsTrue (is_arbiter self.old.arbiter) }
+        requires some { 1 ≤ limit }
+        ensures by_what_is_kept { result ≡ option_map (cut limit) (pick_of (board_of self.old).kept (seen_of (board_of self.old).queues)) }
+        ensures lawful { (mechanism : Mechanism) (first : ArbitrationFields) (past : History) → BoardStandsAt mechanism first past (board_of self.old) → result ≡ limited_pick limit mechanism first past (seen_of (board_of self.old).queues) }
+        ensures none_where_idle { IsNone result ↔ IsIdle (seen_of (board_of self.old).queues) }
+        ensures stands { (mechanism : Mechanism) (first : ArbitrationFields) (past : History) → BoardStandsAt mechanism first past (board_of self.old) → MatchOption result (self.new ≡ self.old) (λ pick. BoardStandsAt mechanism first (Picked (seen_of (board_of self.old).queues) pick ∷ past) (board_of self.new)) }
+        ensures queues { MatchOption result (self.new ≡ self.old) (λ pick. (board_of self.new).queues ≡ queues_after (board_of self.old).queues pick) }
+        ensures kept { MatchOption result (self.new ≡ self.old) (λ pick. (board_of self.new).kept ≡ kept_after (board_of self.old).kept.mechanism (board_of self.old).kept (class_in (seen_of (board_of self.old).queues) pick.qid) pick) }
+        ensures is_board { IsBoard (board_of self.new) }
+        ensures is_arbiter { IsTrue (is_arbiter self.new.arbiter) }
+    {
+        let pick = self.peek()?.up_to(limit);
         self.keep(pick);
         Some(pick)
     }

@@ -6,9 +6,9 @@ ghost use Rattle.nvme_arbiter.specs.Observation.{IsObservation};
 ghost use Rattle.nvme_arbiter.specs.Next.{next};
 ghost use Rattle.nvme_arbiter.specs.Queues.{seen_of, queue_at};
 ghost use Rattle.nvme_arbiter.specs.Board.{queues_after};
-ghost use Rattle.nvme_arbiter.specs.Laws.{OneLawfulPick, LawfulPicksAreMeasured, FreshWhereDue, PrefixesAreLawful, UsedIsWithinWeight, NoneWhereIdle};
-ghost use Rattle.nvme_arbiter.specs.Lawful.{IsLawfulRun};
-ghost use Rattle.nvme_arbiter.specs.Examples.{EndsWith, played, q, fresh, four_queues, four_queues_picks, four_queues_restarted, full_queue, two_rounds, two_rounds_picks, two_rounds_not_fresh, before_urgent, with_urgent, with_urgent_picks, urgent_behind_a_level, before_change, after_change, after_change_picks, credit_outlives_change, four_queues_before_change, four_queues_after_change, four_queues_after_change_picks, last_served_forgotten, two_admin, two_admin_at_once, queue, at_limits, in_no_order, on_board};
+ghost use Rattle.nvme_arbiter.specs.Laws.{OneLawfulPick, LawfulPicksAreMeasured, FreshWhereDue, PrefixesAreLawful, UsedIsWithinWeight, NoneWhereIdle, LimitedPicksAreMeasured, LimitsArePicks, PicksAreOfLimits, LawfulRunsAreLimited, WideLimitsCutNothing, LimitedPrefixes};
+ghost use Rattle.nvme_arbiter.specs.Lawful.{IsLawfulRun, IsLimitedRun};
+ghost use Rattle.nvme_arbiter.specs.Examples.{EndsWith, played, q, fresh, four_queues, four_queues_picks, four_queues_restarted, full_queue, two_rounds, two_rounds_picks, two_rounds_not_fresh, next_up_to, before_urgent, with_urgent, with_urgent_picks, urgent_behind_a_level, before_change, after_change, after_change_picks, credit_outlives_change, four_queues_before_change, four_queues_after_change, four_queues_after_change_picks, last_served_forgotten, two_admin, two_admin_at_once, queue, at_limits, in_no_order, on_board};
 ghost use Rattle.nvme_arbiter.specs.declared.settings.Mechanism.TheVariants.{RoundRobin, Weighted};
 ghost use Rattle.nvme_arbiter.specs.declared.settings.Class.TheVariants.{Admin, Urgent, Low};
 
@@ -48,6 +48,18 @@ pub fn used_is_within_weight()
     ensures { UsedIsWithinWeight }
 {}
 
+/// A pick with a limit of at least 1 takes no more than the limit, and is measured as one without. It is lawful for some
+/// limit, and each such pick is the one with its own number as the limit. A limit of as many commands as may wait in a
+/// queue cuts nothing. A lawful run is one with limits, and the events of one with limits up to any of them are one.
+pub fn limits_are_kept()
+    ensures measured { LimitedPicksAreMeasured }
+    ensures limits { LimitsArePicks }
+    ensures own { PicksAreOfLimits }
+    ensures wide { WideLimitsCutNothing }
+    ensures runs { LawfulRunsAreLimited }
+    ensures prefixes { LimitedPrefixes }
+{}
+
 /// Nothing is picked exactly where every count is 0.
 pub fn nothing_picked_where_idle()
     ensures { NoneWhereIdle }
@@ -70,6 +82,20 @@ pub fn no_burst_limit()
 pub fn weighted_two_rounds()
     ensures lawful { EndsWith Weighted (settings_of 0x0301_0001) [] two_rounds two_rounds_picks }
     ensures other { IsLawfulRun Weighted (settings_of 0x0301_0001) (played [] two_rounds two_rounds_not_fresh) → ⊥ }
+{}
+
+/// The same with limits. A queue whose rest there was no room for waits until its turn comes again. What wasn't taken
+/// stays of the credit, and the next level follows when the credit is used up. A pick of more than the burst, of none and
+/// of another queue is lawful for no limit.
+pub fn weighted_with_limits()
+    ensures one { next_up_to 1 [] ≡ Some (q 1 1) }
+    ensures next { next_up_to 3 (q 1 1 ∷ []) ≡ Some (q 2 2) }
+    ensures rest { next_up_to 256 (q 1 1 ∷ q 2 2 ∷ []) ≡ Some (q 1 1) }
+    ensures over { next_up_to 256 (q 1 1 ∷ q 2 1 ∷ q 1 1 ∷ q 2 1 ∷ []) ≡ Some (q 3 2) }
+    ensures lawful { IsLimitedRun Weighted (settings_of 0x0301_0001) (played [] two_rounds (q 1 1 ∷ q 2 2 ∷ q 1 1 ∷ q 3 1 ∷ [])) }
+    ensures past_burst { IsLimitedRun Weighted (settings_of 0x0301_0001) (played [] two_rounds (q 1 3 ∷ [])) → ⊥ }
+    ensures of_none { IsLimitedRun Weighted (settings_of 0x0301_0001) (played [] two_rounds (q 1 0 ∷ [])) → ⊥ }
+    ensures other { IsLimitedRun Weighted (settings_of 0x0301_0001) (played [] two_rounds (q 2 1 ∷ [])) → ⊥ }
 {}
 
 /// The same, but after two picks an urgent q5 has 3.

@@ -24,6 +24,21 @@ pub struct Pick {
     pub fresh: bool,
 }
 
+impl Pick {
+    ghost use Rattle.std.specs.Prelude.{◌≡◌};
+    ghost use Rattle.nvme_arbiter.specs.Lawful.{cut};
+
+    /// The same pick, of at most so many commands.
+    pub fn up_to(self, limit: u16) -> Pick
+        ensures { result ≡ cut limit self }
+    {
+        Pick {
+            n: self.n.min(limit),
+            ..self
+        }
+    }
+}
+
 /// An open submission queue of a board.
 #[derive(Clone, Copy, Debug, PartialEq, Eq)]
 pub struct OpenQueue {

@@ -5,12 +5,12 @@ use crate::ready::ReadyQueues;
 use crate::settings::{Class, Mechanism};
 
 impl Kept {
-    ghost use Rattle.std.specs.Prelude.{◌≡◌, ◌↔◌, ◌∷◌, Some, IsNone, MatchOption};
+    ghost use Rattle.std.specs.Prelude.{◌≡◌, ◌↔◌, ◌≤◌, ◌∷◌, Some, IsNone, IsSomeAnd, MatchOption, option_map};
     ghost use Rattle.nvme_arbiter.specs.Settings.{ArbitrationFields, IsLevel};
     ghost use Rattle.nvme_arbiter.specs.Observation.{IsObservation, IsIdle, class_in};
     ghost use Rattle.nvme_arbiter.specs.History.{History, Picked};
     ghost use Rattle.nvme_arbiter.specs.Rules.{round_robin_pick, weighted_pick, admin_pick, urgent_pick, level_pick, levels_pick};
-    ghost use Rattle.nvme_arbiter.specs.Lawful.{lawful_pick};
+    ghost use Rattle.nvme_arbiter.specs.Lawful.{lawful_pick, limited_pick, cut, IsCutOf};
     ghost use Rattle.nvme_arbiter.specs.Standing.{StandsAt, pick_of, last_of, used_of, kept_after};
     ghost use Rattle.nvme_arbiter.specs.declared.settings.Mechanism.{Mechanism};
 
@@ -29,10 +29,26 @@ impl Kept {
         Some(pick)
     }
 
-    /// Keeps the pick that `peek` answers.
+    /// The lawful pick, of at most so many commands, which is kept: the burst is the most that may be taken. `None` exactly
+    /// where no command waits; it changes nothing.
+    pub fn pick_up_to<Q: ReadyQueues>(&mut self, queues: &Q, limit: u16) -> Option<Pick>
+        requires observed { IsObservation (Q.seen queues.now) }
+        requires some { 1 ≤ limit }
+        ensures by_what_is_kept { result ≡ option_map (cut limit) (pick_of self.old (Q.seen queues.now)) }
+        ensures lawful { (mechanism : Mechanism) (first : ArbitrationFields) (past : History) → StandsAt mechanism first past self.old → result ≡ limited_pick limit mechanism first past (Q.seen queues.now) }
+        ensures none_where_idle { IsNone result ↔ IsIdle (Q.seen queues.now) }
+        ensures stands { (mechanism : Mechanism) (first : ArbitrationFields) (past : History) → StandsAt mechanism first past self.old → MatchOption result (self.new ≡ self.old) (λ pick. StandsAt mechanism first (Picked (Q.seen queues.now) pick ∷ past) self.new) }
+        ensures kept { MatchOption result (self.new ≡ self.old) (λ pick. self.new ≡ kept_after self.old.mechanism self.old (class_in (Q.seen queues.now) pick.qid) pick) }
+    {
+        let pick = self.peek(queues)?.up_to(limit);
+        self.keep(queues, pick);
+        Some(pick)
+    }
+
+    /// Keeps the pick that `peek` answers, or one of fewer of its commands.
     pub fn keep<Q: ReadyQueues>(&mut self, queues: &Q, pick: Pick)
         requires observed { IsObservation (Q.seen queues.now) }
-        requires peeked { pick_of self.old (Q.seen queues.now) ≡ Some pick }
+        requires peeked { IsSomeAnd (pick_of self.old (Q.seen queues.now)) (λ whole. IsCutOf whole pick) }
         ensures stands { (mechanism : Mechanism) (first : ArbitrationFields) (past : History) → StandsAt mechanism first past self.old → StandsAt mechanism first (Picked (Q.seen queues.now) pick ∷ past) self.new }
         ensures kept { self.new ≡ kept_after self.old.mechanism self.old (class_in (Q.seen queues.now) pick.qid) pick }
     {

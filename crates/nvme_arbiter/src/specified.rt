@@ -2,7 +2,7 @@
 ghost use Rattle.std.specs.Prelude.{◌∷◌, []};
 ghost use Rattle.nvme_arbiter.specs.Settings.{settings_of};
 ghost use Rattle.nvme_arbiter.specs.History.{Picked, Changed};
-ghost use Rattle.nvme_arbiter.specs.Specified.{IsSpecifiedRun, LawfulRunsAreSpecified};
+ghost use Rattle.nvme_arbiter.specs.Specified.{IsSpecifiedRun, LawfulRunsAreSpecified, LimitedRunsAreSpecified};
 ghost use Rattle.nvme_arbiter.specs.Examples.{queue, q, played, left, four_queues, two_rounds, two_admin};
 ghost use Rattle.nvme_arbiter.specs.SpecifiedExamples.{BreaksAlone, IsOtherChoice, no_admin, high_spent, high_nearly_spent, one_low, urgent_between, then_low, over_change, two_urgent, two_high, urgent_within, newcomer, before_newcomer, levels_in_turn, after_nothing};
 ghost use Rattle.nvme_arbiter.specs.declared.settings.Mechanism.TheVariants.{RoundRobin, Weighted};
@@ -28,7 +28,8 @@ pub enum Rule {
 
 /// Every run that is lawful by the profile is one that the specification allows.
 pub fn lawful_runs_are_specified()
-    ensures { LawfulRunsAreSpecified }
+    ensures lawful { LawfulRunsAreSpecified }
+    ensures limited { LimitedRunsAreSpecified }
 {}
 
 /// A pick takes no command, more than wait, one of a queue with none, or one of a queue that isn't seen.

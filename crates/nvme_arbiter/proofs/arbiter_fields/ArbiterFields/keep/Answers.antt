@@ -1,10 +1,10 @@
 use Rattle.nvme_arbiter.specs.Layout.{kept_of}
-use Rattle.nvme_arbiter.proofs.Stands.{within, stands_picked}
+use Rattle.nvme_arbiter.proofs.Stands.{cut_within, stands_picked}
 use Rattle.nvme_arbiter.proofs.arbiter_fields.ArbiterFields.keep.Goals as goal
 
 pub note-requires-clause-within : goal.note-requires-clause-within
 note-requires-clause-within g c =
-    rw c.class_of.ensures (within (kept_of c.args.self.now) (g.Q.ReadyQueues.seen c.args.queues.now) c.args.pick c.requires.observed c.requires.peeked)
+    rw c.class_of.ensures (cut_within (kept_of c.args.self.now) (g.Q.ReadyQueues.seen c.args.queues.now) c.args.pick c.requires.observed c.requires.peeked)
 
 pub returns-clause-stands : goal.returns-clause-stands
 returns-clause-stands g c = λ m first past h.

@@ -1,7 +1,5 @@
-use Rattle.std.proofs.Common.{◌≡◌, sym, ◌∙◌, arith}
-use Rattle.std.specs.Prelude.{Some, None}
+use Rattle.std.proofs.Common.{sym, ◌∙◌, arith}
 use Rattle.nvme_arbiter.specs.Layout.{slots_in}
-use Rattle.nvme_arbiter.specs.Queues.{queue_at}
 use Rattle.nvme_arbiter.proofs.MaskLemmas.{seen-none, seen-some, seen-all, slots-length}
 use Rattle.nvme_arbiter.proofs.queues.QueuesFields.seen.Goals as goal
 use Rattle.nvme_arbiter.proofs.queues.QueuesFields.seen.Goals.{in-Some, in_default}
