@@ -8,7 +8,7 @@ use Rattle.nvme_arbiter.specs.Settings.{ArbitrationFields}
 use Rattle.nvme_arbiter.specs.History.{History, Picked}
 use Rattle.nvme_arbiter.specs.Limits.{highest_qid}
 use Rattle.nvme_arbiter.specs.declared.settings.Class.{Class}
-use Rattle.nvme_arbiter.specs.Lawful.{lawful_pick}
+use Rattle.nvme_arbiter.specs.Lawful.{IsLimitedPick}
 use Rattle.nvme_arbiter.specs.Queues.{seen_of}
 use Rattle.nvme_arbiter.specs.Layout.{is_arbiter, board_of}
 use Rattle.nvme_arbiter.specs.Board.{BoardView, BoardStandsAt, queues_after}
@@ -91,16 +91,16 @@ admin_places c slots pick one places = by (pick.qid == 0 && is_abort_entry (Some
 
 -- it is of one command
 pub admin_one : (rules : FrontRules) (late : Bool) (notes : Notes) (c : Controller) (slots : List Slot) (s : StandsAt rules late notes c slots) (pick : Pick)
-    → ((m : Mechanism) (first : ArbitrationFields) (h : History) → BoardStandsAt m first h (board_of c.board) → Some pick ≡ lawful_pick m first h (seen_of (board_of c.board).queues))
+    → ((m : Mechanism) (first : ArbitrationFields) (h : History) → BoardStandsAt m first h (board_of c.board) → IsLimitedPick m first h (seen_of (board_of c.board).queues) pick)
     → pick.qid ≡ 0 → pick.n ≡ 1
 admin_one rules late notes c slots s pick lawful first_is =
     (pickable rules.mechanism rules.start.settings (arbitration_of (logged notes)) (logged notes) s.content pick s.holds.queues s.holds.arbitration.stands.observed
-    (subst (λ (b : BoardView). lawful_pick rules.mechanism rules.start.settings (arbitration_of (logged notes)) (seen_of b.queues) ≡ Some pick) s.numbers.board_is
-    (sym (lawful rules.mechanism rules.start.settings (arbitration_of (logged notes)) (board_stands rules late notes c slots s))))).one_of_admin first_is
+    (subst (λ (b : BoardView). IsLimitedPick rules.mechanism rules.start.settings (arbitration_of (logged notes)) (seen_of b.queues) pick) s.numbers.board_is
+    ((lawful rules.mechanism rules.start.settings (arbitration_of (logged notes)) (board_stands rules late notes c slots s))))).one_of_admin first_is
 
 module _ (rules : FrontRules) (late : Bool) (notes : Notes) (c : Controller) (slots : List Slot) (s : StandsAt rules late notes c slots)
     (none : c.picked ≡ 0) (pick : Pick) (board : BoardFields)
-    (lawful : (m : Mechanism) (first : ArbitrationFields) (h : History) → BoardStandsAt m first h (board_of c.board) → Some pick ≡ lawful_pick m first h (seen_of (board_of c.board).queues))
+    (lawful : (m : Mechanism) (first : ArbitrationFields) (h : History) → BoardStandsAt m first h (board_of c.board) → IsLimitedPick m first h (seen_of (board_of c.board).queues) pick)
     (stands : (m : Mechanism) (first : ArbitrationFields) (h : History) → BoardStandsAt m first h (board_of c.board) → BoardStandsAt m first (Picked (seen_of (board_of c.board).queues) pick ∷ h) (board_of board))
     (queues : (board_of board).queues ≡ queues_after (board_of c.board).queues pick)
     (arbiter : IsTrue (is_arbiter board.arbiter))
@@ -331,7 +331,7 @@ pub record IsPlacedApplied (rules : FrontRules) (late : Bool) (notes : Notes) (m
 
 module _ (rules : FrontRules) (late : Bool) (notes : Notes) (c : Controller) (slots : List Slot) (s : StandsAt rules late notes c slots)
     (none : c.picked ≡ 0) (pick : Pick) (board : BoardFields)
-    (lawful : (m : Mechanism) (first : ArbitrationFields) (h : History) → BoardStandsAt m first h (board_of c.board) → Some pick ≡ lawful_pick m first h (seen_of (board_of c.board).queues))
+    (lawful : (m : Mechanism) (first : ArbitrationFields) (h : History) → BoardStandsAt m first h (board_of c.board) → IsLimitedPick m first h (seen_of (board_of c.board).queues) pick)
     (stands : (m : Mechanism) (first : ArbitrationFields) (h : History) → BoardStandsAt m first h (board_of c.board) → BoardStandsAt m first (Picked (seen_of (board_of c.board).queues) pick ∷ h) (board_of board))
     (queues : (board_of board).queues ≡ queues_after (board_of c.board).queues pick)
     (arbiter : IsTrue (is_arbiter board.arbiter))

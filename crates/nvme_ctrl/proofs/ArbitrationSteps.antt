@@ -6,7 +6,7 @@ use Rattle.std.proofs.lemmas.List.{get_or-set_same, get_or-set_other, set_past, 
 use Rattle.nvme_arbiter.specs.Limits.{highest_count, queue_limit}
 use Rattle.nvme_arbiter.specs.Board.{BoardView, BoardStandsAt}
 use Rattle.nvme_arbiter.specs.History.{History, Picked}
-use Rattle.nvme_arbiter.specs.Lawful.{IsLawfulRun, lawful_pick}
+use Rattle.nvme_arbiter.specs.Lawful.{IsLimitedRun, IsLimitedPick}
 use Rattle.nvme_arbiter.specs.Observation.{IsSeen, IsObservation}
 use Rattle.nvme_arbiter.specs.Queues.{seen_of, queue_at, FitsUnder, shown}
 use Rattle.nvme_arbiter.specs.Queues as board
@@ -84,7 +84,7 @@ arbitration-fetch rules late past k q queue entry s can =
 -- what holds after a pick: the board stands at the history with it, which is a lawful run
 record HoldsPick (rules : FrontRules) (past : Past) (seen : List Seen) (pick : Pick) (after : BoardView) : Type 0 where
   stands : BoardStandsAt rules.mechanism rules.start.settings (arbitration_of (event.Pick seen pick ∷ past)) after
-  lawful : IsLawfulRun rules.mechanism rules.start.settings (arbitration_of (event.Pick seen pick ∷ past))
+  lawful : IsLimitedRun rules.mechanism rules.start.settings (arbitration_of (event.Pick seen pick ∷ past))
 
 -- a pick of the board is a lawful pick of what it shows
 picks : (rules : FrontRules) (late : Bool) (past : Past) (k : Content) (queue : Queue) (seen : List Seen) (pick : Pick) (after : BoardView)
@@ -94,7 +94,7 @@ picks rules late past k queue seen pick after s can seen_is =
       stands = subst (λ (xs : List Seen). BoardStandsAt rules.mechanism rules.start.settings (Picked xs pick ∷ arbitration_of past) after) (sym seen_is) can.board_stands;
       lawful = (
         subst IsObservation (sym seen_is) s.arbitration.stands.observed,
-        subst (λ (xs : List Seen). lawful_pick rules.mechanism rules.start.settings (arbitration_of past) xs ≡ Some pick) (sym seen_is) can.lawful,
+        subst (λ (xs : List Seen). IsLimitedPick rules.mechanism rules.start.settings (arbitration_of past) xs pick) (sym seen_is) can.lawful,
         s.arbitration.lawful,
       );
     }
@@ -140,7 +140,7 @@ module _ (rules : FrontRules) (late : Bool) (past : Past) (k : Content) (seen : 
       } in
       record {
         stands = subst (λ (h : History). BoardStandsAt rules.mechanism rules.start.settings h (record picked { queues = slice_set picked.queues qid None })) (sym same) stands;
-        lawful = subst (IsLawfulRun rules.mechanism rules.start.settings) (sym same) is.lawful;
+        lawful = subst (IsLimitedRun rules.mechanism rules.start.settings) (sym same) is.lawful;
       }
 
   -- a completion queue is closed, or isn't there
@@ -162,7 +162,7 @@ module _ (rules : FrontRules) (late : Bool) (past : Past) (k : Content) (seen : 
       aborts_leave_arbitration queue.region (take 1 (named past queue.region cid)) (event.Pick seen pick ∷ past) in
       record {
         stands = subst (λ (h : History). BoardStandsAt rules.mechanism rules.start.settings h picked) (sym same) is.stands;
-        lawful = subst (IsLawfulRun rules.mechanism rules.start.settings) (sym same) is.lawful;
+        lawful = subst (IsLimitedRun rules.mechanism rules.start.settings) (sym same) is.lawful;
       }
   by_found queue sqid cid (Some found) chosen =
       let same : arbitration_of (with_events (abort_in past cid (Some queue)) (event.Pick seen pick ∷ past)) ≡ arbitration_of (event.Pick seen pick ∷ past) =
@@ -170,7 +170,7 @@ module _ (rules : FrontRules) (late : Bool) (past : Past) (k : Content) (seen : 
       record {
         stands = subst (λ (h : History). BoardStandsAt rules.mechanism rules.start.settings h after) (sym same)
             (chosen found refl (arbitration_of (event.Pick seen pick ∷ past)) is.stands);
-        lawful = subst (IsLawfulRun rules.mechanism rules.start.settings) (sym same) is.lawful;
+        lawful = subst (IsLimitedRun rules.mechanism rules.start.settings) (sym same) is.lawful;
       }
 
   -- an Abort command, by the queue that it names

@@ -7,10 +7,10 @@ use Rattle.std.proofs.lemmas.List.Elements.{All-head, All-tail}
 use Rattle.std.proofs.lemmas.Option.{same_Some}
 use Rattle.nvme_arbiter.specs.History.{settings_after}
 use Rattle.nvme_arbiter.specs.Laws.{IsMeasured}
-use Rattle.nvme_arbiter.proofs.PickLaws.{picks_are_measured, prefixes}
+use Rattle.nvme_arbiter.proofs.PickLaws.{limited_are_measured, limited_prefixes}
 use Rattle.nvme_log.proofs.Prefixes.{arbitration_of-append}
 use Rattle.nvme_log.specs.Histories.{arbitration_of}
-use Rattle.nvme_arbiter.specs.Lawful.{IsLawfulRun}
+use Rattle.nvme_arbiter.specs.Lawful.{IsLimitedRun}
 use Rattle.nvme_arbiter.specs.declared.pick.Seen.{Seen}
 use Rattle.nvme_arbiter.specs.declared.pick.Pick.{Pick}
 use Rattle.nvme_log.specs.declared.event.Event.TheVariants.{OpenSq}
@@ -80,11 +80,11 @@ held_queues_wait rules later before seen pick h = by (is_held before pick.qid) r
   split : arbitration_of (logged (later ++ with_pick before seen pick)) ≡ arbitration_of (logged later) ++ arbitration_of (logged (with_pick before seen pick))
   split = ap arbitration_of (logged-append later (with_pick before seen pick)) ∙ arbitration_of-append (logged later) (logged (with_pick before seen pick))
 
-  run : IsLawfulRun rules.mechanism rules.start.settings (arbitration_of (logged (with_pick before seen pick)))
-  run = prefixes rules.mechanism rules.start.settings (arbitration_of (logged later)) (arbitration_of (logged (with_pick before seen pick))) (rw split at h.lawful)
+  run : IsLimitedRun rules.mechanism rules.start.settings (arbitration_of (logged (with_pick before seen pick)))
+  run = limited_prefixes rules.mechanism rules.start.settings (arbitration_of (logged later)) (arbitration_of (logged (with_pick before seen pick))) (rw split at h.lawful)
 
   measured : IsMeasured rules.mechanism (settings_after rules.start.settings (arbitration_of (logged before))) seen pick
-  measured = picks_are_measured rules.mechanism rules.start.settings (arbitration_of (logged before)) seen pick run.0 run.1
+  measured = limited_are_measured rules.mechanism rules.start.settings (arbitration_of (logged before)) seen pick run.0 run.1
 
   by : (b : Bool) → is_held before pick.qid ≡ b → b ≡ false
   by false e = refl

@@ -9,7 +9,9 @@ use Rattle.nvme_arbiter.specs.declared.settings.Class.TheVariants.{Admin, Urgent
 use Rattle.nvme_log.specs.declared.event.Event.TheVariants.{Closing, Abort, Post, ClosedSq}
 use Rattle.nvme_log.specs.Examples.{one_deletion, admin_seen, reads_seen, picked_of, done}
 use Rattle.nvme_entry.specs.Status.{success}
-use Rattle.nvme_ctrl.specs.Notes.{Notes, Logged, Taken, Answered, Held, Classed, EachNote}
+use Rattle.nvme_arbiter.proofs.PickLaws.{lawful_is_limited}
+use Rattle.nvme_log.specs.Histories.{arbitration_of}
+use Rattle.nvme_ctrl.specs.Notes.{Notes, Logged, Taken, Answered, Held, Classed, EachNote, logged}
 use Rattle.nvme_ctrl.specs.Account.{IsLawful, IsAccount}
 use Rattle.nvme_ctrl.specs.Examples.{succeeded, aborted_done, reads_waiting, held_and_deleted, classed_and_picked}
 use Rattle.nvme_ctrl.proofs.ExampleNotes.{deletion_account}
@@ -55,7 +57,7 @@ held_account = record {
       ),
     ),
   );
-  lawful = search rules;
+  lawful = lawful_is_limited one_deletion.mechanism one_deletion.start.settings (arbitration_of (logged held_and_deleted)) (search rules);
   effects_whole = refl;
 }
 
@@ -66,7 +68,7 @@ classed_account = record {
     record { index_counts = tt; served_while_open = refl; observed = refl; effects_at_once = refl; deletes = refl; posts_own = tt; leaves_places = refl; fetches_submitted = tt; posts_on_free_slot = tt; posts_what_is_through = tt },
     (record { queue = record { region = 1; cqid = 1; class = Urgent }; is_open = refl; io = λ e. cc e; class_of_io = λ e. cc e }, each_of_reads),
   );
-  lawful = search rules;
+  lawful = lawful_is_limited one_deletion.mechanism one_deletion.start.settings (arbitration_of (logged classed_and_picked)) (search rules);
   effects_whole = refl;
 }
 

@@ -32,7 +32,7 @@ use Rattle.nvme_ctrl.specs.Notes.{Notes, Logged, Answered, EachNote, logged}
 use Rattle.nvme_ctrl.specs.Tags.{answer_of, cookie_of, is_passed, marks_of}
 use Rattle.nvme_ctrl.specs.Account.{IsLawfulEvent, IsLawful, IsAccount, IsCarriedOut, FetchesSubmitted, PostsOnFreeSlot, PostsWhatIsThrough, PicksOnObservation}
 use Rattle.nvme_ctrl.specs.Observation.{observed_of}
-use Rattle.nvme_ctrl.specs.Steps.{with_logged, picked_notes, IsNextPick, HasCarriedOut}
+use Rattle.nvme_ctrl.specs.Steps.{with_logged, picked_notes, IsNextPick, IsAnswerOf, HasCarriedOut}
 use Rattle.nvme_ctrl.specs.declared.slot.Slot.{Slot}
 use Rattle.nvme_ctrl.specs.declared.state.Controller.{Controller}
 use Rattle.nvme_ctrl.specs.kept.Content.{Candidate, Ready, Content, with_ready}
@@ -51,6 +51,7 @@ use Rattle.nvme_ctrl.proofs.Standing.{holds-admin}
 use Rattle.nvme_ctrl.proofs.AdminEvents.{next-admin}
 use Rattle.nvme_ctrl.proofs.AdminPick.{deleted_region, target_region}
 use Rattle.nvme_ctrl.proofs.Counts.{outstanding-pick}
+use Rattle.nvme_log.proofs.AdminPicks.{admin_is_whole}
 use Rattle.nvme_ctrl.proofs.Observing.{seen_is_observed}
 use Rattle.nvme_ctrl.proofs.Showing.{OpensApart, shown_verdict}
 use Rattle.nvme_ctrl.proofs.EffectEvents.{AreEffects, made_are_effects, made_leave_region, effects_leave_fetched}
@@ -151,7 +152,9 @@ module _ (rules : FrontRules) (late : Bool) (notes : Notes) (a : Controller) (sl
 
   -- so its pick was the next
   is_next : IsNextPick rules notes (Some h.pick)
-  is_next = sym (subst (λ (xs : List Seen). lawful_pick rules.mechanism rules.start.settings (arbitration_of (logged notes)) xs ≡ Some h.pick) (sym saw) h.can_pick.lawful)
+  is_next =
+      subst (λ (xs : List Seen). Some h.pick ≡ lawful_pick rules.mechanism rules.start.settings (arbitration_of (logged notes)) xs) (sym saw)
+      (admin_is_whole rules.mechanism rules.start.settings (arbitration_of (logged notes)) (seen_of h.before.board.queues) h.pick h.holds.arbitration.stands.observed h.can_pick.lawful h.of_admin)
 
   pub are_effects : AreEffects made
   are_effects = made_are_effects (logged notes) v
@@ -405,15 +408,16 @@ module _ (rules : FrontRules) (late : Bool) (notes : Notes) (a : Controller) (sl
     }
 
     -- the controller stands there
-    pub carried_told : (b : Controller) (pool : List Slot) (g : Items) → Keeps rules (Answered 0 h.candidate.index (answer_in t) ∷ made_notes) b pool k g
+    pub carried_told : IsAnswerOf v (Some (answer_in t)) → (b : Controller) (pool : List Slot) (g : Items) → Keeps rules (Answered 0 h.candidate.index (answer_in t) ∷ made_notes) b pool k g
         → HasCarriedOut rules late notes v b pool
-    carried_told b pool g s = record {
+    carried_told answered b pool g s = record {
       pick = h.pick;
       of_admin = h.of_admin;
       next = is_next;
       index = h.candidate.index;
       oldest = first_waits;
       answer = Some (answer_in t);
+      answered = answered;
       stands = record {
         content = k;
         items = g;
@@ -429,10 +433,10 @@ module _ (rules : FrontRules) (late : Bool) (notes : Notes) (a : Controller) (sl
     }
 
   -- ---- it began a deletion, and is answered later
-  pub carried_later : (c : ℕ) (board : BoardView) → IsChosen rules (logged notes) h.before c h.picked board v → (k : Content)
+  pub carried_later : IsAnswerOf v None → (c : ℕ) (board : BoardView) → IsChosen rules (logged notes) h.before c h.picked board v → (k : Content)
       → after_admin (logged notes) applied h.candidate c board v ≡ k → (b : Controller) (pool : List Slot) → HasBegun rules made_notes k b pool
       → HasCarriedOut rules late notes v b pool
-  carried_later c board chosen k is b pool s =
+  carried_later answered c board chosen k is b pool s =
       let holds : Holds rules late (logged made_notes) k = subst (Holds rules late (logged made_notes)) is (holds_made c board chosen) in
       record {
         pick = h.pick;
@@ -441,6 +445,7 @@ module _ (rules : FrontRules) (late : Bool) (notes : Notes) (a : Controller) (sl
         index = h.candidate.index;
         oldest = first_waits;
         answer = None;
+        answered = answered;
         stands = record {
           content = k;
           items = s.items;

@@ -139,13 +139,13 @@ module _ (rules : FrontRules) (late : Bool) (notes : Notes) (a : Controller) (sl
   ended_none none b pool end =
       ended_told rules late notes a slots tag did v h k success 1 0 h.picked
       (λ queue found is_target is_oldest. let no = sym (none_there none queue is_target).1 ∙ is_oldest in absurd (cc no))
-      (none_after none) a slots h.items (keeps_told rules late notes a slots tag did v h (record { status = success; dw0 = 1 })) h.loose refl b pool end
+      (none_after none) refl a slots h.items (keeps_told rules late notes a slots tag did v h (record { status = success; dw0 = 1 })) h.loose refl b pool end
 
   -- ---- where one is found
   pub ended_found : (m : Controller) (mid : List Slot) → HasRequested rules told k sqid cid slots tag m mid → (b : Controller) (pool : List Slot) → KeepsEnd m mid tag success 0 b pool
       → HasCarriedOut rules late notes v b pool
   ended_found m mid t b pool end =
-      ended_told rules late notes a slots tag did v h (requesting k sqid t.entry.region t.c cid t.board t.found) success 0 t.c t.board chosen after
+      ended_told rules late notes a slots tag did v h (requesting k sqid t.entry.region t.c cid t.board t.found) success 0 t.c t.board chosen after refl
       m mid t.items t.keeps t.loose t.slot b pool end where
         region : k.sq t.entry.region ≡ h.before.sq t.entry.region
         region = left t.io t.entry t.in_table t.not_closing

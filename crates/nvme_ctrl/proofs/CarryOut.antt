@@ -18,7 +18,7 @@ use Rattle.nvme_entry.specs.declared.submission.Sqe.{Sqe}
 use Rattle.nvme_log.specs.Rules.{FrontRules}
 use Rattle.nvme_ctrl.specs.Making.{slots_asked}
 use Rattle.nvme_ctrl.specs.Notes.{Notes, Answered, logged}
-use Rattle.nvme_ctrl.specs.Steps.{HasCarriedOut}
+use Rattle.nvme_ctrl.specs.Steps.{IsAnswerOf, HasCarriedOut}
 use Rattle.nvme_ctrl.specs.declared.slot.Slot.{Slot}
 use Rattle.nvme_ctrl.specs.declared.state.Controller.{Controller}
 use Rattle.nvme_ctrl.specs.kept.Content.{Ready, Content, with_ready}
@@ -60,10 +60,10 @@ module _ (rules : FrontRules) (late : Bool) (notes : Notes) (a : Controller) (sl
   -- it was answered, after something was done before
   pub ended_told : (before : Content) (status : StatusCode) (dw0 c : ℕ) (board : BoardView) → IsChosen rules (logged notes) h.before c h.picked board v
       → after_admin (logged notes) (applied rules late notes a slots tag did v h) h.candidate c board v ≡ with_ready before 0 (told h.candidate status dw0)
-      → (m : Controller) (mid : List Slot) (g : Items) → Keeps rules (told_notes status dw0) m mid before g → IsLoose mid g tag → item_at mid tag ≡ item_at slots tag
+      → IsAnswerOf v (Some (record { status = status; dw0 = dw0 })) → (m : Controller) (mid : List Slot) (g : Items) → Keeps rules (told_notes status dw0) m mid before g → IsLoose mid g tag → item_at mid tag ≡ item_at slots tag
       → (b : Controller) (pool : List Slot) → KeepsEnd m mid tag status dw0 b pool → HasCarriedOut rules late notes v b pool
-  ended_told before status dw0 c board chosen is m mid g keeps loose slot b pool end =
-      carried_told rules late notes a slots tag did v h before status dw0 c board chosen is b pool (with_item g 0 (ended tag (told h.candidate status dw0)))
+  ended_told before status dw0 c board chosen is answered m mid g keeps loose slot b pool end =
+      carried_told rules late notes a slots tag did v h before status dw0 c board chosen is answered b pool (with_item g 0 (ended tag (told h.candidate status dw0)))
       (end rules (told_notes status dw0) before g (told h.candidate status dw0) keeps loose (record {
         state_is = refl;
         sqid = ap (λ (s : Slot). s.sqid) slot ∙ h.queue;
@@ -77,9 +77,9 @@ module _ (rules : FrontRules) (late : Bool) (notes : Notes) (a : Controller) (sl
   -- it was answered, and made no more of what is kept
   pub ended_plain : (status : StatusCode) (dw0 : ℕ) → IsChosen rules (logged notes) h.before 0 h.picked h.picked v
       → after_admin (logged notes) (applied rules late notes a slots tag did v h) h.candidate 0 h.picked v ≡ with_ready (applied rules late notes a slots tag did v h) 0 (told h.candidate status dw0)
-      → (b : Controller) (pool : List Slot) → KeepsEnd a slots tag status dw0 b pool → HasCarriedOut rules late notes v b pool
-  ended_plain status dw0 chosen is b pool end =
-      ended_told (applied rules late notes a slots tag did v h) status dw0 0 h.picked chosen is a slots h.items
+      → IsAnswerOf v (Some (record { status = status; dw0 = dw0 })) → (b : Controller) (pool : List Slot) → KeepsEnd a slots tag status dw0 b pool → HasCarriedOut rules late notes v b pool
+  ended_plain status dw0 chosen is answered b pool end =
+      ended_told (applied rules late notes a slots tag did v h) status dw0 0 h.picked chosen is answered a slots h.items
       (keeps_told rules late notes a slots tag did v h (record { status = status; dw0 = dw0 })) h.loose refl b pool end
 
 -- a submission queue was opened
@@ -93,7 +93,7 @@ ended_opened rules late notes a slots tag qid region cqid size class did h m b p
     let k : Content = applied rules late notes a slots tag did v h in
     let to : ℕ = opens_to rules late notes a slots tag qid region cqid class did h in
     ended_told rules late notes a slots tag did v h (opening k qid region to class) success 0 to h.picked
-    (opens_for rules late notes a slots tag qid region cqid class did h) refl m slots h.items
+    (opens_for rules late notes a slots tag qid region cqid class did h) refl refl m slots h.items
     (keeps_told_of rules late notes a slots tag did v h m (opening k qid region to class) (record { status = success; dw0 = 0 })
     (opened rules notes slots k h.items region to h.keeps h.none_picked
     (subst (λ (n : ℕ). IsOpenable rules notes k qid n cqid region to) (sym (size_is ∙ ap (λ (e : Sqe). slots_asked (admin_command_of e)) h.entry))
@@ -108,7 +108,7 @@ pub ended_cq_opened : (rules : FrontRules) (late : Bool) (notes : Notes) (a : Co
 ended_cq_opened rules late notes a slots tag qid region size did h m b pool size_is opened end =
     let v : Verdict = verdict.OpenCq qid region in
     let k : Content = applied rules late notes a slots tag did v h in
-    ended_told rules late notes a slots tag did v h (opening_cq k qid region) success 0 0 h.picked tt refl m slots h.items
+    ended_told rules late notes a slots tag did v h (opening_cq k qid region) success 0 0 h.picked tt refl refl m slots h.items
     (keeps_told_of rules late notes a slots tag did v h m (opening_cq k qid region) (record { status = success; dw0 = 0 })
     (opened rules notes slots k h.items region h.keeps
     (subst (λ (n : ℕ). IsCqOpenable rules notes k qid n region) (sym (size_is ∙ ap (λ (e : Sqe). slots_asked (admin_command_of e)) h.entry)) (opens_cq_openable rules late notes a slots tag qid region did h)))) h.loose refl b pool end
@@ -124,7 +124,7 @@ ended_cq_closed rules late notes a slots tag qid did h m b pool closed end =
     let k : Content = applied rules late notes a slots tag did v h in
     let region : ℕ = closes_region rules late notes a slots tag qid did h in
     ended_told rules late notes a slots tag did v h (closing_cq k qid region) success 0 0 h.picked tt
-    (ap (λ (x : Content). with_ready x 0 (told h.candidate success 0)) (closes_is rules late notes a slots tag qid did h)) m slots h.items
+    (ap (λ (x : Content). with_ready x 0 (told h.candidate success 0)) (closes_is rules late notes a slots tag qid did h)) refl m slots h.items
     (keeps_told_of rules late notes a slots tag did v h m (closing_cq k qid region) (record { status = success; dw0 = 0 })
     (closed rules notes slots k h.items region h.keeps (closes_open rules late notes a slots tag qid did h) (closes_ready rules late notes a slots tag qid did h)
     (closes_unattached rules late notes a slots tag qid did h))) h.loose refl b pool end
@@ -142,7 +142,7 @@ ended_set rules late notes a slots tag settings did h m b pool set queues stands
     ended_told rules late notes a slots tag did v h (record k { board = board_of m.board }) success 0 0 (board_of m.board) (
       queues ∙ ap (λ (v : BoardView). v.queues) h.keeps.numbers.board_is,
       λ past s. stands rules.mechanism rules.start.settings past (subst (λ (v : BoardView). BoardStandsAt rules.mechanism rules.start.settings past v) (sym h.keeps.numbers.board_is) s),
-    ) refl m slots h.items
+    ) refl refl m slots h.items
     (set rules (told_notes rules late notes a slots tag did v h success 0) slots k h.items (keeps_told rules late notes a slots tag did v h (record { status = success; dw0 = 0 }))) h.loose refl b pool end
 
 -- ---- as it was carried out

@@ -112,7 +112,7 @@ module _ (rules : FrontRules) (late : Bool) (notes : Notes) (a : Controller) (sl
       → HasBegun rules notes (deleting k qid region c candidate) b pool)
       → HasCarriedOut rules late notes v b pool
   ended_begun b pool begun =
-      carried_later rules late notes a slots tag did v h opened h.picked
+      carried_later rules late notes a slots tag did v h refl opened h.picked
       (λ queue open_too.
       subst (λ (q : Queue). (h.before.sq q.region).queue ≡ Some (record { qid = qid; cq_region = opened }))
       (same_Some (begins_queue rules late notes a slots tag qid did h) queue (sym is_open ∙ open_too)) attached)

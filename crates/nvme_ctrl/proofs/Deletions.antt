@@ -5,8 +5,8 @@ use Rattle.std.specs.List.{list_all}
 use Rattle.std.proofs.lemmas.Bool.{cases_Bool, cases_eq, eq-eqb, eqb-true, ne_eqb}
 use Rattle.std.proofs.lemmas.List.Folds.{list_all-append}
 use Rattle.std.proofs.lemmas.Option.{same_Some}
-use Rattle.nvme_arbiter.specs.Lawful.{IsLawfulRun}
-use Rattle.nvme_arbiter.proofs.PickLaws.{prefixes}
+use Rattle.nvme_arbiter.specs.Lawful.{IsLimitedRun}
+use Rattle.nvme_arbiter.proofs.PickLaws.{limited_prefixes}
 use Rattle.nvme_log.specs.declared.event.Event.{Event}
 use Rattle.nvme_log.specs.declared.event.Event.TheVariants.{Fetch, Pick, Closing, Post, ClosedSq}
 use Rattle.nvme_log.specs.declared.event.Event.TheVariants as event
@@ -182,8 +182,8 @@ picks_are_lawful rules later before seen pick h =
     let here = (EachNote-after (IsLawful rules) later notes h.each).0 in
     let split : arbitration_of (logged (later ++ notes)) ≡ arbitration_of (logged later) ++ arbitration_of (logged notes) =
     ap arbitration_of (logged-append later notes) ∙ arbitration_of-append (logged later) (logged notes) in
-    let run : IsLawfulRun rules.mechanism rules.start.settings (arbitration_of (logged notes)) =
-    prefixes rules.mechanism rules.start.settings (arbitration_of (logged later)) (arbitration_of (logged notes)) (rw split at h.lawful) in
+    let run : IsLimitedRun rules.mechanism rules.start.settings (arbitration_of (logged notes)) =
+    limited_prefixes rules.mechanism rules.start.settings (arbitration_of (logged later)) (arbitration_of (logged notes)) (rw split at h.lawful) in
     (here.observed, run.1)
 
 pub none_fetched_after_deletion : NoneFetchedAfterDeletion

@@ -3,7 +3,9 @@ use Rattle.std.proofs.Common.{[], ◌∷◌, refl, arith, rules, ◌≡◌, ℕ,
 use Rattle.nvme_admin.specs.Accepted.{effects_of, queue_table, status_of, dw0_of, verdict_of}
 use Rattle.nvme_log.specs.declared.event.Event.TheVariants.{Abort}
 use Rattle.nvme_log.specs.Examples.{two_slots, one_deletion, get_arbitration, create_cq, create_sq, delete_sq, read}
-use Rattle.nvme_ctrl.specs.Notes.{EachNote}
+use Rattle.nvme_arbiter.proofs.PickLaws.{lawful_is_limited}
+use Rattle.nvme_log.specs.Histories.{arbitration_of}
+use Rattle.nvme_ctrl.specs.Notes.{EachNote, logged}
 use Rattle.nvme_ctrl.specs.Account.{IsLawful, IsAccount}
 use Rattle.nvme_ctrl.specs.Examples.{two_passes, deletion_noted, two_deletions, both_gone, create_queue, delete_queue}
 use Rattle.nvme_log.specs.Aborts.{is_index}
@@ -74,7 +76,7 @@ each_of_two = (
 
 pub two_passes_account : IsAccount two_slots two_passes
 unfolding effects_of queue_table status_of dw0_of verdict_of
-two_passes_account = record { each = each_of_two; lawful = search rules; effects_whole = refl }
+two_passes_account = record { each = each_of_two; lawful = lawful_is_limited two_slots.mechanism two_slots.start.settings (arbitration_of (logged two_passes)) (search rules); effects_whole = refl }
 
 -- a deletion that began and is finished is pending no more
 over : (b : Bool) (i : ℕ) → is_index i (if b then None else (if b then Some i else None)) ≡ false
@@ -174,7 +176,7 @@ each_of_deletion = (
 
 pub deletion_account : IsAccount one_deletion deletion_noted
 unfolding effects_of queue_table status_of dw0_of verdict_of
-deletion_account = record { each = each_of_deletion; lawful = search rules; effects_whole = refl }
+deletion_account = record { each = each_of_deletion; lawful = lawful_is_limited one_deletion.mechanism one_deletion.start.settings (arbitration_of (logged deletion_noted)) (search rules); effects_whole = refl }
 
 -- of two deletions one is finished, or both
 second_over : (b c : Bool) → is_index 5 (if b then None else (if b then Some 5 else (if c then Some 4 else None))) ≡ false
@@ -328,4 +330,4 @@ each_of_two_deletions = (
 
 pub two_deletions_account : IsAccount two_deletions both_gone
 unfolding effects_of queue_table status_of dw0_of verdict_of
-two_deletions_account = record { each = each_of_two_deletions; lawful = search rules; effects_whole = refl }
+two_deletions_account = record { each = each_of_two_deletions; lawful = lawful_is_limited two_deletions.mechanism two_deletions.start.settings (arbitration_of (logged both_gone)) (search rules); effects_whole = refl }

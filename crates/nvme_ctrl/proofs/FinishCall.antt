@@ -4,6 +4,7 @@ use Rattle.std.specs.Prelude.{IsTrue, IsSomeAnd, option_map, unwrap_or, nat_lt, 
 use Rattle.std.specs.List.{All}
 use Rattle.std.proofs.lemmas.Bool.{cases_eq, ne_eqb, and_parts, false_from_ne_true, ltb-true}
 use Rattle.std.proofs.lemmas.List.Elements.{All-nil, All-cons, All-head, All-tail, All-weaker, All-map}
+use Rattle.std.proofs.lemmas.Option.{same_Some}
 use Rattle.nvme_admin.specs.History.{Start, TableHistory, DeletionFinished}
 use Rattle.nvme_admin.specs.Standing.{sq_of}
 use Rattle.nvme_admin.specs.Accepted.{effects_of, queue_table, sq_at as table_sq}
@@ -15,6 +16,7 @@ use Rattle.nvme_admin.specs.declared.verdict.SqEntry.{SqEntry}
 use Rattle.nvme_entry.specs.Status.{success}
 use Rattle.nvme_log.specs.declared.event.Event.TheVariants as event
 use Rattle.nvme_log.specs.Completions.{unposted_of, is_posted, posts_of}
+use Rattle.nvme_log.specs.Queues.{qid_of_region}
 use Rattle.nvme_log.specs.Rules.{FrontRules, Past}
 use Rattle.nvme_log.specs.Places.{fetched, fate_of, is_waiting, is_served, one_if}
 use Rattle.nvme_log.specs.Dispatches.{place_at}
@@ -631,19 +633,43 @@ module _ (rules : FrontRules) (late : Bool) (notes : Notes) (c : Controller) (sl
       (subst (λ (z : ℕ). FinishesEnd (record p { pending_deletions = z }) slots tag b pool) n_is
       (subst (λ (z : Controller). FinishesEnd z slots tag b pool) q_is end))))))
 
--- ---- where none is finished
--- of each queue that is being deleted a command has no completion posted
-pub none_finishes : (rules : FrontRules) (late : Bool) (notes : Notes) (c : Controller) (slots : List Slot) → StandsAt rules late notes c slots
-    → (c.pending_deletions ≡ 0) ⊎ ((q : ℕ) → q < 65 → IsFinishable c q → ⊥) → NoneFinishable notes
-none_finishes rules late notes c slots s why r i is = by (s.content.deletion r) refl where
-  by : (o : Option PendingDelete) → s.content.deletion r ≡ o → unposted_of (logged notes) r ≢ 0
+-- ---- which can be finished
+-- the queue of a deletion that can be finished, as it is kept
+record IsFound (past : Past) (c : Controller) (region : ℕ) : Type 0 where
+  qid : ℕ
+  named : qid_of_region past region ≡ Some qid
+  few : qid < 65
+  is : IsFinishable c qid
+
+found : (rules : FrontRules) (late : Bool) (notes : Notes) (c : Controller) (slots : List Slot) → StandsAt rules late notes c slots
+    → (r i : ℕ) → deleting (logged notes) r ≡ Some i → unposted_of (logged notes) r ≡ 0 → IsFound (logged notes) c r
+found rules late notes c slots s r i is posted = by (s.content.deletion r) refl where
+  by : (o : Option PendingDelete) → s.content.deletion r ≡ o → IsFound (logged notes) c r
   by None none = absurd (let no : deleting (logged notes) r ≡ None = s.holds.deletion.place_is r ∙ ap (option_map (λ (x : PendingDelete). x.place.index)) none in cc (no, is))
   by (Some delete) some =
       let it = some_deletes c.deletions c.pending_deletions slots s.content.sq_life s.content.deletion s.items.deletes s.has.deletions r delete some in
       let flag = item_flagged c.deletions c.pending_deletions slots s.content.sq_life s.content.deletion s.items.deletes s.has.deletions r it.item it.is in
       let life = s.has.deletions.queues r it.item it.is in
-      elim why [
-        | inl idle ↦ absurd (flag (none_counted c.deletions c.pending_deletions slots s.content.sq_life s.content.deletion s.items.deletes s.has.deletions idle it.item.qid))
-        | inr unfinishable ↦ λ posted. unfinishable it.item.qid (s.numbers.few_sqs it.item.qid r life)
-            (record { pending = flag; posted = (s.numbers.sqs it.item.qid r life).unposted ∙ s.holds.counts.unposted r ∙ posted })
-      ]
+      record {
+        qid = it.item.qid;
+        named = s.holds.lives.named it.item.qid r life;
+        few = s.numbers.few_sqs it.item.qid r life;
+        is = record { pending = flag; posted = (s.numbers.sqs it.item.qid r life).unposted ∙ s.holds.counts.unposted r ∙ posted };
+      }
+
+-- what the log says can be finished is kept so
+pub finishable_was : (rules : FrontRules) (late : Bool) (notes : Notes) (c : Controller) (slots : List Slot) → StandsAt rules late notes c slots
+    → (q : ℕ) → IsFinishableAt notes q → IsFinishable c q
+finishable_was rules late notes c slots s q f =
+    let it = found rules late notes c slots s f.region f.index f.deletes f.all_posted in
+    subst (IsFinishable c) (same_Some it.qid q (sym it.named ∙ f.queue)) it.is
+
+-- of each queue that is being deleted a command has no completion posted, where none can be finished
+pub none_finishes : (rules : FrontRules) (late : Bool) (notes : Notes) (c : Controller) (slots : List Slot) → StandsAt rules late notes c slots
+    → (c.pending_deletions ≡ 0) ⊎ ((q : ℕ) → q < 65 → IsFinishable c q → ⊥) → NoneFinishable notes
+none_finishes rules late notes c slots s why r i is posted =
+    let it = found rules late notes c slots s r i is posted in
+    elim why [
+      | inl idle ↦ it.is.pending (none_counted c.deletions c.pending_deletions slots s.content.sq_life s.content.deletion s.items.deletes s.has.deletions idle it.qid)
+      | inr unfinishable ↦ unfinishable it.qid it.few it.is
+    ]

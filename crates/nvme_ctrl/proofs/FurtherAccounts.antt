@@ -20,7 +20,7 @@ use Rattle.nvme_log.specs.Completions.{is_posted, posted_to, takes_place, outsta
 use Rattle.nvme_log.specs.Dispatches.{place_at}
 use Rattle.nvme_log.specs.Account.{ServedWhileOpen, PostsOwnBy, LeavesPlaces}
 use Rattle.nvme_log.proofs.Waiting.{fetched-fetch}
-use Rattle.nvme_arbiter.specs.Lawful.{IsLawfulRun}
+use Rattle.nvme_arbiter.specs.Lawful.{IsLimitedRun}
 use Rattle.nvme_ctrl.specs.Notes.{Notes, Note, Logged, Tail, Head, Kept, Passed, Taken, Answered, Marked, Held, Classed, EachNote, logged}
 use Rattle.nvme_ctrl.specs.Doorbells.{sq_slots, cq_slots}
 use Rattle.nvme_ctrl.specs.Making.{with_region}
@@ -248,7 +248,7 @@ module _ (rules : FrontRules) (kind : Kind) (a n : ℕ) (some_sqs : 0 < length (
 
   -- ---- all notes
   -- a log is sound where its notes are lawful
-  pub sound-notes : (notes : Notes) → EachNote (IsLawful rules) notes → IsLawfulRun rules.mechanism rules.start.settings (arbitration_of (logged notes)) → IsSound rules (logged notes)
+  pub sound-notes : (notes : Notes) → EachNote (IsLawful rules) notes → IsLimitedRun rules.mechanism rules.start.settings (arbitration_of (logged notes)) → IsSound rules (logged notes)
   sound-notes notes h l = record {
     effects = each-event _ rules (λ past e it. it.effects_at_once) notes h;
     served = each-event _ rules (λ past e it. it.served_while_open) notes h;
@@ -256,7 +256,7 @@ module _ (rules : FrontRules) (kind : Kind) (a n : ℕ) (some_sqs : 0 < length (
     lawful = l;
   }
 
-  notes-stay : (notes : Notes) → EachNote (IsLawful rules) notes → IsLawfulRun rules.mechanism rules.start.settings (arbitration_of (logged notes)) → IsPassedBy rules a (logged notes)
+  notes-stay : (notes : Notes) → EachNote (IsLawful rules) notes → IsLimitedRun rules.mechanism rules.start.settings (arbitration_of (logged notes)) → IsPassedBy rules a (logged notes)
       → LeavesRegions rules others (logged notes) → EachNote (IsLawful others) notes
   notes-stay [] h l u left = tt
   notes-stay (Logged e ∷ notes) h l u left =

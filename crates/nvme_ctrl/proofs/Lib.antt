@@ -73,6 +73,7 @@ pub mod AnswerCall
 pub mod DoorbellCalls
 pub mod FewUnposted
 pub mod PickCall
+pub mod MayPick
 pub mod FullCall
 pub mod SlotStates
 pub mod FetchCalls

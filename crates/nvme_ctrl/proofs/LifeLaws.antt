@@ -1,6 +1,6 @@
 -- What follows from which queues have their state kept: nothing is ready of a region whose places are posted, nor where no queue is attached.
-use Rattle.std.proofs.Common.{◌≡◌, ◌≢◌, ℕ, zero, suc, ◌+◌, ◌<◌, ◌≤◌, ◌==◌, ◌||◌, ◌&&◌, Bool, true, false, if◌then◌else◌, List, [], ◌∷◌, Option, Some, None, refl, sym, ap, subst, ◌∙◌, arith, inl, inr, eq-eqb, true≢false}
-use Rattle.std.specs.Prelude.{sum_by, All, option_map}
+use Rattle.std.proofs.Common.{◌≡◌, ◌≢◌, ℕ, zero, suc, ◌<◌, ◌≤◌, ◌==◌, ◌||◌, Bool, true, false, if◌then◌else◌, List, [], ◌∷◌, Option, Some, None, refl, sym, ap, subst, ◌∙◌, arith, inl, inr, eq-eqb, true≢false}
+use Rattle.std.specs.Prelude.{option_map}
 use Rattle.std.proofs.lemmas.Bool.{cases_eq, cases_lt, false_from_ne_true, or_right}
 use Rattle.std.proofs.lemmas.Option.{none-some, same_Some}
 use Rattle.nvme_arbiter.specs.Limits.{highest_qid}
@@ -20,12 +20,11 @@ use Rattle.nvme_admin.proofs.Changed.{TellsChange-entry}
 use Rattle.nvme_log.specs.declared.event.Event.TheVariants as event
 use Rattle.nvme_log.specs.Rules.{FrontRules, Past}
 use Rattle.nvme_log.specs.Queues.{open_cq, cq_region_of, is_closed_region}
-use Rattle.nvme_log.specs.Places.{is_served, one_if}
+use Rattle.nvme_log.specs.Places.{is_served}
 use Rattle.nvme_log.specs.Completions.{is_posted, posts_of, unposted_of}
-use Rattle.nvme_log.specs.declared.place.Place.{Place}
 use Rattle.nvme_log.proofs.Posts.{posts_of-some}
 use Rattle.nvme_ctrl.specs.kept.Content.{Candidate, Ready, Content}
-use Rattle.nvme_ctrl.specs.kept.Standing.{HoldsReady, IsReady, Holds, is_opened_cq, hand_of, held_upto, times_held, times_ready}
+use Rattle.nvme_ctrl.specs.kept.Standing.{IsReady, Holds, is_opened_cq, hand_of}
 use Rattle.nvme_ctrl.specs.inside.Steps.{CanApply, verdict_at}
 use Rattle.nvme_ctrl.proofs.QueueWords.{at_other, chosen}
 use Rattle.nvme_ctrl.proofs.ReadyChange.{IsServed, ready-served}

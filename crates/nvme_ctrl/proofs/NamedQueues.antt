@@ -60,6 +60,7 @@ module _ (rules : FrontRules) (late : Bool) (notes : Notes) (c : Controller) (sl
       let at = open_at (s.content.table.sq qid) region due.open_sq (subst (λ (o : Option SqEntry). IsSomeAnd o (λ (queue : SqEntry). queue.region ≡ region)) (shows.sq qid) names) in
       record { queue = at.queue; is_open = s.holds.queues.sqs qid ∙ at.is; on = at.on }
   names_by (effect.CloseCq qid region) due names = s.holds.queues.cqs qid ∙ sym (shows.cq qid) ∙ names
+  names_by (effect.OpenSq qid region cqid cq_region class) due names = s.holds.queues.cqs cqid ∙ sym (shows.cq cqid) ∙ names
   names_by did due names = tt
 
   -- the effect of an entry whose verdict the table told

@@ -1,34 +1,27 @@
 -- What the board shows is what arbitration sees, and what a pick says of its queue.
-use Rattle.std.proofs.Common.{◌≡◌, ℕ, zero, suc, ◌+◌, ◌≤◌, ◌==◌, ◌&&◌, Bool, false, true, nat_lt, List, [], ◌∷◌, ◌++◌, length, map, take, slice_index_or, Option, Some, None, refl, sym, ap, subst, ◌∙◌, arith}
-use Rattle.std.specs.Prelude.{option_map, unwrap_or, All, if◌then◌else◌}
+use Rattle.std.proofs.Common.{◌≡◌, ℕ, zero, suc, ◌+◌, ◌≤◌, Bool, false, true, List, [], ◌∷◌, ◌++◌, length, map, take, Option, Some, None, refl, sym, ap, subst, ◌∙◌, arith}
+use Rattle.std.specs.Prelude.{option_map, unwrap_or, if◌then◌else◌}
 use Rattle.std.specs.List.{flat_map}
-use Rattle.std.proofs.lemmas.Bool.{cond-true, eq-eqb, and_parts}
 use Rattle.std.proofs.lemmas.List.{append-nil, length-map, map-append}
 use Rattle.std.proofs.lemmas.List.Concat.{flat_map-append}
-use Rattle.std.proofs.lemmas.List.Elements.{All-filter, filter_passes}
-use Rattle.nvme_arbiter.specs.Settings.{ArbitrationFields, burst_of, IsLevel}
+use Rattle.nvme_arbiter.specs.Settings.{ArbitrationFields}
 use Rattle.nvme_arbiter.specs.Limits.{queue_limit}
-use Rattle.nvme_arbiter.specs.Observation.{is_class, IsSeen, IsObservation, ready, ready_of}
-use Rattle.nvme_arbiter.specs.Next.{next}
-use Rattle.nvme_arbiter.specs.History.{History, settings_after, last_served, last_served_of, used_in_round}
-use Rattle.nvme_arbiter.specs.Rules.{within_burst}
-use Rattle.nvme_arbiter.specs.Lawful.{lawful_pick}
+use Rattle.nvme_arbiter.specs.Observation.{IsObservation}
+use Rattle.nvme_arbiter.specs.History.{History}
+use Rattle.nvme_arbiter.specs.Lawful.{IsLimitedPick}
 use Rattle.nvme_arbiter.specs.Queues.{seen_of, queue_at}
 use Rattle.nvme_arbiter.specs.Queues as board
 use Rattle.nvme_arbiter.specs.declared.pick.OpenQueue.{OpenQueue}
 use Rattle.nvme_arbiter.specs.declared.pick.Pick.{Pick}
 use Rattle.nvme_arbiter.specs.declared.pick.Seen.{Seen}
-use Rattle.nvme_arbiter.specs.declared.settings.Class.{Class}
-use Rattle.nvme_arbiter.specs.declared.settings.Class.TheVariants.{Admin, Urgent}
 use Rattle.nvme_arbiter.specs.declared.settings.Mechanism.{Mechanism}
-use Rattle.nvme_arbiter.specs.declared.settings.Mechanism.TheVariants.{RoundRobin, Weighted}
 use Rattle.nvme_arbiter.proofs.MaskLemmas.{find_qid, seen-some, seen-none, seen-all}
-use Rattle.nvme_arbiter.proofs.Choices.{take_from_some, next_is_one, same_class, IsFrom, Choice, of_admin, of_urgent, of_level, weighted_some}
-use Rattle.nvme_arbiter.proofs.PickLaws.{picks_are_measured}
+use Rattle.nvme_arbiter.proofs.PickLaws.{limited_are_measured}
 use Rattle.nvme_ctrl.specs.kept.Content.{Candidate}
 use Rattle.nvme_log.specs.Rules.{Past, upto}
 use Rattle.nvme_log.specs.Queues.{Queue, open_sq}
 use Rattle.nvme_log.specs.Places.{waiting, seen_as}
+use Rattle.nvme_log.proofs.AdminPicks.{one_of_admin}
 use Rattle.nvme_ctrl.specs.Notes.{Notes, logged}
 use Rattle.nvme_ctrl.specs.Observation.{is_held, class_set, shown, observed_of}
 use Rattle.nvme_ctrl.specs.kept.Content.{Content}
@@ -92,48 +85,6 @@ pub record IsPeeked (queues : List (Option OpenQueue)) (pick : Pick) : Type 0 wh
   pub enough : pick.n ≤ queue.count
   pub one_of_admin : pick.qid ≡ 0 → pick.n ≡ 1
 
--- a ready queue of a class, as it was seen
-record IsReadyOf (class : Class) (s : Seen) : Type 0 where
-  pub seen : IsSeen s
-  pub class_is : class ≡ s.class
-
--- each ready queue of a class is one that was seen, in that class
-ready_ones : (class : Class) (seen : List Seen) → All IsSeen seen → All (IsReadyOf class) (ready_of class seen)
-ready_ones class seen a = λ k d h.
-    let s : Seen = slice_index_or (ready_of class seen) k d in
-    let parts = and_parts (is_class class s.class) (nat_lt 0 s.count) (filter_passes (λ (t : Seen). is_class class t.class && nat_lt 0 t.count) seen k d h) in
-    record {
-      seen = All-filter (λ (t : Seen). is_class class t.class && nat_lt 0 t.count) IsSeen seen a k d h;
-      class_is = same_class class s.class parts.0;
-    }
-
--- a pick of a class other than that of the admin queue is of another queue
-not_of_admin : (last : Class → Option ℕ) (seen : List Seen) (class : Class) (fresh : Bool) (number : Seen → ℕ) (p : Pick)
-    → IsObservation seen → IsFrom last seen class fresh number p → p.qid ≡ 0 → class ≡ Admin
-not_of_admin last seen class fresh number p o f zero_is =
-    let is = next_is_one (IsReadyOf class) (last class) (ready_of class seen) f.queue (ready_ones class seen o.each) f.next_is in
-    is.class_is ∙ is.seen.admin.1 (sym f.taken_is.qid ∙ zero_is)
-
--- one command is taken of the admin queue, by the weighted mechanism
-one_by_choice : (s : ArbitrationFields) (last : Class → Option ℕ) (used : Class → ℕ) (seen : List Seen) (p : Pick)
-    → IsObservation seen → Choice s last used seen p → p.qid ≡ 0 → p.n ≡ 1
-one_by_choice s last used seen p o (of_admin f) z = f.taken_is.n
-one_by_choice s last used seen p o (of_urgent f) z =
-    let e : Urgent ≡ Admin = not_of_admin last seen Urgent false _ p o f z in
-    absurd (cc)
-one_by_choice s last used seen p o (of_level fresh level f) z = absurd (subst IsLevel (not_of_admin last seen level fresh _ p o f.from z) f.level_is)
-
--- one command is taken of the admin queue
-pub one_of_admin : (m : Mechanism) (first : ArbitrationFields) (past : History) (seen : List Seen) (p : Pick)
-    → IsObservation seen → lawful_pick m first past seen ≡ Some p → p.qid ≡ 0 → p.n ≡ 1
-one_of_admin RoundRobin first past seen p o h z =
-    let s : ArbitrationFields = settings_after first past in
-    let t = take_from_some false (λ (q : Seen). if q.qid == 0 then 1 else within_burst (burst_of s) q.count) (next (last_served past) (ready seen)) p h in
-    t.2.n ∙ cond-true (t.0.qid == 0) 1 (within_burst (burst_of s) t.0.count) (eq-eqb t.0.qid 0 (sym t.2.qid ∙ z))
-one_of_admin Weighted first past seen p o h z =
-    one_by_choice (settings_after first past) (λ c. last_served_of c past) (λ l. used_in_round l past) seen p o
-    (weighted_some (settings_after first past) (λ c. last_served_of c past) (λ l. used_in_round l past) seen p h) z
-
 -- the queue of a pick on the board, where it was seen with enough commands
 peeked_at : (queues : List (Option OpenQueue)) (pick : Pick) (s : Seen) (o : Option OpenQueue) → queue_at queues pick.qid ≡ o
     → option_map (board.seen_as pick.qid) o ≡ Some s → 1 ≤ pick.n → pick.n ≤ s.count → (pick.qid ≡ 0 → pick.n ≡ 1) → IsPeeked queues pick
@@ -144,9 +95,9 @@ peeked_at queues pick s (Some queue) e f one few admin =
 
 -- the pick of a board: its queue is open there, with enough commands that wait
 pub peeked : (m : Mechanism) (first : ArbitrationFields) (past : History) (queues : List (Option OpenQueue)) (pick : Pick)
-    → IsObservation (seen_of queues) → lawful_pick m first past (seen_of queues) ≡ Some pick → IsPeeked queues pick
+    → IsObservation (seen_of queues) → IsLimitedPick m first past (seen_of queues) pick → IsPeeked queues pick
 peeked m first past queues pick o h =
-    let is = picks_are_measured m first past (seen_of queues) pick o h in
+    let is = limited_are_measured m first past (seen_of queues) pick o h in
     peeked_at queues pick is.queue (queue_at queues pick.qid) refl (sym (find_qid queues pick.qid) ∙ is.was_seen) is.at_least_one is.within_count
     (one_of_admin m first past (seen_of queues) pick o h)
 
@@ -181,7 +132,7 @@ pickable_at past k pick (Some queue) e b is =
 
 -- the pick of a board is of a queue that is open in the log
 pub pickable : (m : Mechanism) (first : ArbitrationFields) (history : History) (past : Past) (k : Content) (pick : Pick)
-    → HoldsQueues past k → IsObservation (seen_of k.board.queues) → lawful_pick m first history (seen_of k.board.queues) ≡ Some pick
+    → HoldsQueues past k → IsObservation (seen_of k.board.queues) → IsLimitedPick m first history (seen_of k.board.queues) pick
     → IsPickable past k pick
 pickable m first history past k pick q o h =
     pickable_at past k pick (open_sq past pick.qid) refl (q.board pick.qid) (peeked m first history k.board.queues pick o h)

@@ -8,7 +8,7 @@ use Rattle.std.proofs.lemmas.List.{append-nil}
 use Rattle.std.proofs.lemmas.List.Elements.{All-head, All-same, All-append, All-cons, All-nil, All-weaker}
 use Rattle.nvme_arbiter.specs.Settings.{ArbitrationFields}
 use Rattle.nvme_arbiter.specs.History.{History, Picked}
-use Rattle.nvme_arbiter.specs.Lawful.{lawful_pick}
+use Rattle.nvme_arbiter.specs.Lawful.{IsLimitedPick}
 use Rattle.nvme_arbiter.specs.Queues.{seen_of}
 use Rattle.nvme_arbiter.specs.Layout.{is_arbiter, board_of}
 use Rattle.nvme_arbiter.specs.Board.{BoardStandsAt, queues_after}
@@ -31,8 +31,7 @@ use Rattle.nvme_ctrl.specs.Observation.{observed_of}
 use Rattle.nvme_ctrl.specs.Own.{may_be_own}
 use Rattle.nvme_ctrl.specs.Tags.{is_passed, handed, taken, answer_of}
 use Rattle.nvme_ctrl.specs.Account.{IsPassed}
-use Rattle.nvme_ctrl.specs.Steps.{HasStepped, picked_notes}
-use Rattle.nvme_ctrl.specs.declared.picks.Step.TheVariants as step
+use Rattle.nvme_ctrl.specs.Steps.{HasPassed, picked_notes}
 use Rattle.nvme_ctrl.specs.declared.slot.Slot.{Slot}
 use Rattle.nvme_ctrl.specs.declared.state.Controller.{Controller}
 use Rattle.nvme_ctrl.specs.kept.Content.{Candidate, Content, Ready}
@@ -47,7 +46,7 @@ use Rattle.nvme_ctrl.proofs.Counts.{outstanding-pick}
 use Rattle.nvme_ctrl.proofs.HandSteps.{hand_done}
 use Rattle.nvme_ctrl.proofs.NextEvents.{next-io}
 use Rattle.nvme_ctrl.proofs.OwnStatus.{candidates_wait, oldest_waits, All-unmap, IsAnswerable, answerable_is_done, ready_is_answerable}
-use Rattle.nvme_ctrl.proofs.PickCall.{after_pick_io, due, can, attached, none_untaken, picked_items, pick-numbers, pick-items, pick-doorbells, saw, next_is}
+use Rattle.nvme_ctrl.proofs.PickCall.{after_pick_io, due, can, attached, none_untaken, picked_items, pick-numbers, pick-items, pick-doorbells, saw, admin_next}
 use Rattle.nvme_ctrl.proofs.SlotItems.{All-parts, All-both}
 use Rattle.nvme_ctrl.proofs.Standing.{holds-io}
 use Rattle.nvme_ctrl.proofs.StepKeeps.{IsPassing}
@@ -60,7 +59,7 @@ use Rattle.nvme_ctrl.proofs.DeletedQueues.{deletion_done}
 
 module _ (rules : FrontRules) (late : Bool) (notes : Notes) (c : Controller) (slots : List Slot) (s : StandsAt rules late notes c slots)
     (none : c.picked ≡ 0) (pick : Pick) (board : BoardFields)
-    (lawful : (m : Mechanism) (first : ArbitrationFields) (h : History) → BoardStandsAt m first h (board_of c.board) → Some pick ≡ lawful_pick m first h (seen_of (board_of c.board).queues))
+    (lawful : (m : Mechanism) (first : ArbitrationFields) (h : History) → BoardStandsAt m first h (board_of c.board) → IsLimitedPick m first h (seen_of (board_of c.board).queues) pick)
     (stands : (m : Mechanism) (first : ArbitrationFields) (h : History) → BoardStandsAt m first h (board_of c.board) → BoardStandsAt m first (Picked (seen_of (board_of c.board).queues) pick ∷ h) (board_of board))
     (queues : (board_of board).queues ≡ queues_after (board_of c.board).queues pick)
     (arbiter : IsTrue (is_arbiter board.arbiter))
@@ -337,8 +336,8 @@ module _ (rules : FrontRules) (late : Bool) (notes : Notes) (c : Controller) (sl
   }
 
   -- so the step is made
-  pub pass-call : HasStepped rules late notes (step.Passed pick) (after_pick_io c board 0 1) slots
+  pub pass-call : HasPassed rules late notes pick (after_pick_io c board 0 1) slots
   pass-call =
-      subst (λ (n : ℕ). HasStepped rules late notes (step.Passed pick) (after_pick_io c board 0 n) slots) one_is
-      (subst (λ (q : ℕ). HasStepped rules late notes (step.Passed pick) (after_pick_io c board q pick.n) slots) first_is
-      (record { of_admin = first_is; next = next_is rules late notes c slots s (Some pick) lawful; index = i; oldest = front; stands = pass-stands }))
+      subst (λ (n : ℕ). HasPassed rules late notes pick (after_pick_io c board 0 n) slots) one_is
+      (subst (λ (q : ℕ). HasPassed rules late notes pick (after_pick_io c board q pick.n) slots) first_is
+      (record { of_admin = first_is; next = admin_next rules late notes c slots s pick lawful first_is; index = i; oldest = front; stands = pass-stands }))

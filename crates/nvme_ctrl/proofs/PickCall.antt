@@ -2,7 +2,7 @@
 use Rattle.std.proofs.Common.{◌≢◌, inl}
 use Rattle.std.proofs.lemmas.List.{length-append, length-take-le}
 use Rattle.std.proofs.Common.{◌≡◌, ℕ, ◌+◌, ◌<◌, ◌≤◌, ◌==◌, ◌&&◌, Bool, true, false, if◌then◌else◌, List, [], ◌∷◌, ◌++◌, length, map, take, drop, Option, Some, None, refl, sym, ap, ◌∙◌, subst, arith}
-use Rattle.std.specs.Prelude.{min, slice_set, unwrap_or, IsTrue}
+use Rattle.std.specs.Prelude.{min, slice_set, unwrap_or, IsTrue, IsSomeAnd}
 use Rattle.std.specs.List.{All}
 use Rattle.std.proofs.lemmas.Bool.{eq-eqb, ne_eqb}
 use Rattle.std.proofs.lemmas.List.{append-nil, drop-map, length-map, length-set, map-append, take-map}
@@ -11,7 +11,6 @@ use Rattle.nvme_arbiter.specs.declared.board_fields.BoardFields.{BoardFields}
 use Rattle.nvme_log.specs.Limits.{max_outstanding}
 use Rattle.nvme_log.specs.Aborts.{is_abort_entry}
 use Rattle.nvme_ctrl.specs.inside.Picks.{oldest_entry, places_in}
-use Rattle.nvme_ctrl.specs.declared.picks.Step.TheVariants as step
 use Rattle.nvme_log.specs.Queues.{Queue}
 use Rattle.nvme_log.specs.declared.event.Event.TheVariants as event
 use Rattle.nvme_log.specs.declared.place.Place.{Place}
@@ -21,7 +20,7 @@ use Rattle.nvme_ctrl.specs.Notes.{Notes, logged}
 use Rattle.nvme_ctrl.specs.Doorbells.{submitted}
 use Rattle.nvme_ctrl.specs.Rings.{HasCounts}
 use Rattle.nvme_ctrl.specs.Tags.{taken}
-use Rattle.nvme_ctrl.specs.Steps.{IsNextPick, HasStepped, IsBusy, picked_notes}
+use Rattle.nvme_ctrl.specs.Steps.{IsNextPick, IsBusy, picked_notes}
 use Rattle.nvme_ctrl.specs.declared.state.SqState.{SqState}
 use Rattle.nvme_ctrl.specs.kept.Content.{Candidate, Content}
 use Rattle.nvme_ctrl.specs.kept.Standing.{Holds, IsAttached}
@@ -41,6 +40,7 @@ use Rattle.nvme_ctrl.proofs.Cookies.{cookies_later}
 use Rattle.nvme_ctrl.proofs.Counts.{outstanding-pick}
 use Rattle.nvme_ctrl.proofs.FewUnposted.{few_unposted}
 use Rattle.nvme_ctrl.proofs.NextEvents.{next-io}
+use Rattle.nvme_log.proofs.AdminPicks.{admin_is_whole}
 use Rattle.nvme_ctrl.proofs.Observing.{IsPickable, pickable, seen_is_observed}
 use Rattle.nvme_ctrl.proofs.OwnStatus.{All-unmap}
 use Rattle.nvme_ctrl.proofs.Lives.{one_life, put_sq-states, put_sq-lives}
@@ -49,7 +49,7 @@ use Rattle.nvme_ctrl.proofs.SlotItems.{All-both, All-parts, at_put}
 use Rattle.nvme_ctrl.proofs.Standing.{holds-io}
 use Rattle.nvme_arbiter.specs.Settings.{ArbitrationFields}
 use Rattle.nvme_arbiter.specs.History.{History, Picked}
-use Rattle.nvme_arbiter.specs.Lawful.{lawful_pick}
+use Rattle.nvme_arbiter.specs.Lawful.{lawful_pick, IsLimitedPick, IsCutOf}
 use Rattle.nvme_arbiter.specs.Queues.{seen_of}
 use Rattle.nvme_arbiter.specs.Layout.{is_arbiter, board_of}
 use Rattle.nvme_arbiter.specs.Board.{BoardView, BoardStandsAt, queues_after}
@@ -88,10 +88,23 @@ module _ (rules : FrontRules) (late : Bool) (notes : Notes) (c : Controller) (sl
       lawful rules.mechanism rules.start.settings (arbitration_of past) board_stands
       ∙ ap (λ (xs : List Seen). lawful_pick rules.mechanism rules.start.settings (arbitration_of past) xs) board_sees
 
--- what the board would pick is lawful
-pub next_lawful : (c : Controller) (pick : Pick) → pick_of (board_of c.board).kept (seen_of (board_of c.board).queues) ≡ Some pick
-    → (m : Mechanism) (first : ArbitrationFields) (h : History) → BoardStandsAt m first h (board_of c.board) → Some pick ≡ lawful_pick m first h (seen_of (board_of c.board).queues)
-next_lawful c pick next m first h stands = sym next ∙ lawful_where_stands m first h (board_of c.board).kept (seen_of (board_of c.board).queues) stands.stands
+-- so is what it would pick of the admin queue, for any limit
+pub admin_next : (rules : FrontRules) (late : Bool) (notes : Notes) (c : Controller) (slots : List Slot) (s : StandsAt rules late notes c slots) (pick : Pick)
+    → ((m : Mechanism) (first : ArbitrationFields) (h : History) → BoardStandsAt m first h (board_of c.board) → IsLimitedPick m first h (seen_of (board_of c.board).queues) pick)
+    → pick.qid ≡ 0 → IsNextPick rules notes (Some pick)
+admin_next rules late notes c slots s pick lawful admin =
+    let stands = board_stands rules late notes c slots s in
+    admin_is_whole rules.mechanism rules.start.settings (arbitration_of (logged notes)) (seen_of (board_of c.board).queues) pick stands.observed
+    (lawful rules.mechanism rules.start.settings (arbitration_of (logged notes)) stands) admin
+    ∙ ap (λ (xs : List Seen). lawful_pick rules.mechanism rules.start.settings (arbitration_of (logged notes)) xs) (board_sees rules late notes c slots s)
+
+-- what the board would pick, or fewer of its commands, is lawful for some limit
+pub next_lawful : (c : Controller) (pick : Pick) → IsSomeAnd (pick_of (board_of c.board).kept (seen_of (board_of c.board).queues)) (λ whole. IsCutOf whole pick) → 1 ≤ pick.n
+    → (m : Mechanism) (first : ArbitrationFields) (h : History) → BoardStandsAt m first h (board_of c.board) → IsLimitedPick m first h (seen_of (board_of c.board).queues) pick
+next_lawful c pick next some m first h stands = by (pick_of (board_of c.board).kept (seen_of (board_of c.board).queues)) refl next where
+  by : (o : Option Pick) → pick_of (board_of c.board).kept (seen_of (board_of c.board).queues) ≡ o → IsSomeAnd o (λ whole. IsCutOf whole pick) → IsLimitedPick m first h (seen_of (board_of c.board).queues) pick
+  by None e is = absurd is
+  by (Some whole) e is = record { whole = whole; lawful = sym (lawful_where_stands m first h (board_of c.board).kept (seen_of (board_of c.board).queues) stands.stands) ∙ e; is_cut = is; some = some }
 
 -- a pick of an I/O queue needs a place for each command
 pub io_places : (c : Controller) (slots : List Slot) (pick : Pick) → (pick.qid ≡ 0 → ⊥) → places_in c slots pick + c.outstanding ≤ max_outstanding
@@ -136,7 +149,7 @@ after_pick_io c board q n =
 
 module _ (rules : FrontRules) (late : Bool) (notes : Notes) (c : Controller) (slots : List Slot) (s : StandsAt rules late notes c slots)
     (none : c.picked ≡ 0) (pick : Pick) (board : BoardFields)
-    (lawful : (m : Mechanism) (first : ArbitrationFields) (h : History) → BoardStandsAt m first h (board_of c.board) → Some pick ≡ lawful_pick m first h (seen_of (board_of c.board).queues))
+    (lawful : (m : Mechanism) (first : ArbitrationFields) (h : History) → BoardStandsAt m first h (board_of c.board) → IsLimitedPick m first h (seen_of (board_of c.board).queues) pick)
     (stands : (m : Mechanism) (first : ArbitrationFields) (h : History) → BoardStandsAt m first h (board_of c.board) → BoardStandsAt m first (Picked (seen_of (board_of c.board).queues) pick ∷ h) (board_of board))
     (queues : (board_of board).queues ≡ queues_after (board_of c.board).queues pick)
     (is_arbiter_still : IsTrue (is_arbiter board.arbiter))
@@ -152,8 +165,8 @@ module _ (rules : FrontRules) (late : Bool) (notes : Notes) (c : Controller) (sl
 
   pub due : IsPickable now k pick
   due = pickable rules.mechanism rules.start.settings (arbitration_of now) now k pick s.holds.queues s.holds.arbitration.stands.observed
-      (subst (λ (b : BoardView). lawful_pick rules.mechanism rules.start.settings (arbitration_of now) (seen_of b.queues) ≡ Some pick) s.numbers.board_is
-      (sym (lawful rules.mechanism rules.start.settings (arbitration_of now) (board_stands rules late notes c slots s))))
+      (subst (λ (b : BoardView). IsLimitedPick rules.mechanism rules.start.settings (arbitration_of now) (seen_of b.queues) pick) s.numbers.board_is
+      ((lawful rules.mechanism rules.start.settings (arbitration_of now) (board_stands rules late notes c slots s))))
 
   abbrev q : ℕ
   q = pick.qid
@@ -184,8 +197,8 @@ module _ (rules : FrontRules) (late : Bool) (notes : Notes) (c : Controller) (sl
     is_open = due.is_open;
     enough = due.enough;
     places = places_now;
-    lawful = subst (λ (b : BoardView). lawful_pick rules.mechanism rules.start.settings (arbitration_of now) (seen_of b.queues) ≡ Some pick) s.numbers.board_is
-        (sym (lawful rules.mechanism rules.start.settings (arbitration_of now) (board_stands rules late notes c slots s)));
+    lawful = subst (λ (b : BoardView). IsLimitedPick rules.mechanism rules.start.settings (arbitration_of now) (seen_of b.queues) pick) s.numbers.board_is
+        ((lawful rules.mechanism rules.start.settings (arbitration_of now) (board_stands rules late notes c slots s)));
     board_queues = queues ∙ ap (λ (b : BoardView). queues_after b.queues pick) s.numbers.board_is;
     board_stands = subst (λ (b : BoardView). BoardStandsAt rules.mechanism rules.start.settings (Picked (seen_of b.queues) pick ∷ arbitration_of now) (board_of board)) s.numbers.board_is
         (stands rules.mechanism rules.start.settings (arbitration_of now) (board_stands rules late notes c slots s));
@@ -414,16 +427,19 @@ module _ (rules : FrontRules) (late : Bool) (notes : Notes) (c : Controller) (sl
           };
     }
 
-  -- so the controller of the call stands
-  pub pick-call : (io : pick.qid ≡ 0 → ⊥) → HasStepped rules late notes (step.Picked pick) (after_pick_io c board q pick.n) slots
-  pick-call io = (next_is rules late notes c slots s (Some pick) lawful, pick-stands io)
-
 -- ---- no pick is made
 -- what is picked and not taken was dispatched, and not taken
-pub is_busy : (rules : FrontRules) (late : Bool) (notes : Notes) (c : Controller) (slots : List Slot) → StandsAt rules late notes c slots → c.picked ≢ 0 → IsBusy notes
-is_busy rules late notes c slots s some =
+picked_count : (rules : FrontRules) (late : Bool) (notes : Notes) (c : Controller) (slots : List Slot) → StandsAt rules late notes c slots → length (handed notes) ≡ length (taken notes) + c.picked
+picked_count rules late notes c slots s =
     let all : length (handed notes) ≡ length (taken notes) + length (places_of (untaken c s.content s.items)) =
     ap (λ (ps : List Place). length ps) s.tags.untaken_are ∙ length-append (taken notes) (places_of (untaken c s.content s.items)) in
     let many : length (places_of (untaken c s.content s.items)) ≡ c.picked =
     length-map (untaken c s.content s.items) (λ (it : Item). it.place) ∙ length-take-le c.picked (s.items.windows (picked_region c s.content)) s.has.picked_there in
-    omega (arith, all, many, some)
+    omega (arith, all, many)
+
+-- so the controller is busy where some is, and only there
+pub is_busy : (rules : FrontRules) (late : Bool) (notes : Notes) (c : Controller) (slots : List Slot) → StandsAt rules late notes c slots → c.picked ≢ 0 → IsBusy notes
+is_busy rules late notes c slots s some = let all = picked_count rules late notes c slots s in omega (arith, all, some)
+
+pub isnt_busy : (rules : FrontRules) (late : Bool) (notes : Notes) (c : Controller) (slots : List Slot) → StandsAt rules late notes c slots → c.picked ≡ 0 → IsBusy notes → ⊥
+isnt_busy rules late notes c slots s none busy = let all = picked_count rules late notes c slots s in omega (arith, all, none, busy)

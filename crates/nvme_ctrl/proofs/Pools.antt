@@ -1,6 +1,6 @@
 -- Slots of a pool and the chains that link them: what a change to one slot leaves, and when a chain is left.
-use Rattle.std.proofs.Common.{◌≡◌, ◌≢◌, ℕ, ◌<◌, ◌≤◌, ◌==◌, ◌⊎◌, Bool, true, false, if◌then◌else◌, eqb, Some, List, [], ◌∷◌, ◌++◌, length, refl, sym, ap, subst, inl, inr}
-use Rattle.std.specs.List.{All, Contains, IsDistinct, list_any}
+use Rattle.std.proofs.Common.{◌≡◌, ◌≢◌, ℕ, ◌<◌, ◌≤◌, ◌==◌, Bool, true, false, if◌then◌else◌, eqb, Some, List, [], ◌∷◌, ◌++◌, length, refl, sym, ap, subst, inl, inr}
+use Rattle.std.specs.List.{All, IsDistinct, list_any}
 use Rattle.std.proofs.lemmas.Bool.{cases_lt, cases_eq, eqb-true, ne_eqb, or_cases}
 use Rattle.std.proofs.lemmas.List.{length-set, get_or-set_same, get_or-set_other, set_past}
 use Rattle.std.proofs.lemmas.List.Elements.{All-nil, All-cons, All-head, All-tail, All-append, All-weaker, recursion_from_All}
@@ -8,7 +8,7 @@ use Rattle.std.proofs.lemmas.Map.Steps.{length-le_from_distinct_below}
 use Rattle.std.proofs.lemmas.Option.{same_Some}
 use Rattle.nvme_ctrl.specs.declared.slot.Slot.{Slot}
 use Rattle.nvme_ctrl.specs.declared.chain.Chain.{Chain}
-use Rattle.nvme_ctrl.specs.kept.Pool.{no_slot, slot_at, item_at, next_at, put_next, put_item, IsNew, AreApart, AreLinked, IsChain, SameItems, SameLinks, named_in, without_named}
+use Rattle.nvme_ctrl.specs.kept.Pool.{no_slot, slot_at, item_at, next_at, put_next, put_item, IsNew, AreApart, AreLinked, IsChain, SameLinks, named_in, without_named}
 
 -- ---- slots
 -- a link leaves a pool's size

@@ -4,10 +4,10 @@ use Rattle.std.proofs.lemmas.Bool.{eqb-true}
 use Rattle.std.proofs.lemmas.Option.{same_Some}
 use Rattle.nvme_arbiter.specs.Laws.{IsMeasured}
 use Rattle.nvme_arbiter.specs.History.{settings_after}
-use Rattle.nvme_arbiter.specs.Lawful.{IsLawfulRun}
+use Rattle.nvme_arbiter.specs.Lawful.{IsLimitedRun}
 use Rattle.nvme_arbiter.specs.declared.pick.Pick.{Pick}
 use Rattle.nvme_arbiter.specs.declared.pick.Seen.{Seen}
-use Rattle.nvme_arbiter.proofs.PickLaws.{picks_are_measured}
+use Rattle.nvme_arbiter.proofs.PickLaws.{limited_are_measured}
 use Rattle.nvme_log.specs.declared.event.Event.{Event}
 use Rattle.nvme_log.specs.declared.event.Event.TheVariants as event
 use Rattle.nvme_log.specs.Rules.{FrontRules, Each}
@@ -79,10 +79,10 @@ takes-shown rules notes seen pick is measured =
     record { queue = sees.queue; is_open = is_open; some = omega (arith, one); first = split.first; others = split.others; wait = split.is }
 
 -- and so does each pick of a log
-pub picks-take : (rules : FrontRules) (notes : Notes) → EachNote (IsLawful rules) notes → IsLawfulRun rules.mechanism rules.start.settings (arbitration_of (logged notes)) → Each TakesSome (logged notes)
+pub picks-take : (rules : FrontRules) (notes : Notes) → EachNote (IsLawful rules) notes → IsLimitedRun rules.mechanism rules.start.settings (arbitration_of (logged notes)) → Each TakesSome (logged notes)
 picks-take rules [] h l = tt
 picks-take rules (Logged e ∷ notes) h l = (here e h l, picks-take rules notes h.1 (lawful-before rules e (logged notes) l)) where
-  here : (e : Event) → EachNote (IsLawful rules) (Logged e ∷ notes) → IsLawfulRun rules.mechanism rules.start.settings (arbitration_of (e ∷ logged notes)) → TakesSome (logged notes) e
-  here (event.Pick seen pick) h l = takes-shown rules notes seen pick h.0.observed (picks_are_measured rules.mechanism rules.start.settings (arbitration_of (logged notes)) seen pick l.0 l.1)
+  here : (e : Event) → EachNote (IsLawful rules) (Logged e ∷ notes) → IsLimitedRun rules.mechanism rules.start.settings (arbitration_of (e ∷ logged notes)) → TakesSome (logged notes) e
+  here (event.Pick seen pick) h l = takes-shown rules notes seen pick h.0.observed (limited_are_measured rules.mechanism rules.start.settings (arbitration_of (logged notes)) seen pick l.0 l.1)
   here e h l = tt
 picks-take rules (note ∷ notes) h l = picks-take rules notes h.1 l

@@ -6,7 +6,7 @@ use Rattle.std.proofs.lemmas.Bool.{cases_eq, cases_lt, eq-eqb, ne_eqb, ltb-true,
 use Rattle.std.proofs.lemmas.Option.{none-some, same_Some}
 use Rattle.nvme_entry.specs.AdminCommand.{admin_command_of}
 use Rattle.nvme_entry.specs.declared.submission.Sqe.{Sqe}
-use Rattle.nvme_arbiter.specs.Lawful.{IsLawfulRun}
+use Rattle.nvme_arbiter.specs.Lawful.{IsLimitedRun}
 use Rattle.nvme_arbiter.specs.declared.pick.Pick.{Pick}
 use Rattle.nvme_arbiter.specs.declared.pick.Seen.{Seen}
 use Rattle.nvme_log.specs.declared.event.Event.{Event}
@@ -25,7 +25,7 @@ use Rattle.nvme_log.proofs.Turns.{in-waits, admin-stays, region-io, admin-unabor
 use Rattle.nvme_log.proofs.Members.{IsIn}
 use Rattle.nvme_log.proofs.Waiting.{left, unaborted, waiting_is-drop, picked-pick, picked-pick_other}
 use Rattle.nvme_ctrl.specs.Making.{command_names, step_names}
-use Rattle.nvme_ctrl.proofs.Observing.{one_of_admin}
+use Rattle.nvme_log.proofs.AdminPicks.{one_of_admin}
 use Rattle.nvme_ctrl.proofs.FurtherHistories.{IsUnnamed, unnamed-before}
 
 -- ---- lists
@@ -72,11 +72,11 @@ pub record IsSound (rules : FrontRules) (past : Past) : Type 0 where
   pub effects : Each (EffectsAtOnce rules) past
   pub served : Each (ServedWhileOpen rules) past
   pub takes : Each TakesSome past
-  pub lawful : IsLawfulRun rules.mechanism rules.start.settings (arbitration_of past)
+  pub lawful : IsLimitedRun rules.mechanism rules.start.settings (arbitration_of past)
 
 -- the picks before an event are lawful too
-pub lawful-before : (rules : FrontRules) (e : Event) (past : Past) → IsLawfulRun rules.mechanism rules.start.settings (arbitration_of (e ∷ past))
-    → IsLawfulRun rules.mechanism rules.start.settings (arbitration_of past)
+pub lawful-before : (rules : FrontRules) (e : Event) (past : Past) → IsLimitedRun rules.mechanism rules.start.settings (arbitration_of (e ∷ past))
+    → IsLimitedRun rules.mechanism rules.start.settings (arbitration_of past)
 lawful-before rules (event.Pick seen pick) past l = l.2
 lawful-before rules (SetArbitration settings) past l = l
 lawful-before rules e past l = l

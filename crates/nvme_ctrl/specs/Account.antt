@@ -6,7 +6,7 @@ use Rattle.std.specs.List.{list_any}
 use Rattle.nvme_entry.specs.Status.{StatusCode}
 use Rattle.nvme_entry.specs.declared.submission.Sqe.{Sqe}
 use Rattle.nvme_entry.specs.declared.completion.Cqe.{Cqe}
-use Rattle.nvme_arbiter.specs.Lawful.{IsLawfulRun}
+use Rattle.nvme_arbiter.specs.Lawful.{IsLimitedRun}
 use Rattle.nvme_arbiter.specs.declared.settings.Class.{Class}
 use Rattle.nvme_arbiter.specs.declared.settings.Class.TheVariants.{Admin}
 use Rattle.nvme_log.specs.declared.event.Event.{Event}
@@ -173,6 +173,6 @@ IsLawful rules notes (Classed q class) = MayBeClassed notes q class
 pub record IsAccount (rules : FrontRules) (notes : Notes) : Type 0 where
   pub each : EachNote (IsLawful rules) notes
   -- the picks are a lawful run of the configured arbitration
-  pub lawful : IsLawfulRun rules.mechanism rules.start.settings (arbitration_of (logged notes))
+  pub lawful : IsLimitedRun rules.mechanism rules.start.settings (arbitration_of (logged notes))
   -- what the latest admin command makes is all there
   pub effects_whole : effects_since (logged notes) ≡ made_last rules (logged notes)

@@ -6,7 +6,7 @@ use Rattle.nvme_entry.specs.declared.submission.Sqe.{Sqe}
 use Rattle.nvme_entry.specs.declared.completion.Cqe.{Cqe}
 use Rattle.nvme_arbiter.specs.declared.pick.Seen.{Seen}
 use Rattle.nvme_arbiter.specs.declared.pick.Pick.{Pick}
-use Rattle.nvme_arbiter.specs.Lawful.{IsLawfulPick}
+use Rattle.nvme_arbiter.specs.Lawful.{IsLawfulRun, IsLimitedPick}
 use Rattle.nvme_log.specs.declared.event.Event.TheVariants as event
 use Rattle.nvme_log.specs.Rules.{FrontRules, sq_regions_of, cq_regions_of, Each, Past, upto}
 use Rattle.nvme_log.specs.Places.{fetched, is_aborted, places, observation_of, waiting}
@@ -35,11 +35,12 @@ use Rattle.nvme_ctrl.specs.declared.state.Controller.{Controller}
 abbrev pub NonePassed : Notes → Type 0
 NonePassed notes = (i : ℕ) → is_passed notes i ≡ false
 
--- the events of a controller's log, where no admin command was passed on, no queue was held and no class was set, and which keep a front's order of
--- deletions, one at a time with nothing fetched or picked meanwhile, are those of an accounted log, where the device answers: so every law of such logs
--- holds of it
+-- the events of a controller's log, where no admin command was passed on, no queue was held, no class was set and each pick was made without a limit, and
+-- which keep a front's order of deletions, one at a time with nothing fetched or picked meanwhile, are those of an accounted log, where the device answers:
+-- so every law of such logs holds of it
 abbrev pub EventsAreAccounted : Type 0
 EventsAreAccounted = (rules : FrontRules) (notes : Notes) (sent : ℕ → List Sqe) (collected : ℕ → List Cqe) → NonePassed notes → NoneArranged notes → Each Deletes (logged notes) → IsAccount rules notes
+    → IsLawfulRun rules.mechanism rules.start.settings (arbitration_of (logged notes))
     → ((r : ℕ) → IsPrefix (fetched (logged notes) r) (sent r)) → ((c : ℕ) → IsPrefix (collected c) (posted_to (logged notes) c))
     → IsAccountBy rules (by_answers (answers notes)) sent (logged notes) collected
 
@@ -104,7 +105,7 @@ NonePickedAfterDeletion = (rules : FrontRules) (later middle before : Notes) (se
 -- none, and with the classes that it set (Command Arbitration)
 abbrev pub PicksAreLawful : Type 0
 PicksAreLawful = (rules : FrontRules) (later before : Notes) (seen : List Seen) (pick : Pick) → IsAccount rules (later ++ Logged (event.Pick seen pick) ∷ before)
-    → (seen ≡ observed_of before) × IsLawfulPick rules.mechanism rules.start.settings (arbitration_of (logged before)) seen pick
+    → (seen ≡ observed_of before) × IsLimitedPick rules.mechanism rules.start.settings (arbitration_of (logged before)) seen pick
 
 -- where the device neither held a queue nor set a class, arbitration sees what it does of a front's log
 abbrev pub ObservedAsInTheLog : Type 0

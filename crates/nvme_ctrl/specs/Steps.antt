@@ -1,12 +1,12 @@
 -- The steps of arbitration of a controller, and the end of a deletion. (Base Specification, Command Arbitration, Admin Command Set)
-use Rattle.std.specs.Prelude.{◌≡◌, ◌≢◌, ℕ, ◌+◌, ◌<◌, Bool, List, [], ◌∷◌, length, Option, Some, None, slice_get}
-use Rattle.nvme_arbiter.specs.Lawful.{lawful_pick}
+use Rattle.std.specs.Prelude.{◌≡◌, ◌≢◌, ◌⊎◌, ℕ, ◌+◌, ◌<◌, Bool, List, [], ◌∷◌, length, Option, Some, None, IsSomeAnd, slice_get}
+use Rattle.nvme_arbiter.specs.Lawful.{lawful_pick, limited_pick}
 use Rattle.nvme_arbiter.specs.declared.pick.Pick.{Pick}
 use Rattle.nvme_admin.specs.declared.verdict.Verdict.{Verdict}
 use Rattle.nvme_admin.specs.declared.verdict.Verdict.TheVariants as verdict
 use Rattle.nvme_admin.specs.Effects.{verdict_in}
 use Rattle.nvme_admin.specs.declared.effect.Effect.{Effect}
-use Rattle.nvme_admin.specs.declared.effect.Effect.TheVariants.{BeginDelete, CloseCq}
+use Rattle.nvme_admin.specs.declared.effect.Effect.TheVariants.{OpenSq, BeginDelete, CloseCq}
 use Rattle.nvme_placing.specs.Telling.{IsToldBy}
 use Rattle.nvme_entry.specs.declared.submission.Sqe.{Sqe}
 use Rattle.nvme_entry.specs.declared.admin.AdminCommand.{AdminCommand}
@@ -38,6 +38,10 @@ use Rattle.nvme_ctrl.specs.declared.picks.Step.TheVariants.{Idle, Busy, Full, Pi
 abbrev pub IsNextPick : FrontRules → Notes → Option Pick → Type 0
 IsNextPick rules notes pick = pick ≡ lawful_pick rules.mechanism rules.start.settings (arbitration_of (logged notes)) (observed_of notes)
 
+-- so where there is room for so many commands
+abbrev pub IsNextWithin : FrontRules → Notes → (room : ℕ) → Option Pick → Type 0
+IsNextWithin rules notes room pick = pick ≡ limited_pick room rules.mechanism rules.start.settings (arbitration_of (logged notes)) (observed_of notes)
+
 -- events that are noted one after another
 abbrev pub with_logged : List Event → Notes → Notes
 with_logged [] notes = notes
@@ -52,6 +56,14 @@ abbrev pub with_answer : ℕ → Option Answer → Notes → Notes
 with_answer i None notes = notes
 with_answer i (Some answer) notes = Answered 0 i answer ∷ notes
 
+-- how a command is answered that was carried out: as its verdict says, later where the deletion of a submission queue began, and with success where it
+-- made something else. Dword 0 of an Abort tells whether it found its command (Abort)
+abbrev pub IsAnswerOf : Verdict → Option Answer → Type 0
+IsAnswerOf (verdict.Done status dw0) answer = answer ≡ Some (record { status = status; dw0 = dw0 })
+IsAnswerOf (verdict.BeginDelete qid) answer = answer ≡ None
+IsAnswerOf (verdict.Abort sqid cid) answer = IsSomeAnd answer (λ a. a.status ≡ success)
+IsAnswerOf v answer = answer ≡ Some (record { status = success; dw0 = 0 })
+
 -- a pick of the admin queue: the command and its place, and what it makes. It is answered at once, but for the Delete of an open submission queue
 pub record HasCarriedOut (rules : FrontRules) (late : Bool) (notes : Notes) (verdict : Verdict) (c : Controller) (slots : List Slot) : Type 0 where
   pub pick : Pick
@@ -60,6 +72,7 @@ pub record HasCarriedOut (rules : FrontRules) (late : Bool) (notes : Notes) (ver
   pub index : ℕ
   pub oldest : slice_get (waiting (logged notes) 0) 0 ≡ Some index
   pub answer : Option Answer
+  pub answered : IsAnswerOf verdict answer
   pub stands : Stands rules late (with_answer index answer (with_logged (made_by (logged notes) verdict) (picked_notes notes pick))) c slots
 
 -- so with its entry. The effect tells the verdict; where queues may lie anywhere, the verdict has another number for the region of a new queue, and the rules
@@ -76,11 +89,12 @@ pub record IsSqOn (past : Past) (qid region : ℕ) : Type 0 where
   pub is_open : open_sq past qid ≡ Some queue
   pub on : queue.region ≡ region
 
--- the region in an effect is that of the queue which was open before: of a queue whose deletion begins, and of a completion queue that is closed
--- (Delete I/O Submission Queue, Delete I/O Completion Queue; regions: profile)
+-- the region in an effect is that of the queue which was open before: of a queue whose deletion begins, of a completion queue that is closed, and of the
+-- completion queue of a new submission queue (Delete I/O Submission Queue, Delete I/O Completion Queue, Create I/O Submission Queue; regions: profile)
 abbrev pub NamesQueues : Past → Effect → Type 0
 NamesQueues past (BeginDelete qid region) = IsSqOn past qid region
 NamesQueues past (CloseCq qid region) = open_cq past qid ≡ Some region
+NamesQueues past (OpenSq qid region cqid cq_region class) = open_cq past cqid ≡ Some cq_region
 NamesQueues past effect = Unit {0}
 
 -- a verdict is of a command: the deletion of a submission queue begins by its Delete, and a command is aborted by its Abort (Delete I/O Submission
@@ -108,20 +122,20 @@ pub record LacksPlaces (rules : FrontRules) (notes : Notes) : Type 0 where
   pub next : IsNextPick rules notes (Some pick)
   pub places : max_outstanding < outstanding rules (logged notes) + places_for (logged notes) pick
 
--- the next pick has more commands than there is room for
+-- there is a next pick, but no room for it: the device has room for no command, or what it has room for needs more places than are free
 pub record LacksRoom (rules : FrontRules) (notes : Notes) (room : ℕ) : Type 0 where
   pub pick : Pick
-  pub next : IsNextPick rules notes (Some pick)
-  pub more : room < pick.n
+  pub next : IsNextWithin rules notes room (Some pick)
+  pub lacks : (room ≡ 0) ⊎ (max_outstanding < outstanding rules (logged notes) + places_for (logged notes) pick)
 
--- a step of arbitration. Where it did nothing, it leaves the controller as it was
-abbrev pub HasStepped : FrontRules → Bool → Notes → Step → Controller → List Slot → Type 0
-HasStepped rules late notes Idle c slots = Stands rules late notes c slots × IsNextPick rules notes None
-HasStepped rules late notes Busy c slots = Stands rules late notes c slots × IsBusy notes
-HasStepped rules late notes Full c slots = Stands rules late notes c slots × LacksPlaces rules notes
-HasStepped rules late notes (Picked pick) c slots = IsNextPick rules notes (Some pick) × Stands rules late (picked_notes notes pick) c slots
-HasStepped rules late notes (PassedOn pick) c slots = HasPassed rules late notes pick c slots
-HasStepped rules late notes (Done effect entry) c slots = HasDone rules late notes effect entry c slots
+-- a step of arbitration, with room for so many commands. Where it did nothing, it leaves the controller as it was
+abbrev pub HasStepped : FrontRules → Bool → Notes → (room : ℕ) → Step → Controller → List Slot → Type 0
+HasStepped rules late notes room Idle c slots = Stands rules late notes c slots × IsNextPick rules notes None
+HasStepped rules late notes room Busy c slots = Stands rules late notes c slots × IsBusy notes
+HasStepped rules late notes room Full c slots = Stands rules late notes c slots × LacksRoom rules notes room
+HasStepped rules late notes room (Picked pick) c slots = IsNextWithin rules notes room (Some pick) × Stands rules late (picked_notes notes pick) c slots
+HasStepped rules late notes room (PassedOn pick) c slots = HasPassed rules late notes pick c slots
+HasStepped rules late notes room (Done effect entry) c slots = HasDone rules late notes effect entry c slots
 
 -- the deletion of the queue of an identifier can be finished: it began and isn't finished, and each command of the queue has its completion posted
 pub record IsFinishableAt (notes : Notes) (qid : ℕ) : Type 0 where

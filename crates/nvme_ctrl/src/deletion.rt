@@ -29,6 +29,7 @@ impl Controller {
     pub fn can_finish(&self) -> Option<u16>
         ensures kept { IfSome result (λ qid. IsFinishable self.now qid) }
         ensures some { (rules : FrontRules) (late : Bool) (notes : Notes) (pool : List Slot) → Stands rules late notes self.now pool → IfSome result (λ qid. IsFinishableAt notes qid) }
+        ensures first { (rules : FrontRules) (late : Bool) (notes : Notes) (pool : List Slot) → Stands rules late notes self.now pool → IfSome result (λ qid. (q : ℕ) → q < qid → IsFinishableAt notes q → ⊥) }
         ensures none { (rules : FrontRules) (late : Bool) (notes : Notes) (pool : List Slot) → Stands rules late notes self.now pool → result ≡ None → NoneFinishable notes }
     {
         if self.pending_deletions == 0 {
@@ -54,6 +55,7 @@ impl Controller {
         ensures size { length slots.new ≡ length slots.old }
         ensures own { own_of self.new ≡ own_of self.old }
         ensures told { (rules : FrontRules) (late : Bool) (notes : Notes) → Stands rules late notes self.old slots.old → result ≡ None → NoneFinishable notes }
+        ensures first { (rules : FrontRules) (late : Bool) (notes : Notes) → Stands rules late notes self.old slots.old → IfSome result (λ qid. (q : ℕ) → q < qid → IsFinishableAt notes q → ⊥) }
         ensures stands { (rules : FrontRules) (late : Bool) (notes : Notes) → Stands rules late notes self.old slots.old → IfSome result (λ qid. HasFinished rules late notes qid self.new slots.new) }
     {
         let qid = self.can_finish()?;

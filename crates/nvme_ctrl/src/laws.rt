@@ -26,9 +26,9 @@ pub fn regions_leave_accounts()
     ensures { RegionsLeaveAccounts }
 {}
 
-/// The events of a controller's log in which no admin command was passed on, no queue was held and no class was set, and
-/// in which deletions keep the order of a front's, are those of an accounted log in which the device answers the I/O
-/// commands. So every law of such logs holds of it.
+/// The events of a controller's log in which no admin command was passed on, no queue was held and no class was set, each
+/// pick was made without a limit, and deletions keep the order of a front's, are those of an accounted log in which the
+/// device answers the I/O commands. So every law of such logs holds of it.
 pub fn events_are_accounted()
     ensures { EventsAreAccounted }
 {}

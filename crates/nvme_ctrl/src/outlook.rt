@@ -62,8 +62,8 @@ impl Controller {
         }
     }
 
-    /// Whether the next pick needs more outstanding places than are free. `pick` answers `Full` then, unless it answers
-    /// `Busy`. Where there is no next pick, no place is lacked.
+    /// Whether the next pick needs more outstanding places than are free. `pick` with room for all of it answers `Full`
+    /// then, unless it answers `Busy`. Where there is no next pick, no place is lacked.
     pub fn lacks_places(&self, slots: &[Slot]) -> bool
         requires front { IsController self.now slots.now }
         ensures lacks { (rules : FrontRules) (late : Bool) (notes : Notes) → Stands rules late notes self.now slots.now → result ≡ true → LacksPlaces rules notes }

@@ -13,9 +13,10 @@ pub enum Step {
     Idle,
     /// Commands are picked that the device hasn't taken.
     Busy,
-    /// The next pick needs more places than are free. A place is free again after its command's completion was posted.
+    /// There is a next pick, but no room for it: the device has room for no command, or what it has room for needs more
+    /// places than are free. A place is free again after its command's completion was posted.
     Full,
-    /// Commands of an I/O queue were picked, for the device to take.
+    /// Commands of an I/O queue were picked, for the device to take: no more than it has room for.
     Picked(Pick),
     /// A command of the admin queue was picked that is the device's, which is to take it.
     Passed(Pick),
@@ -43,7 +44,7 @@ impl Controller {
     ghost use Rattle.nvme_ctrl.specs.Calls.{window_limit};
     ghost use Rattle.nvme_ctrl.specs.Making.{placing_in};
     ghost use Rattle.nvme_admin.specs.Effects.{verdict_in};
-    ghost use Rattle.nvme_ctrl.specs.Steps.{IsNextPick, IsVerdictOf, HasStepped, LacksRoom, NamesQueues};
+    ghost use Rattle.nvme_ctrl.specs.Steps.{IsNextPick, IsVerdictOf, IsBusy, HasStepped, HasPassed, HasDone, NamesQueues, picked_notes};
     ghost use Rattle.nvme_ctrl.specs.inside.Picks.{CanPickNow, oldest_entry, places_in};
     ghost use Rattle.nvme_ctrl.specs.declared.slot.Slot.{Slot};
     ghost use Rattle.nvme_ctrl.specs.declared.picks.Step.TheVariants as step;
@@ -76,7 +77,7 @@ impl Controller {
         requires io { pick.qid ≢ 0 }
         ensures window { window_limit self.new ≡ window_limit self.old }
         ensures own { own_of self.new ≡ own_of self.old }
-        ensures stands { (rules : FrontRules) (late : Bool) (notes : Notes) → Stands rules late notes self.old slots.now → HasStepped rules late notes (step.Picked pick) self.new slots.now }
+        ensures stands { (rules : FrontRules) (late : Bool) (notes : Notes) → Stands rules late notes self.old slots.now → Stands rules late (picked_notes notes pick) self.new slots.now }
     {
         self.board.keep(pick);
         let mut sq = self.sq(pick.qid);
@@ -122,7 +123,7 @@ impl Controller {
         requires own { (rules : FrontRules) (late : Bool) (notes : Notes) → Stands rules late notes self.old slots.now → is_own self.old.own (logged notes) (oldest_entry self.old slots.now) ≡ true }
         ensures window { window_limit self.new ≡ window_limit self.old }
         ensures left { own_of self.new ≡ own_of self.old }
-        ensures stands { (rules : FrontRules) (late : Bool) (notes : Notes) → Stands rules late notes self.old slots.now → HasStepped rules late notes (step.Passed pick) self.new slots.now }
+        ensures stands { (rules : FrontRules) (late : Bool) (notes : Notes) → Stands rules late notes self.old slots.now → HasPassed rules late notes pick self.new slots.now }
     {
         self.board.keep(pick);
         let mut sq = self.sq(0);
@@ -142,7 +143,7 @@ impl Controller {
         ensures names { (rules : FrontRules) (late : Bool) (notes : Notes) → Stands rules late notes self.old slots.old → placing_in rules ≡ None → NamesQueues (logged notes) result.0 }
         ensures own { own_of self.new ≡ own_of self.old }
         ensures commanded { (rules : FrontRules) (late : Bool) (notes : Notes) → Stands rules late notes self.old slots.old → IsVerdictOf (admin_command_of result.1) (verdict_in result.0) }
-        ensures stands { (rules : FrontRules) (late : Bool) (notes : Notes) → Stands rules late notes self.old slots.old → HasStepped rules late notes (step.Done result.0 result.1) self.new slots.new }
+        ensures stands { (rules : FrontRules) (late : Bool) (notes : Notes) → Stands rules late notes self.old slots.old → HasDone rules late notes result.0 result.1 self.new slots.new }
     {
         self.board.keep(pick);
         let mut sq = self.sq(0);
@@ -156,15 +157,17 @@ impl Controller {
         (effect, entry)
     }
 
-    /// Makes the next pick of arbitration, if there is one and its places are free. Where it makes none, nothing changes. A
-    /// command of the admin queue is passed on to the device exactly where it is the device's (`own_opcode`,
-    /// `own_feature`). An Abort of a command that waits never is: the controller ends that command. Any other Abort is,
-    /// where its opcode was announced. (Abort)
-    pub fn pick(&mut self, slots: &mut [Slot]) -> Step
+    /// Makes the next pick of arbitration, of at most `room` commands: as many as the device can take now. The rest of the
+    /// burst waits until its queue's turn comes again. Where it makes none, nothing changes. A command of the admin queue is
+    /// passed on to the device exactly where it is the device's (`own_opcode`, `own_feature`). An Abort of a command that
+    /// waits never is: the controller ends that command. Any other Abort is, where its opcode was announced. (Command
+    /// Arbitration, Abort)
+    pub fn pick(&mut self, slots: &mut [Slot], room: u16) -> Step
         requires front { IsController self.old slots.old }
         ensures front { IsController self.new slots.new }
         ensures idle { result ≡ step.Idle → (self.new ≡ self.old) × (slots.new ≡ slots.old) }
         ensures busy { result ≡ step.Busy → (self.new ≡ self.old) × (slots.new ≡ slots.old) }
+        ensures taken { (rules : FrontRules) (late : Bool) (notes : Notes) → Stands rules late notes self.old slots.old → IsBusy notes → result ≡ step.Busy }
         ensures full { result ≡ step.Full → (self.new ≡ self.old) × (slots.new ≡ slots.old) }
         ensures io { (pick : Pick) → result ≡ step.Picked pick → pick.qid ≢ 0 }
         ensures commanded { (rules : FrontRules) (late : Bool) (notes : Notes) → Stands rules late notes self.old slots.old → (effect : Effect) (entry : Sqe) → result ≡ step.Done effect entry → IsVerdictOf (admin_command_of entry) (verdict_in effect) }
@@ -174,14 +177,18 @@ impl Controller {
         ensures window { window_limit self.new ≡ window_limit self.old }
         ensures size { length slots.new ≡ length slots.old }
         ensures own { own_of self.new ≡ own_of self.old }
-        ensures stands { (rules : FrontRules) (late : Bool) (notes : Notes) → Stands rules late notes self.old slots.old → HasStepped rules late notes result self.new slots.new }
+        ensures stands { (rules : FrontRules) (late : Bool) (notes : Notes) → Stands rules late notes self.old slots.old → HasStepped rules late notes room result self.new slots.new }
     {
         if self.picked != 0 {
             return Step::Busy;
         }
-        let Some(pick) = self.board.peek() else {
+        let Some(whole) = self.board.peek() else {
             return Step::Idle;
         };
+        if room == 0 {
+            return Step::Full;
+        }
+        let pick = whole.up_to(room);
         if self.places_for(slots, pick) > MAX_OUTSTANDING.saturating_sub(self.outstanding) {
             return Step::Full;
         }
@@ -195,34 +202,5 @@ impl Controller {
             let (effect, entry) = self.pick_admin(slots, pick);
             Step::Done(effect, entry)
         }
-    }
-
-    // Whether the next pick has more commands than this.
-    fn lacks_room(&self, slots: &[Slot], room: u16) -> bool
-        requires front { IsController self.now slots.now }
-        ensures lacks { (rules : FrontRules) (late : Bool) (notes : Notes) → Stands rules late notes self.now slots.now → result ≡ true → LacksRoom rules notes room }
-        ensures fits { (rules : FrontRules) (late : Bool) (notes : Notes) → Stands rules late notes self.now slots.now → result ≡ false → LacksRoom rules notes room → ⊥ }
-    {
-        match self.board.peek() {
-            Some(pick) => pick.n > room,
-            None => false,
-        }
-    }
-
-    /// Makes the next pick as `pick` does, where the device has room for all its commands, of which there are at most
-    /// `room`. None, which changes nothing, where the next pick has more: a pick is delayed, and never cut.
-    pub fn pick_within(&mut self, slots: &mut [Slot], room: u16) -> Option<Step>
-        requires front { IsController self.old slots.old }
-        ensures front { IsController self.new slots.new }
-        ensures none { result ≡ None → (self.new ≡ self.old) × (slots.new ≡ slots.old) }
-        ensures delayed { (rules : FrontRules) (late : Bool) (notes : Notes) → Stands rules late notes self.old slots.old → result ≡ None → LacksRoom rules notes room }
-        ensures own { own_of self.new ≡ own_of self.old }
-        ensures within { (rules : FrontRules) (late : Bool) (notes : Notes) → Stands rules late notes self.old slots.old → IfSome result (λ made. LacksRoom rules notes room → ⊥) }
-        ensures stands { (rules : FrontRules) (late : Bool) (notes : Notes) → Stands rules late notes self.old slots.old → IfSome result (λ made. HasStepped rules late notes made self.new slots.new) }
-    {
-        if self.lacks_room(slots, room) {
-            return None;
-        }
-        Some(self.pick(slots))
     }
 }

@@ -2,6 +2,7 @@
 ghost use Rattle.std.specs.Prelude.{IfOk, length, ◌<◌, ◌^◌};
 ghost use Rattle.nvme_ctrl.specs.Standing.{IsController};
 
+use crate::ROOM;
 use nvme_admin::{AdminError, Limits, Region};
 use nvme_arbiter::{Class, Mechanism, Pick, Seen, Settings};
 use nvme_ctrl::{Answer, Controller, Marks, Post, Slot, Step, Waiting};
@@ -204,7 +205,7 @@ fn step(rt: &impl Abort, ctrl: &mut Controller, slots: &mut [Slot], carries_out:
     requires { IsController ctrl.old slots.old }
     ensures { IsController ctrl.new slots.new }
 {
-    let step = ctrl.pick(slots);
+    let step = ctrl.pick(slots, ROOM);
     assert_eq!(rt; matches!(step, Step::Done(..)), carries_out);
     assert!(rt; carries_out || matches!(step, Step::Picked(_)));
 }
@@ -284,9 +285,10 @@ fn take_three(rt: &impl Abort, ctrl: &mut Controller, slots: &mut [Slot]) -> Opt
     requires { IsController ctrl.old slots.old }
     ensures { IsController ctrl.new slots.new }
 {
-    let step = ctrl.pick(slots);
+    assert_eq!(rt; ctrl.pick(slots, 0), Step::Full);
+    let step = ctrl.pick(slots, ROOM);
     assert!(rt; matches!(step, Step::Picked(Pick { qid: 1, n: 3, .. })));
-    assert_eq!(rt; ctrl.pick(slots), Step::Busy);
+    assert_eq!(rt; ctrl.pick(slots, ROOM), Step::Busy);
     let first = ctrl.take(slots)?;
     let second = ctrl.take(slots)?;
     let third = ctrl.take(slots)?;
@@ -363,7 +365,7 @@ fn abort_taken(rt: &impl Abort, ctrl: &mut Controller, slots: &mut [Slot])
     let abort = entry(0x08, 12, 0, 20 << 16 | 1, 0);
     tail(rt, ctrl, slots, 0, 3, true);
     fetch(rt, ctrl, slots, 0, 2, &abort);
-    assert!(rt; matches!(ctrl.pick(slots), Step::Passed(_)));
+    assert!(rt; matches!(ctrl.pick(slots, ROOM), Step::Passed(_)));
     // (of the admin queue it has no command 20)
     assert_eq!(rt; ctrl.named(slots, 0, 20), None);
     let Some(tag) = ctrl.named(slots, 1, 20) else {
@@ -406,7 +408,7 @@ fn begin_delete(rt: &impl Abort, ctrl: &mut Controller, slots: &mut [Slot])
     tail(rt, ctrl, slots, 0, 4, true);
     fetch(rt, ctrl, slots, 0, 3, &delete);
     step(rt, ctrl, slots, true);
-    assert_eq!(rt; ctrl.pick(slots), Step::Idle);
+    assert_eq!(rt; ctrl.pick(slots, ROOM), Step::Idle);
     tail(rt, ctrl, slots, 1, 0, false);
     assert_eq!(rt; (ctrl.fetch(0), ctrl.fetch(1)), (None, None));
     assert_eq!(rt; ctrl.finish(slots), None);
@@ -427,7 +429,7 @@ fn abort_and_deletion_end_what_waits(rt: HostRuntime) -> Result<(), Fail> {
     assert_eq!(rt; ctrl.finish(&mut slots), Some(1));
     let last = (3, 4, 13, true);
     post(&rt, &mut ctrl, &mut slots, 0, last, Status::SUCCESS);
-    assert_eq!(rt; ctrl.pick(&mut slots), Step::Idle);
+    assert_eq!(rt; ctrl.pick(&mut slots, ROOM), Step::Idle);
     Ok(())
 }
 
@@ -482,7 +484,7 @@ fn deletions_are_apart(rt: HostRuntime) -> Result<(), Fail> {
     assert_eq!(rt; ctrl.finish(&mut slots), Some(1));
     let last = (5, 6, 13, true);
     post(&rt, &mut ctrl, &mut slots, 0, last, Status::SUCCESS);
-    assert_eq!(rt; ctrl.pick(&mut slots), Step::Idle);
+    assert_eq!(rt; ctrl.pick(&mut slots, ROOM), Step::Idle);
     Ok(())
 }
 
@@ -524,7 +526,7 @@ fn reset_leaves_nothing(rt: HostRuntime) -> Result<(), Fail> {
     )?;
     assert_eq!(rt; (ctrl.waiting(1), ctrl.sq_region(1)), (0, None));
     tail(&rt, &mut ctrl, &slots, 1, 1, false);
-    assert_eq!(rt; ctrl.pick(&mut slots), Step::Idle);
+    assert_eq!(rt; ctrl.pick(&mut slots, ROOM), Step::Idle);
     // (the admin queue begins at its first slot again, and the phase tag at 1)
     tail(&rt, &mut ctrl, &slots, 0, 1, true);
     fetch(&rt, &mut ctrl, &mut slots, 0, 0, &create_cq(50));

@@ -8,6 +8,10 @@ use nvme_entry::{Sqe, Status};
 /// The steps of one call of `execute`: enough for all commands of both queues.
 pub const STEPS: usize = 64;
 
+/// How many commands the device takes of a pick at most. It answers each one before the next pick, and so has room for as
+/// many again. A device that answers later passes how many more it can take then.
+pub const ROOM: u16 = 16;
+
 /// Fetches what the host submitted to a queue, until its window is full.
 pub fn fetch_queue(ctrl: &mut Controller, slots: &mut [Slot], memory: &Memory, qid: u16)
     requires front { IsController ctrl.old slots.old }
@@ -46,7 +50,7 @@ pub fn step(ctrl: &mut Controller, slots: &mut [Slot]) -> bool
     ensures front { IsController ctrl.new slots.new }
 {
     let Some(tag) = ctrl.take(slots) else {
-        return matches!(ctrl.pick(slots), Step::Picked(_) | Step::Done(..));
+        return matches!(ctrl.pick(slots, ROOM), Step::Picked(_) | Step::Done(..));
     };
     let answer = answer_to(&slot_at(slots, tag).entry);
     ctrl.complete(slots, tag, answer)

@@ -6,7 +6,7 @@
 mod device;
 mod memory;
 
-pub use device::{STEPS, answer_to, execute, fetch_queue, post_queue, serve, step};
+pub use device::{ROOM, STEPS, answer_to, execute, fetch_queue, post_queue, serve, step};
 pub use memory::{ALL_SLOTS, Memory, SLOTS};
 
 #[cfg(test)]

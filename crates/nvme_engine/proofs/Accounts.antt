@@ -2,6 +2,8 @@
 use Rattle.std.proofs.Common.{◌≡◌, ℕ, ◌≤◌, true, false, List, length, Some, refl, sym, ap, ◌∙◌, subst, inl, inr, true≢false, ne_eqb}
 use Rattle.std.proofs.lemmas.Option.{slice_get_cases}
 use Rattle.nvme_entry.specs.declared.submission.Sqe.{Sqe}
+use Rattle.nvme_arbiter.specs.Lawful.{IsLawfulRun}
+use Rattle.nvme_log.specs.Histories.{arbitration_of}
 use Rattle.nvme_log.specs.Rules.{FrontRules, Past}
 use Rattle.nvme_log.specs.Places.{fetched, fate_of, is_picked, is_aborted, entry_at}
 use Rattle.nvme_log.specs.Completions.{is_posted, posted_to}
@@ -34,6 +36,9 @@ module _ (rules : FrontRules) (notes : Notes) (e : Engine) (s : StandsAt rules f
   its_account : IsAccount rules notes
   its_account = let early = s.in_time refl in subst (λ (x : FrontRules). IsAccount x notes) early.0 (s.stands.account early.1)
 
+  its_run : IsLawfulRun rules.mechanism rules.start.settings (arbitration_of (logged notes))
+  its_run = let early = s.in_time refl in subst (λ (x : FrontRules). IsLawfulRun x.mechanism x.start.settings (arbitration_of (logged notes))) early.0 s.lawful
+
   command_of : (r i : ℕ) → is_posted (logged notes) r i ≡ true → HasCommand (logged notes) r i
   command_of r i posted = elim ((slice_get_cases (fetched (logged notes) r) i).1) [
     | inl there ↦ record { entry = there.0; is_there = there.2 }
@@ -56,7 +61,7 @@ module _ (rules : FrontRules) (notes : Notes) (e : Engine) (s : StandsAt rules f
   pub keeps_account : log.IsAccount rules (fetched (logged notes)) (logged notes) (posted_to (logged notes))
   keeps_account =
       answers_by_outcome_are_accounted rules (answers notes) (fetched (logged notes)) (logged notes) (posted_to (logged notes)) by_outcome
-      (events_are_accounted rules notes (fetched (logged notes)) (posted_to (logged notes)) s.plain.none_passed s.plain.none_arranged s.plain.deletes its_account
+      (events_are_accounted rules notes (fetched (logged notes)) (posted_to (logged notes)) s.plain.none_passed s.plain.none_arranged s.plain.deletes its_account its_run
       (λ r. IsPrefix-refl (fetched (logged notes) r)) (λ c. IsPrefix-refl (posted_to (logged notes) c)))
 
 pub engines_keep_accounts : EnginesKeepAccounts

@@ -169,6 +169,7 @@ module _ (kind : Kind) (a n : ℕ) (rules : FrontRules) (late : Bool) (notes : N
           answers = s.answers;
           untaken = s.untaken;
           within = s.within;
+          lawful = s.lawful;
           pool = s.pool;
           window = window ∙ s.window;
           own = own ∙ s.own;

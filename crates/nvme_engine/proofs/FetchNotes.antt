@@ -183,6 +183,7 @@ module _ (rules : FrontRules) (late : Bool) (notes : Notes) (e : Engine) (s : St
     answers = answers-fetch;
     untaken = s.untaken;
     within = (tt, (in_window rules late notes e s qid slots index m, (tt, s.within)));
+    lawful = s.lawful;
     pool = subst (λ (x : ℕ). pool_size ≤ x) (sym size) s.pool;
     window = window ∙ s.window;
     own = own ∙ s.own;

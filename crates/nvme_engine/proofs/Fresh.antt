@@ -81,6 +81,7 @@ module _ (mechanism : Mechanism) (settings : ArbitrationFields) (limits : Limits
         answers = λ r i entry answer io there answered. absurd (cc answered);
         untaken = refl;
         within = tt;
+        lawful = tt;
         pool = pool;
         window = window;
         own = own;

@@ -1,13 +1,14 @@
 -- The next pick at the rules of an engine, and the places that it needs.
-use Rattle.std.proofs.Common.{◌≡◌, ℕ, ◌+◌, ◌<◌, ◌==◌, ◌&&◌, Bool, true, false, not, nat_lt, if◌then◌else◌, List, [], ◌∷◌, length, filter, find, Option, Some, refl, sym, ap, ◌∙◌, subst, arith, inl, inr}
+use Rattle.std.proofs.Common.{◌≡◌, ◌⊎◌, ℕ, ◌+◌, ◌<◌, ◌≤◌, ◌==◌, ◌&&◌, Bool, true, false, not, nat_lt, if◌then◌else◌, List, [], ◌∷◌, length, filter, find, Option, Some, refl, sym, ap, ◌∙◌, subst, arith, inl, inr}
 use Rattle.std.specs.Prelude.{sum_by}
 use Rattle.std.proofs.lemmas.Bool.{eqb-true, lt-ltb, ltb-true}
 use Rattle.std.proofs.lemmas.Option.{same_Some}
+use Rattle.nvme_arbiter.specs.Limits.{highest_count}
 use Rattle.nvme_arbiter.specs.Observation.{IsObservation}
 use Rattle.nvme_arbiter.specs.Lawful.{lawful_pick}
 use Rattle.nvme_arbiter.specs.declared.pick.Pick.{Pick}
 use Rattle.nvme_arbiter.specs.declared.pick.Seen.{Seen}
-use Rattle.nvme_arbiter.proofs.PickLaws.{picks_are_measured}
+use Rattle.nvme_arbiter.proofs.PickLaws.{picks_are_measured, wide_limits}
 use Rattle.nvme_log.specs.Limits.{max_outstanding}
 use Rattle.nvme_log.specs.Rules.{FrontRules, Past, upto}
 use Rattle.nvme_log.specs.Queues.{Queue, open_sq}
@@ -21,7 +22,7 @@ use Rattle.nvme_log.proofs.Members.{IsIn}
 use Rattle.nvme_log.specs.declared.event.Event.TheVariants as event
 use Rattle.nvme_ctrl.specs.Notes.{Notes, Logged, logged}
 use Rattle.nvme_ctrl.specs.Observation.{observed_of}
-use Rattle.nvme_ctrl.specs.Steps.{IsNextPick, LacksPlaces, picked_notes}
+use Rattle.nvme_ctrl.specs.Steps.{IsNextPick, IsNextWithin, LacksPlaces, LacksRoom, picked_notes}
 use Rattle.nvme_ctrl.proofs.Arranged.{observed_as_in_the_log}
 use Rattle.nvme_ctrl.proofs.PickCall.{saw_board}
 use Rattle.nvme_engine.specs.Standing.{StandsBut, IsEngine}
@@ -72,12 +73,21 @@ module _ (rules : FrontRules) (late : Bool) (notes : Notes) (rest : List Place) 
   pub same_next : lawful_pick s.their.mechanism s.their.start.settings (arbitration_of past) (observed_of notes) ≡ next_of rules notes
   same_next = λ t. lawful_pick (s.alike.mechanism t) (s.alike.start t).settings (arbitration_of past) (observed_is t)
 
+  -- the pick that its controller makes of the observation of the log is that of the rules
+  pub whole_next : lawful_pick s.their.mechanism s.their.start.settings (arbitration_of past) (observation_of past) ≡ next_of rules notes
+  whole_next = λ t. lawful_pick (s.alike.mechanism t) (s.alike.start t).settings (arbitration_of past) (observation_of past)
+
   -- the next pick of its controller is that of the rules
   pub next_is : (o : Option Pick) → IsNextPick s.their notes o → o ≡ next_of rules notes
   next_is o next = next ∙ same_next
 
   pub next_was : (o : Option Pick) → next_of rules notes ≡ o → IsNextPick s.their notes o
   next_was o next = sym next ∙ sym same_next
+
+  -- so is the one with room for as many commands as may wait
+  pub within_is : (pick : Pick) → IsNextWithin s.their notes highest_count (Some pick) → IsNextPick s.their notes (Some pick)
+  within_is pick next =
+      next ∙ wide_limits highest_count s.their.mechanism s.their.start.settings (arbitration_of past) (observed_of notes) (subst (λ (xs : List Seen). IsObservation xs) (sym observed_is) observes) (omega arith)
 
   pub same_pick : (pick other : Pick) → next_of rules notes ≡ Some pick → IsNextPick s.their notes (Some other) → other ≡ pick
   same_pick pick other next is = same_Some other pick (next_is (Some other) is ∙ next)
@@ -110,6 +120,13 @@ module _ (rules : FrontRules) (late : Bool) (notes : Notes) (rest : List Place) 
         let few = h.places in
         let count = same_outstanding in
         omega (arith, few, same, count)
+
+    -- there is room for it where its places are free
+    pub fits : LacksRoom s.their notes highest_count → needed ≤ max_outstanding → ⊥
+    fits h few = by h.lacks where
+      by : (highest_count ≡ 0) ⊎ (max_outstanding < outstanding s.their past + places_for past h.pick) → ⊥
+      by (inl none) = omega (arith, none)
+      by (inr more) = let over = lacks (record { pick = h.pick; next = within_is h.pick h.next; places = more }) in omega (arith, over, few)
 
     pub lacks_more : max_outstanding < needed → LacksPlaces s.their notes
     lacks_more more = record {

@@ -4,6 +4,8 @@ use Rattle.std.specs.Prelude.{slice_get}
 use Rattle.nvme_entry.specs.AdminCommand.{admin_command_of}
 use Rattle.nvme_entry.specs.declared.admin.AdminCommand.{AdminCommand}
 use Rattle.nvme_entry.specs.declared.submission.Sqe.{Sqe}
+use Rattle.nvme_arbiter.specs.Limits.{highest_count}
+use Rattle.nvme_arbiter.specs.Lawful.{IsLawfulRun}
 use Rattle.nvme_arbiter.specs.declared.pick.Pick.{Pick}
 use Rattle.nvme_admin.specs.History.{Placing}
 use Rattle.nvme_admin.specs.declared.effect.Effect.{Effect}
@@ -17,6 +19,7 @@ use Rattle.nvme_log.specs.Rules.{FrontRules, Past, Each}
 use Rattle.nvme_log.specs.Queues.{Queue, open_sq}
 use Rattle.nvme_log.specs.Places.{waiting, entry_at}
 use Rattle.nvme_log.specs.Answers.{Answer}
+use Rattle.nvme_log.specs.Histories.{arbitration_of}
 use Rattle.nvme_log.specs.Effects.{is_effect, made_by, closing_of, closed_cq_of}
 use Rattle.nvme_log.specs.Dispatches.{dispatched_by}
 use Rattle.nvme_log.specs.Account.{Deletes}
@@ -28,7 +31,7 @@ use Rattle.nvme_ctrl.specs.Making.{placing_in, placed, placed_by}
 use Rattle.nvme_ctrl.specs.Own.{own_of, oldest_is_own}
 use Rattle.nvme_ctrl.specs.declared.own.OwnCommands.{OwnCommands}
 use Rattle.nvme_ctrl.specs.Tags.{handed, taken}
-use Rattle.nvme_ctrl.specs.Steps.{IsNextPick, LacksPlaces, HasStepped, HasDone, NamesQueues, IsVerdictOf, with_logged, with_answer}
+use Rattle.nvme_ctrl.specs.Steps.{IsNextPick, LacksRoom, HasStepped, HasDone, NamesQueues, IsVerdictOf, with_logged, with_answer}
 use Rattle.nvme_ctrl.specs.Standing as ctrl
 use Rattle.nvme_ctrl.specs.declared.picks.Step.{Step}
 use Rattle.nvme_ctrl.specs.declared.picks.Step.TheVariants as step
@@ -47,7 +50,7 @@ use Rattle.nvme_engine.proofs.Additions.{on_regions}
 use Rattle.nvme_engine.proofs.AdminQueues.{kept_made, begins_made}
 use Rattle.nvme_engine.proofs.Calls.{Leaves, same_pool}
 use Rattle.nvme_engine.proofs.NoneOwn.{oldest_isnt_own}
-use Rattle.nvme_engine.proofs.NextPicks.{next_is, same_pick, same_notes, next_open, lacks}
+use Rattle.nvme_engine.proofs.NextPicks.{next_is, within_is, whole_next, observes, same_pick, same_notes, next_open, fits}
 use Rattle.nvme_engine.proofs.QuietNotes.{IsQuiet, quiet_more, quiet_effects, quiet_pick, quiet_answer, stands_quiet}
 
 -- ---- deletions
@@ -62,6 +65,15 @@ deletes_next (e ∷ rest) past are each h = deletes_next rest (e ∷ past) are.1
   one (event.Post c r i cqe) is follows = absurd (cc is)
   one (event.ClosedSq qid r) is follows = absurd (cc is)
   one e is follows = tt
+
+-- and picks nothing
+lawful_effects : (rules : FrontRules) (es : List Event) (past : Past) → AreEffects es → IsLawfulRun rules.mechanism rules.start.settings (arbitration_of past)
+    → IsLawfulRun rules.mechanism rules.start.settings (arbitration_of (with_events es past))
+lawful_effects rules [] past are h = h
+lawful_effects rules (e ∷ es) past are h = lawful_effects rules es (e ∷ past) are.1 (one e are.0) where
+  one : (e : Event) → is_effect e ≡ true → IsLawfulRun rules.mechanism rules.start.settings (arbitration_of (e ∷ past))
+  one (event.Pick seen pick) is = absurd (cc is)
+  one e is = h
 
 -- an answer is no event
 logged-answer : (i : ℕ) (o : Option Answer) (notes : Notes) → logged (with_answer i o notes) ≡ logged notes
@@ -87,11 +99,8 @@ module _ (rules : FrontRules) (late : Bool) (notes : Notes) (e now : Engine) (s 
       let same = ap (λ (ps : List Place). length ps) (s.untaken ∙ append-nil (taken notes)) in
       omega (arith, busy, same)
 
-  not_full : LacksPlaces s.their notes → ⊥
-  not_full full =
-      let more = lacks rules late notes [] e s pick may.next full in
-      let few = may.places in
-      omega (arith, more, few)
+  not_full : LacksRoom s.their notes highest_count → ⊥
+  not_full full = fits rules late notes [] e s pick may.next full may.places
 
   same : (other : Pick) → IsNextPick s.their notes (Some other) → other ≡ pick
   same other next = same_pick rules late notes [] e s pick other may.next next
@@ -101,6 +110,10 @@ module _ (rules : FrontRules) (late : Bool) (notes : Notes) (e now : Engine) (s 
 
   rules_left : (v : Verdict) (entry : Sqe) → placed v entry s.their ≡ s.their
   rules_left v entry = ap (λ (o : Option Placing). placed_by o v entry s.their) no_placing
+
+  -- the picks with the next one are lawful
+  lawful_next : IsLawfulRun s.their.mechanism s.their.start.settings (arbitration_of (logged (seen_notes notes pick)))
+  lawful_next = (observes rules late notes [] e s, whole_next rules late notes [] e s ∙ may.next, s.lawful)
 
   -- ---- a pick of an I/O queue
   -- its controller picks, and its engine stands
@@ -129,18 +142,19 @@ module _ (rules : FrontRules) (late : Bool) (notes : Notes) (e now : Engine) (s 
           untaken = ap (λ (ps : List Place). ps ++ dispatched_by past pick (open_sq past pick.qid)) (s.untaken ∙ append-nil (taken notes))
               ∙ ap (λ (o : Option Queue). taken notes ++ dispatched_by past pick o) at.is;
           within = (tt, s.within);
+          lawful = lawful_next;
           pool = same_pool e now left s.pool;
           window = left.window ∙ s.window;
           own = left.own ∙ s.own;
         };
       }
 
-  pub has_picked : (io : pick.qid ≢ 0) (did : Step) → HasStepped s.their s.their_late notes did now.controller now.slots.items → HasPicked rules late notes pick now
+  pub has_picked : (io : pick.qid ≢ 0) (did : Step) → HasStepped s.their s.their_late notes highest_count did now.controller now.slots.items → HasPicked rules late notes pick now
   has_picked io step.Idle h = absurd (not_idle h.1)
   has_picked io step.Busy h = absurd (not_busy h.1)
   has_picked io step.Full h = absurd (not_full h.1)
   has_picked io (step.Picked other) h =
-      picked_io (subst (λ (x : Notes). ctrl.Stands s.their s.their_late x now.controller now.slots.items) (same_notes rules late notes [] e s pick other (same other h.0)) h.1)
+      picked_io (subst (λ (x : Notes). ctrl.Stands s.their s.their_late x now.controller now.slots.items) (same_notes rules late notes [] e s pick other (same other (within_is rules late notes [] e s other h.0))) h.1)
   has_picked io (step.Passed other) h = absurd (io (ap (λ (p : Pick). p.qid) (sym (same other h.next)) ∙ h.of_admin))
   has_picked io (step.Done did entry) h =
       let next : IsNextPick s.their notes (Some h.carried_out.pick) =
@@ -163,13 +177,13 @@ module _ (rules : FrontRules) (late : Bool) (notes : Notes) (e now : Engine) (s 
   made_is (effect.SetArbitration settings) entry ending names command ends = refl
 
   -- it is carried out
-  pub is_carried_out : pick.qid ≡ 0 → (did : Step) → HasStepped s.their s.their_late notes did now.controller now.slots.items
+  pub is_carried_out : pick.qid ≡ 0 → (did : Step) → HasStepped s.their s.their_late notes highest_count did now.controller now.slots.items
       → ((other : Pick) → did ≡ step.Picked other → other.qid ≢ 0) → ((other : Pick) → did ≡ step.Passed other → oldest_is_own (own_of e.controller) notes ≡ Some true)
       → ((did_effect : Effect) (entry : Sqe) → did ≡ step.Done did_effect entry → ⊥) → ⊥
   is_carried_out admin step.Idle h io passed other = not_idle h.1
   is_carried_out admin step.Busy h io passed other = not_busy h.1
   is_carried_out admin step.Full h io passed other = not_full h.1
-  is_carried_out admin (step.Picked p) h io passed other = io p refl (ap (λ (x : Pick). x.qid) (same p h.0) ∙ admin)
+  is_carried_out admin (step.Picked p) h io passed other = io p refl (ap (λ (x : Pick). x.qid) (same p (within_is rules late notes [] e s p h.0)) ∙ admin)
   is_carried_out admin (step.Passed p) h io passed other = oldest_isnt_own notes (ap (λ (o : OwnCommands). oldest_is_own o notes) (sym s.own) ∙ passed p refl)
   is_carried_out admin (step.Done did_effect entry) h io passed other = other did_effect entry refl
 
@@ -211,6 +225,8 @@ module _ (rules : FrontRules) (late : Bool) (notes : Notes) (e now : Engine) (s 
           let kept = kept_made s.their s.their_late past s.stands.content s.stands.holds s.served may.none_pending _ pick v s.their s.their_late stands.content
           (subst (λ (x : Past). Holds s.their s.their_late x stands.content) later_is stands.holds) in
           stands_quiet rules late notes later [] e now s quiet follows alone (subst (λ (x : Past). ServesItsQueues x) (sym later_is) kept.0) (subst (λ (x : Past). DeletesItsQueue x) (sym later_is) kept.1)
+          (subst (λ (x : Past). IsLawfulRun s.their.mechanism s.their.start.settings (arbitration_of x)) (sym later_is)
+          (lawful_effects s.their (made_by past v) (logged picked) (made_are_effects past v) lawful_next))
           stands left
 
     pub carried : (did : Effect) (entry : Sqe) → HasDone s.their s.their_late notes did entry now.controller now.slots.items → NamesQueues past did → IsVerdictOf (admin_command_of entry) (verdict_in did)

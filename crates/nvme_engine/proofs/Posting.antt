@@ -178,6 +178,7 @@ module _ (rules : FrontRules) (late : Bool) (notes : Notes) (e : Engine) (s : St
         answers = s.answers;
         untaken = s.untaken;
         within = (tt, (tt, s.within));
+        lawful = s.lawful;
         pool = same_pool e f left s.pool;
         window = left.window ∙ s.window;
         own = left.own ∙ s.own;

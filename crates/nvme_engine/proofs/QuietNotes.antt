@@ -5,6 +5,7 @@ use Rattle.std.specs.List.{list_any}
 use Rattle.std.proofs.lemmas.Bool.{eq-eqb, ne_eqb, true≢false}
 use Rattle.nvme_entry.specs.declared.submission.Sqe.{Sqe}
 use Rattle.nvme_arbiter.specs.Limits.{highest_count}
+use Rattle.nvme_arbiter.specs.Lawful.{IsLawfulRun}
 use Rattle.nvme_arbiter.specs.declared.pick.Pick.{Pick}
 use Rattle.nvme_arbiter.specs.declared.pick.Seen.{Seen}
 use Rattle.nvme_log.specs.declared.event.Event.{Event}
@@ -14,6 +15,7 @@ use Rattle.nvme_log.specs.Queues.{Queue, open_sq}
 use Rattle.nvme_log.specs.Places.{fetched}
 use Rattle.nvme_log.specs.Dispatches.{dispatched_by}
 use Rattle.nvme_log.specs.Completions.{posted_to}
+use Rattle.nvme_log.specs.Histories.{arbitration_of}
 use Rattle.nvme_log.specs.Answers.{Answer}
 use Rattle.nvme_log.specs.Effects.{is_effect}
 use Rattle.nvme_log.specs.Account.{Deletes}
@@ -159,8 +161,8 @@ module _ (rules : FrontRules) (late : Bool) (notes later : Notes) (rest : List P
 
   -- an engine whose controller stands at later notes that are quiet stands at them
   pub stands_quiet : Each Deletes (logged later) → Each BeginsAlone (logged later) → ServesItsQueues (logged later) → DeletesItsQueue (logged later)
-      → ctrl.Stands s.their s.their_late later now.controller now.slots.items → Leaves e now → StandsBut rules late later rest now
-  stands_quiet deletes alone served named stands left = record {
+      → IsLawfulRun s.their.mechanism s.their.start.settings (arbitration_of (logged later)) → ctrl.Stands s.their s.their_late later now.controller now.slots.items → Leaves e now → StandsBut rules late later rest now
+  stands_quiet deletes alone served named lawful stands left = record {
     their = s.their;
     their_late = s.their_late;
     alike = s.alike;
@@ -179,6 +181,7 @@ module _ (rules : FrontRules) (late : Bool) (notes later : Notes) (rest : List P
         (ap (λ (xs : List Sqe). slice_get xs i) (sym (quiet.fetches r)) ∙ there) (sym (quiet.answered r i io) ∙ is);
     untaken = quiet.same_handed ∙ s.untaken ∙ ap (λ (ps : List Place). ps ++ rest) (sym quiet.same_taken);
     within = quiet.within s.within;
+    lawful = lawful;
     pool = same_pool e now left s.pool;
     window = left.window ∙ s.window;
     own = left.own ∙ s.own;

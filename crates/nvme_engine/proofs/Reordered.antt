@@ -70,6 +70,7 @@ module _ (rules other : FrontRules) (h : AreReordered rules other) where
     answers = answers_other notes s.answers;
     untaken = s.untaken;
     within = s.within;
+    lawful = s.lawful;
     pool = s.pool;
     window = s.window;
     own = s.own;
@@ -99,6 +100,7 @@ module _ (rules other : FrontRules) (h : AreReordered rules other) where
         answers = answers_other [] s.answers;
         untaken = s.untaken;
         within = s.within;
+        lawful = tt;
         pool = s.pool;
         window = s.window;
         own = s.own;

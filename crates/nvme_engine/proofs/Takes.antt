@@ -70,6 +70,7 @@ module _ (rules : FrontRules) (late : Bool) (notes : Notes) (p : Place) (rest : 
     answers = s.answers;
     untaken = untaken_after;
     within = (tt, s.within);
+    lawful = s.lawful;
     pool = same_pool e f left s.pool;
     window = left.window ∙ s.window;
     own = left.own ∙ s.own;

@@ -2,6 +2,7 @@
 use Rattle.std.specs.Prelude.{◌≡◌, ℕ, ◌+◌, ◌*◌, ◌<◌, ◌≤◌, ◌==◌, Bool, true, false, List, [], ◌++◌, length, Some, None, is_some}
 use Rattle.nvme_entry.specs.declared.submission.Sqe.{Sqe}
 use Rattle.nvme_arbiter.specs.Limits.{highest_count}
+use Rattle.nvme_arbiter.specs.Lawful.{IsLawfulRun}
 use Rattle.nvme_admin.specs.declared.bounds.TheConstants.{MAX_REGIONS}
 use Rattle.nvme_admin.specs.declared.region.Region.{Region}
 use Rattle.nvme_log.specs.Limits.{max_outstanding}
@@ -10,6 +11,7 @@ use Rattle.nvme_log.specs.Queues.{Deletion, pending, is_serving, qid_of_region, 
 use Rattle.nvme_log.specs.Places.{fetched, entry_at}
 use Rattle.nvme_log.specs.declared.place.Place.{Place}
 use Rattle.nvme_log.specs.Completions.{posted_to}
+use Rattle.nvme_log.specs.Histories.{arbitration_of}
 use Rattle.nvme_log.specs.Answers.{Answer, outcome_answer}
 use Rattle.nvme_log.specs.Account.{Deletes, latest_admin_place}
 use Rattle.nvme_log.specs.declared.event.Event.{Event}
@@ -93,6 +95,8 @@ pub record StandsBut (rules : FrontRules) (late : Bool) (notes : Notes) (rest : 
   pub answers : AnswersByOutcome rules notes
   pub untaken : handed notes ≡ taken notes ++ rest
   pub within : EachNote (IsFetchedWithin highest_count) notes
+  -- each pick was made without a limit
+  pub lawful : IsLawfulRun their.mechanism their.start.settings (arbitration_of (logged notes))
   pub pool : pool_size ≤ length e.slots.items
   pub window : window_limit e.controller ≡ highest_count
   pub own : own_of e.controller ≡ no_own

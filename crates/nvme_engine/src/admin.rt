@@ -152,7 +152,7 @@ impl Engine {
         ensures stands { (rules : FrontRules) (late : Bool) (notes : Notes) (pick : Pick) → StandsAt rules late notes self.old → MayPick rules notes pick → pick.qid ≡ 0 → HasCarriedOut rules late notes pick log.old.items log.new.items self.new }
     {
         let ending = self.ending();
-        let Step::Done(effect, _) = self.controller.pick(&mut self.slots) else {
+        let Step::Done(effect, _) = self.controller.pick(&mut self.slots, HIGHEST_COUNT) else {
             return;
         };
         log_effect(log, &effect, &ending);

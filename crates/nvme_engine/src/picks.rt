@@ -1,7 +1,7 @@
 // The picks of an engine. (Base Specification, Command Arbitration)
 use crate::engine::Engine;
 use arrayvec::ArrayVec;
-use nvme_arbiter::{Pick, QUEUE_LIMIT, Seen};
+use nvme_arbiter::{HIGHEST_COUNT, Pick, QUEUE_LIMIT, Seen};
 
 impl Engine {
     ghost use Rattle.std.specs.Prelude.{◌≡◌, ◌≢◌, ℕ, ◌+◌, Bool, Some, nat_lt};
@@ -44,6 +44,6 @@ impl Engine {
         requires engine { IsEngine self.old }
         ensures stands { (rules : FrontRules) (late : Bool) (notes : Notes) (pick : Pick) → StandsAt rules late notes self.old → MayPick rules notes pick → pick.qid ≢ 0 → HasPicked rules late notes pick self.new }
     {
-        self.controller.pick(&mut self.slots);
+        self.controller.pick(&mut self.slots, HIGHEST_COUNT);
     }
 }

@@ -1,25 +1,15 @@
 -- The answers of admin commands are foreseen by the commands before them.
 use Rattle.std.proofs.Common.{◌≡◌, ℕ, zero, suc, ◌+◌, ◌<◌, ◌≤◌, ◌==◌, ◌&&◌, nat_lt, Bool, true, false, not, if◌then◌else◌, List, [], ◌∷◌, ◌++◌, length, map, take, drop, reverse, filter, Option, Some, None, refl, sym, ap, ◌∙◌, subst, arith, add-one, append_assoc, ◌⊎◌, inl, inr}
-use Rattle.std.specs.Prelude.{slice_get, slice_index_or, option_and_then, All}
-use Rattle.std.proofs.lemmas.Bool.{eq-eqb, ne_eqb, cases_eq, ltb-true, and_parts, false_from_ne_true, cond-true}
+use Rattle.std.specs.Prelude.{slice_get, option_and_then}
+use Rattle.std.proofs.lemmas.Bool.{eq-eqb, ne_eqb, cases_eq, ltb-true, false_from_ne_true}
 use Rattle.std.proofs.lemmas.Option.{none-some, same_Some, slice_get_within}
-use Rattle.std.proofs.lemmas.List.Elements.{All-filter, filter_passes}
 use Rattle.std.proofs.lemmas.List.{append-nil, take-append-le, reverse-append}
 use Rattle.nvme_entry.specs.declared.submission.Sqe.{Sqe}
 use Rattle.nvme_entry.specs.declared.completion.Cqe.{Cqe}
-use Rattle.nvme_arbiter.specs.Settings.{ArbitrationFields, burst_of, IsLevel}
-use Rattle.nvme_arbiter.specs.Observation.{IsObservation, IsSeen, ready, ready_of, is_class}
-use Rattle.nvme_arbiter.specs.History.{History, settings_after, last_served, last_served_of, used_in_round}
-use Rattle.nvme_arbiter.specs.Next.{next}
-use Rattle.nvme_arbiter.specs.Rules.{within_burst}
-use Rattle.nvme_arbiter.specs.Lawful.{lawful_pick, IsLawfulRun}
-use Rattle.nvme_arbiter.specs.declared.settings.Class.{Class}
-use Rattle.nvme_arbiter.specs.declared.settings.Class.TheVariants.{Admin, Urgent}
-use Rattle.nvme_arbiter.specs.declared.settings.Mechanism.{Mechanism}
-use Rattle.nvme_arbiter.specs.declared.settings.Mechanism.TheVariants.{RoundRobin, Weighted}
+use Rattle.nvme_arbiter.specs.Lawful.{IsLawfulRun}
 use Rattle.nvme_arbiter.specs.declared.pick.Seen.{Seen}
 use Rattle.nvme_arbiter.specs.declared.pick.Pick.{Pick}
-use Rattle.nvme_arbiter.proofs.Choices.{take_from_some, next_is_one, same_class, IsFrom, Choice, of_admin, of_urgent, of_level, weighted_some}
+use Rattle.nvme_arbiter.proofs.PickLaws.{whole_is_limited}
 use Rattle.nvme_admin.specs.Changes.{IsDue, MayBeginDelete}
 use Rattle.nvme_admin.specs.Checks.{is_open}
 use Rattle.nvme_admin.specs.History.{TableHistory, EntryApplied, DeletionFinished}
@@ -45,6 +35,7 @@ use Rattle.nvme_log.specs.Dispatches.{place_at}
 use Rattle.nvme_log.specs.Laws.{as_open, StartsWithAdmin, QueuesAre}
 use Rattle.nvme_log.specs.Foreseen.{finished_after, foreseen, AnswersAreForeseen}
 use Rattle.nvme_log.proofs.AbortAnswers.{entry-stays}
+use Rattle.nvme_log.proofs.AdminPicks.{one_of_admin}
 use Rattle.nvme_log.proofs.Fates.{length-upto}
 use Rattle.nvme_log.proofs.LoadedPlaces.{are-counted}
 use Rattle.nvme_log.proofs.LogLengths.{TakesWaiting, TakesSome, each-takes}
@@ -54,48 +45,6 @@ use Rattle.nvme_log.proofs.Promise.{first-is_made}
 use Rattle.nvme_log.proofs.Tables.{sync}
 use Rattle.nvme_log.proofs.Turns.{in-waits, closing_not_abort, begun-by, admin-stays, region-io, admin-unaborted}
 use Rattle.nvme_log.proofs.Waiting.{left, unaborted, waiting_is-drop, picked-pick, picked-pick_other}
-
--- ---- one command is taken of the admin queue
--- a ready queue of a class, as it was seen
-record IsReadyOf (class : Class) (s : Seen) : Type 0 where
-  pub seen : IsSeen s
-  pub class_is : class ≡ s.class
-
--- each ready queue of a class is one that was seen, in that class
-ready_ones : (class : Class) (seen : List Seen) → All IsSeen seen → All (IsReadyOf class) (ready_of class seen)
-ready_ones class seen a = λ k d h.
-    let s : Seen = slice_index_or (ready_of class seen) k d in
-    let parts = and_parts (is_class class s.class) (nat_lt 0 s.count) (filter_passes (λ (t : Seen). is_class class t.class && nat_lt 0 t.count) seen k d h) in
-    record {
-      seen = All-filter (λ (t : Seen). is_class class t.class && nat_lt 0 t.count) IsSeen seen a k d h;
-      class_is = same_class class s.class parts.0;
-    }
-
--- a pick of a class other than that of the admin queue is of another queue
-not_of_admin : (last : Class → Option ℕ) (seen : List Seen) (class : Class) (fresh : Bool) (number : Seen → ℕ) (p : Pick)
-    → IsObservation seen → IsFrom last seen class fresh number p → p.qid ≡ 0 → class ≡ Admin
-not_of_admin last seen class fresh number p o f zero_is =
-    let is = next_is_one (IsReadyOf class) (last class) (ready_of class seen) f.queue (ready_ones class seen o.each) f.next_is in
-    is.class_is ∙ is.seen.admin.1 (sym f.taken_is.qid ∙ zero_is)
-
--- one command is taken of the admin queue, by the weighted mechanism
-one_by_choice : (s : ArbitrationFields) (last : Class → Option ℕ) (used : Class → ℕ) (seen : List Seen) (p : Pick)
-    → IsObservation seen → Choice s last used seen p → p.qid ≡ 0 → p.n ≡ 1
-one_by_choice s last used seen p o (of_admin f) z = f.taken_is.n
-one_by_choice s last used seen p o (of_urgent f) z =
-    let e : Urgent ≡ Admin = not_of_admin last seen Urgent false _ p o f z in
-    absurd (cc)
-one_by_choice s last used seen p o (of_level fresh level f) z = absurd (subst IsLevel (not_of_admin last seen level fresh _ p o f.from z) f.level_is)
-
-one_of_admin : (m : Mechanism) (first : ArbitrationFields) (past : History) (seen : List Seen) (p : Pick)
-    → IsObservation seen → lawful_pick m first past seen ≡ Some p → p.qid ≡ 0 → p.n ≡ 1
-one_of_admin RoundRobin first past seen p o h z =
-    let s : ArbitrationFields = settings_after first past in
-    let t = take_from_some false (λ (q : Seen). if q.qid == 0 then 1 else within_burst (burst_of s) q.count) (next (last_served past) (ready seen)) p h in
-    t.2.n ∙ cond-true (t.0.qid == 0) 1 (within_burst (burst_of s) t.0.count) (eq-eqb t.0.qid 0 (sym t.2.qid ∙ z))
-one_of_admin Weighted first past seen p o h z =
-    one_by_choice (settings_after first past) (λ c. last_served_of c past) (λ l. used_in_round l past) seen p o
-    (weighted_some (settings_after first past) (λ c. last_served_of c past) (λ l. used_in_round l past) seen p h) z
 
 -- ---- lists
 keep_all : (xs : List ℕ) → filter (λ (i : ℕ). true) xs ≡ xs
@@ -387,7 +336,7 @@ module _ (rules : FrontRules) where
         let done = is-done past h.0 d.0 (stage-of past h.1 d.1 s.1 o.1 l.2) in
         let takes : Each TakesSome (event.Pick seen pick ∷ past) = each-takes rules (event.Pick seen pick ∷ past) s o l in
         elim (cases_eq pick.qid 0) [
-          | inl admin ↦ picked-stage starts past seen pick h.1 h.0 admin (one_of_admin rules.mechanism rules.start.settings (arbitration_of past) seen pick l.0 l.1 admin) takes.0 done
+          | inl admin ↦ picked-stage starts past seen pick h.1 h.0 admin (one_of_admin rules.mechanism rules.start.settings (arbitration_of past) seen pick l.0 (whole_is_limited rules.mechanism rules.start.settings (arbitration_of past) seen pick l.0 l.1) admin) takes.0 done
           | inr io ↦ io-stage past seen pick h.1 io done
         ]
     stage-of (Fetch region index entry ∷ past) h d s o l =
@@ -446,7 +395,7 @@ module _ (rules : FrontRules) where
       | inl admin ↦
           let done = is-done past h.0 d.0 (stage-of past h.1 d.1 s.1 o.1 l.2) in
           let takes : Each TakesSome (event.Pick seen pick ∷ past) = each-takes rules (event.Pick seen pick ∷ past) s o l in
-          let one = one_of_admin rules.mechanism rules.start.settings (arbitration_of past) seen pick l.0 l.1 admin in
+          let one = one_of_admin rules.mechanism rules.start.settings (arbitration_of past) seen pick l.0 (whole_is_limited rules.mechanism rules.start.settings (arbitration_of past) seen pick l.0 l.1) admin in
           let first = oldest starts past seen pick h.1 h.0 admin one takes.0 done in
           let more = picked-pick past seen pick 0 (own-region past pick.qid h.1 admin) in
           let turn : table_before rules (event.Pick seen pick ∷ past) k ≡ (if picked past 0 == k then table_history rules past else table_before rules past k) =

@@ -30,6 +30,7 @@ pub mod Tickets
 pub mod PickedOnce
 pub mod BrokenPromises
 pub mod LogLengths
+pub mod AdminPicks
 pub mod Foreseen
 pub mod AnswerLaws
 pub mod AnswerExamples

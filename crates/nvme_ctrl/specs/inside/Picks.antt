@@ -1,7 +1,8 @@
 -- When a controller can make its next pick (profile).
-use Rattle.std.specs.Prelude.{◌≡◌, ℕ, ◌+◌, ◌≤◌, ◌==◌, ◌&&◌, if◌then◌else◌, List, Some}
+use Rattle.std.specs.Prelude.{◌≡◌, ℕ, ◌+◌, ◌≤◌, ◌==◌, ◌&&◌, if◌then◌else◌, List, Some, IsSomeAnd}
 use Rattle.nvme_entry.specs.declared.submission.Sqe.{Sqe}
 use Rattle.nvme_arbiter.specs.Layout.{board_of}
+use Rattle.nvme_arbiter.specs.Lawful.{IsCutOf}
 use Rattle.nvme_arbiter.specs.Queues.{seen_of}
 use Rattle.nvme_arbiter.specs.Standing.{pick_of}
 use Rattle.nvme_arbiter.specs.declared.pick.Pick.{Pick}
@@ -24,5 +25,6 @@ places_in c slots pick = if pick.qid == 0 && is_abort_entry (Some (oldest_entry 
 pub record CanPickNow (c : Controller) (slots : List Slot) (pick : Pick) : Type 0 where
   pub front : IsController c slots
   pub none_picked : c.picked ≡ 0
-  pub next : pick_of (board_of c.board).kept (seen_of (board_of c.board).queues) ≡ Some pick
+  pub next : IsSomeAnd (pick_of (board_of c.board).kept (seen_of (board_of c.board).queues)) (λ whole. IsCutOf whole pick)
+  pub some : 1 ≤ pick.n
   pub places : places_in c slots pick + c.outstanding ≤ max_outstanding

@@ -2,7 +2,7 @@
 use Rattle.std.specs.Prelude.{◌≡◌, ℕ, ◌+◌, ◌≤◌, ◌==◌, true, false, if◌then◌else◌, List, [], ◌∷◌, length, drop, slice_get, Option, Some, None, is_some}
 use Rattle.nvme_entry.specs.Status.{StatusCode, abort_requested, aborted_by_deletion}
 use Rattle.nvme_arbiter.specs.History.{Picked}
-use Rattle.nvme_arbiter.specs.Lawful.{lawful_pick}
+use Rattle.nvme_arbiter.specs.Lawful.{IsLimitedPick}
 use Rattle.nvme_arbiter.specs.Board.{BoardView, BoardStandsAt, queues_after}
 use Rattle.nvme_arbiter.specs.Queues.{seen_of}
 use Rattle.nvme_arbiter.specs.declared.pick.Pick.{Pick}
@@ -29,7 +29,7 @@ pub record CanPick (rules : FrontRules) (past : Past) (k : Content) (queue : Que
   pub is_open : open_sq past pick.qid ≡ Some queue
   pub enough : pick.n ≤ length (k.sq queue.region).window
   pub places : k.outstanding + pick.n ≤ max_outstanding
-  pub lawful : lawful_pick rules.mechanism rules.start.settings (arbitration_of past) (seen_of k.board.queues) ≡ Some pick
+  pub lawful : IsLimitedPick rules.mechanism rules.start.settings (arbitration_of past) (seen_of k.board.queues) pick
   pub board_queues : board.queues ≡ queues_after k.board.queues pick
   pub board_stands : BoardStandsAt rules.mechanism rules.start.settings (Picked (seen_of k.board.queues) pick ∷ arbitration_of past) board
 

@@ -3,7 +3,7 @@ use Rattle.std.specs.Prelude.{◌≡◌, ℕ, zero, suc, ◌+◌, ◌≤◌, ◌
 use Rattle.nvme_entry.specs.Status.{success}
 use Rattle.nvme_entry.specs.declared.submission.Sqe.{Sqe}
 use Rattle.nvme_arbiter.specs.Limits.{highest_qid, highest_count, queue_limit}
-use Rattle.nvme_arbiter.specs.Lawful.{IsLawfulRun}
+use Rattle.nvme_arbiter.specs.Lawful.{IsLimitedRun}
 use Rattle.nvme_arbiter.specs.Board.{BoardStandsAt}
 use Rattle.nvme_arbiter.specs.Queues.{queue_at}
 use Rattle.nvme_arbiter.specs.declared.pick.OpenQueue.{OpenQueue}
@@ -220,7 +220,7 @@ pub record HoldsLives (past : Past) (k : Content) : Type 0 where
 -- ---- arbitration and the table
 pub record HoldsArbitration (rules : FrontRules) (past : Past) (k : Content) : Type 0 where
   pub stands : BoardStandsAt rules.mechanism rules.start.settings (arbitration_of past) k.board
-  pub lawful : IsLawfulRun rules.mechanism rules.start.settings (arbitration_of past)
+  pub lawful : IsLimitedRun rules.mechanism rules.start.settings (arbitration_of past)
 
 -- the identifiers of the queues of a table are within their limit
 abbrev pub FewQueues : QueueTable → Type 0

@@ -1,6 +1,6 @@
 use Rattle.std.proofs.Common.{ℕ, arith, inl, inr, below_more}
 use Rattle.nvme_ctrl.specs.kept.State.{IsFinishable}
-use Rattle.nvme_ctrl.proofs.FinishCall.{finishable_at, none_finishes}
+use Rattle.nvme_ctrl.proofs.FinishCall.{finishable_at, finishable_was, none_finishes}
 use Rattle.nvme_ctrl.proofs.state.Controller.can_finish.Goals as goal
 
 -- the queues before, and this one
@@ -20,3 +20,7 @@ pub returns-then-is_finishable-clause-some : goal.returns-then-is_finishable-cla
 returns-then-is_finishable-clause-some c = λ rules late notes pool s.
     finishable_at rules late notes c.args.self.now pool s c.loop-qid.qid
     (record { pending = c.is_finishable.ensures.pending c.if-is_finishable.true; posted = c.is_finishable.ensures.posted c.if-is_finishable.true })
+
+pub returns-then-is_finishable-clause-first : goal.returns-then-is_finishable-clause-first
+returns-then-is_finishable-clause-first c = λ rules late notes pool s q below is.
+    c.loop-qid.invariant q below (finishable_was rules late notes c.args.self.now pool s q is)

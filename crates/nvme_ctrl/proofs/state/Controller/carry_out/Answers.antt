@@ -55,7 +55,7 @@ returns-in-Done c = record {
       carried_as rules late notes v a c.args.slots.now c.args.tag c.args.effect.now did c.end.new.self c.end.new.slots c.in-Done.is (λ h.
       let is = told_plain h.before.table.placing this v refl h.told in
       carried_by rules late notes c.end.new.self c.end.new.slots v this is
-      (ended_plain rules late notes a c.args.slots.now c.args.tag did this (applied_as rules late notes a c.args.slots.now c.args.tag did v this is h) c.in-Done.status c.in-Done.dw0 tt refl
+      (ended_plain rules late notes a c.args.slots.now c.args.tag did this (applied_as rules late notes a c.args.slots.now c.args.tag did v this is h) c.in-Done.status c.in-Done.dw0 tt refl refl
       c.end.new.self c.end.new.slots c.end.ensures.kept));
 }
 

@@ -42,3 +42,6 @@ returns-clause-front c =
 pub returns-in_err-qid-clause-told : goal.returns-in_err-qid-clause-told
 returns-in_err-qid-clause-told c = λ rules late notes s _.
     c.in_err-qid.ensures.none rules late notes c.args.slots.now s refl
+
+pub returns-clause-first : goal.returns-clause-first
+returns-clause-first c = λ rules late notes s. c.in_ok-qid.ensures.first rules late notes c.args.slots.now s

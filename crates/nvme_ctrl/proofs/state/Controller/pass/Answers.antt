@@ -2,9 +2,8 @@
 use Rattle.std.proofs.Common.{◌≡◌, ℕ, ◌+◌, sym, ap, subst, ◌∙◌, arith}
 use Rattle.std.specs.Prelude.{slice_set, min}
 use Rattle.nvme_ctrl.specs.Notes.{logged}
-use Rattle.nvme_ctrl.specs.Steps.{HasStepped}
+use Rattle.nvme_ctrl.specs.Steps.{HasPassed}
 use Rattle.nvme_ctrl.specs.inside.Picks.{oldest_entry}
-use Rattle.nvme_ctrl.specs.declared.picks.Step.TheVariants as step
 use Rattle.nvme_ctrl.specs.declared.state.SqState.{SqState}
 use Rattle.nvme_ctrl.specs.declared.state.Controller.{Controller}
 use Rattle.nvme_ctrl.proofs.AdminCall.{admin_places, admin_one}
@@ -20,7 +19,7 @@ returns c = record {
   stands = λ rules late notes s.
       let self : Controller = c.args.self.now in
       let can = c.requires.can in
-      let lawful = next_lawful self c.args.pick can.next in
+      let lawful = next_lawful self c.args.pick can.next can.some in
       let one = admin_one rules late notes self c.args.slots.now s c.args.pick lawful c.requires.of_admin in
       let done = pass-call rules late notes self c.args.slots.now s can.none_picked c.args.pick c.keep.new.self
       lawful c.keep.ensures.stands c.keep.ensures.queues c.keep.ensures.is_arbiter can.places
@@ -30,6 +29,6 @@ returns c = record {
       c.put_sq.ensures
       ∙ ap (λ (u : ℕ). record self { board = c.keep.new.self; sqs = slice_set self.sqs 0 (record c.sq-sq.result { unposted = u }) }) unposted
       ∙ ap (λ (q : SqState). record self { board = c.keep.new.self; sqs = slice_set self.sqs 0 (record q { unposted = min (q.unposted + 1) 65535 }) }) c.sq-sq.ensures in
-      subst (λ (o : ℕ). HasStepped rules late notes (step.Passed c.args.pick) (record c.put_sq.new.self { outstanding = o; picked = 1; picked_qid = 0 }) c.args.slots.now) (sym c.saturating_add-self.ensures)
-      (subst (λ (x : Controller). HasStepped rules late notes (step.Passed c.args.pick) (record x { outstanding = min (x.outstanding + 1) 65535; picked = 1; picked_qid = 0 }) c.args.slots.now) (sym put) done);
+      subst (λ (o : ℕ). HasPassed rules late notes c.args.pick (record c.put_sq.new.self { outstanding = o; picked = 1; picked_qid = 0 }) c.args.slots.now) (sym c.saturating_add-self.ensures)
+      (subst (λ (x : Controller). HasPassed rules late notes c.args.pick (record x { outstanding = min (x.outstanding + 1) 65535; picked = 1; picked_qid = 0 }) c.args.slots.now) (sym put) done);
 }

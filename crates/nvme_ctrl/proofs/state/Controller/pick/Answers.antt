@@ -1,14 +1,16 @@
 use Rattle.std.specs.Prelude.{option_map}
-use Rattle.std.proofs.Common.{◌-◌, ◌<◌, Bool, ap, sym, ◌∙◌, Option, Some, subst, arith}
+use Rattle.std.proofs.Common.{◌-◌, ◌<◌, Bool, inl, inr, refl, ap, sym, ◌∙◌, Option, Some, subst, arith}
 use Rattle.nvme_arbiter.specs.declared.pick.Pick.{Pick}
+use Rattle.nvme_arbiter.specs.Lawful.{cut}
 use Rattle.nvme_log.specs.Limits.{max_outstanding}
 use Rattle.nvme_ctrl.specs.Notes.{logged}
 use Rattle.nvme_ctrl.specs.Steps.{IsNextPick}
 use Rattle.nvme_ctrl.specs.inside.Picks.{places_in}
 use Rattle.nvme_ctrl.specs.Own.{is_own}
-use Rattle.nvme_ctrl.proofs.FullCall.{lacks_places, entry_is}
+use Rattle.nvme_ctrl.proofs.MayPick.{can_pick, next_within, some_room}
+use Rattle.nvme_ctrl.proofs.FullCall.{lacks_room, entry_is}
 use Rattle.nvme_ctrl.proofs.CommandVerdicts.{IsCommanded}
-use Rattle.nvme_ctrl.proofs.PickCall.{next_is, is_busy}
+use Rattle.nvme_ctrl.proofs.PickCall.{next_is, is_busy, isnt_busy}
 use Rattle.nvme_ctrl.specs.declared.picks.Step.{Step}
 use Rattle.nvme_ctrl.proofs.NamedQueues.{NamesIn}
 use Rattle.nvme_ctrl.proofs.state.Controller.pick.Goals as goal
@@ -20,13 +22,19 @@ pub returns-in_default-clause-stands : goal.returns-in_default-clause-stands
 returns-in_default-clause-stands c rules late notes s =
     (s, subst (λ (o : Option Pick). IsNextPick rules notes o) c.in_default.is (next_is rules late notes c.args.self.now c.args.slots.now s c.peek.result c.peek.ensures.lawful))
 
+pub returns-then-room-eq0-clause-stands : goal.returns-then-room-eq0-clause-stands
+returns-then-room-eq0-clause-stands c rules late notes s =
+    let next : IsNextPick rules notes (Some c.in-Some.whole) =
+    subst (λ (o : Option Pick). IsNextPick rules notes o) c.in-Some.is (next_is rules late notes c.args.self.now c.args.slots.now s c.peek.result c.peek.ensures.lawful) in
+    (s, lacks_room rules late notes c.args.self.now c.args.slots.now s c.if-self-ne0.false c.in-Some.whole next c.args.room (cut c.args.room c.in-Some.whole) refl (inl c.if-room-eq0.true))
+
 pub returns-then-places_for-saturating_sub-clause-stands : goal.returns-then-places_for-saturating_sub-clause-stands
 returns-then-places_for-saturating_sub-clause-stands c rules late notes s =
-    let next : IsNextPick rules notes (Some c.in-Some.pick) =
+    let next : IsNextPick rules notes (Some c.in-Some.whole) =
     subst (λ (o : Option Pick). IsNextPick rules notes o) c.in-Some.is (next_is rules late notes c.args.self.now c.args.slots.now s c.peek.result c.peek.ensures.lawful) in
-    let lacking : max_outstanding - c.args.self.now.outstanding < places_in c.args.self.now c.args.slots.now c.in-Some.pick =
+    let lacking : max_outstanding - c.args.self.now.outstanding < places_in c.args.self.now c.args.slots.now c.up_to-pick.result =
     (let a = c.if-places_for-saturating_sub.true in let b = c.places_for.ensures in let d = c.saturating_sub.ensures in omega (arith, a, b, d)) in
-    (s, lacks_places rules late notes c.args.self.now c.args.slots.now s c.if-self-ne0.false c.in-Some.pick next lacking)
+    (s, lacks_room rules late notes c.args.self.now c.args.slots.now s c.if-self-ne0.false c.in-Some.whole next c.args.room c.up_to-pick.result c.up_to-pick.ensures (inr lacking))
 
 pub returns-else-is_own-clause-front : goal.returns-else-is_own-clause-front
 returns-else-is_own-clause-front c =
@@ -38,7 +46,7 @@ pub returns-then-pick-ne0-clause-front : goal.returns-then-pick-ne0-clause-front
 returns-then-pick-ne0-clause-front c =
     let was = c.requires.front in
     let step = c.pick_io.ensures.stands was.rules was.late was.notes was.stands in
-    record { rules = was.rules; late = was.late; notes = _; stands = step.1 }
+    record { rules = was.rules; late = was.late; notes = _; stands = step }
 
 pub returns-then-is_own-clause-front : goal.returns-then-is_own-clause-front
 returns-then-is_own-clause-front c =
@@ -48,16 +56,16 @@ returns-then-is_own-clause-front c =
 
 pub returns-then-is_own-clause-passed : goal.returns-then-is_own-clause-passed
 returns-then-is_own-clause-passed c rules late notes s given is =
-    let next : IsNextPick rules notes (Some c.in-Some.pick) =
+    let next : IsNextPick rules notes (Some c.in-Some.whole) =
     subst (λ (o : Option Pick). IsNextPick rules notes o) c.in-Some.is (next_is rules late notes c.args.self.now c.args.slots.now s c.peek.result c.peek.ensures.lawful) in
-    ap (option_map (is_own c.args.self.now.own (logged notes))) (sym (entry_is rules late notes c.args.self.now c.args.slots.now s c.if-self-ne0.false c.in-Some.pick next c.if-pick-ne0.false))
+    ap (option_map (is_own c.args.self.now.own (logged notes))) (sym (entry_is rules late notes c.args.self.now c.args.slots.now s c.if-self-ne0.false c.in-Some.whole next (sym (ap (λ (p : Pick). p.qid) c.up_to-pick.ensures) ∙ c.if-pick-ne0.false)))
     ∙ ap (λ (b : Bool). Some b) (sym (c.is_own.ensures rules late notes s c.if-self-ne0.false) ∙ c.if-is_own.true)
 
 pub returns-else-is_own-clause-carried_out : goal.returns-else-is_own-clause-carried_out
 returns-else-is_own-clause-carried_out c rules late notes s given entry is =
-    let next : IsNextPick rules notes (Some c.in-Some.pick) =
+    let next : IsNextPick rules notes (Some c.in-Some.whole) =
     subst (λ (o : Option Pick). IsNextPick rules notes o) c.in-Some.is (next_is rules late notes c.args.self.now c.args.slots.now s c.peek.result c.peek.ensures.lawful) in
-    ap (option_map (is_own c.args.self.now.own (logged notes))) (sym (entry_is rules late notes c.args.self.now c.args.slots.now s c.if-self-ne0.false c.in-Some.pick next c.if-pick-ne0.false))
+    ap (option_map (is_own c.args.self.now.own (logged notes))) (sym (entry_is rules late notes c.args.self.now c.args.slots.now s c.if-self-ne0.false c.in-Some.whole next (sym (ap (λ (p : Pick). p.qid) c.up_to-pick.ensures) ∙ c.if-pick-ne0.false)))
     ∙ ap (λ (b : Bool). Some b) (sym (c.is_own.ensures rules late notes s c.if-self-ne0.false) ∙ c.if-is_own.false)
 
 pub pass-requires-clause-own : goal.pass-requires-clause-own
@@ -70,3 +78,48 @@ returns-else-is_own-clause-names c rules late notes s on effect entry is =
 pub returns-else-is_own-clause-commanded : goal.returns-else-is_own-clause-commanded
 returns-else-is_own-clause-commanded c rules late notes s effect entry is =
     subst (λ (z : Step). IsCommanded z) is (c.pick_admin-effect.ensures.commanded rules late notes s)
+
+pub pick_io-requires-clause-can : goal.pick_io-requires-clause-can
+pick_io-requires-clause-can c =
+    let a = c.if-places_for-saturating_sub.false in
+    let b = c.places_for.ensures in
+    let d = c.saturating_sub.ensures in
+    can_pick c.args.self.now c.args.slots.now c.in-Some.whole c.up_to-pick.result c.args.room c.requires.front c.if-self-ne0.false (sym c.peek.ensures.by_what_is_kept ∙ c.in-Some.is) c.up_to-pick.ensures (some_room c.args.room c.if-room-eq0.false) (omega (arith, a, b, d))
+
+pub pass-requires-clause-can : goal.pass-requires-clause-can
+pass-requires-clause-can c =
+    let a = c.if-places_for-saturating_sub.false in
+    let b = c.places_for.ensures in
+    let d = c.saturating_sub.ensures in
+    can_pick c.args.self.now c.args.slots.now c.in-Some.whole c.up_to-pick.result c.args.room c.requires.front c.if-self-ne0.false (sym c.peek.ensures.by_what_is_kept ∙ c.in-Some.is) c.up_to-pick.ensures (some_room c.args.room c.if-room-eq0.false) (omega (arith, a, b, d))
+
+pub pick_admin-effect-requires-clause-can : goal.pick_admin-effect-requires-clause-can
+pick_admin-effect-requires-clause-can c =
+    let a = c.if-places_for-saturating_sub.false in
+    let b = c.places_for.ensures in
+    let d = c.saturating_sub.ensures in
+    can_pick c.args.self.now c.args.slots.now c.in-Some.whole c.up_to-pick.result c.args.room c.requires.front c.if-self-ne0.false (sym c.peek.ensures.by_what_is_kept ∙ c.in-Some.is) c.up_to-pick.ensures (some_room c.args.room c.if-room-eq0.false) (omega (arith, a, b, d))
+
+pub returns-then-pick-ne0-clause-stands : goal.returns-then-pick-ne0-clause-stands
+returns-then-pick-ne0-clause-stands c rules late notes s =
+    let next : IsNextPick rules notes (Some c.in-Some.whole) =
+    subst (λ (o : Option Pick). IsNextPick rules notes o) c.in-Some.is (next_is rules late notes c.args.self.now c.args.slots.now s c.peek.result c.peek.ensures.lawful) in
+    (next_within rules notes c.args.room c.in-Some.whole c.up_to-pick.result next c.up_to-pick.ensures, c.pick_io.ensures.stands rules late notes s)
+
+pub returns-in_default-clause-taken : goal.returns-in_default-clause-taken
+returns-in_default-clause-taken c rules late notes s busy = absurd (isnt_busy rules late notes c.args.self.now c.args.slots.now s c.if-self-ne0.false busy)
+
+pub returns-then-room-eq0-clause-taken : goal.returns-then-room-eq0-clause-taken
+returns-then-room-eq0-clause-taken c rules late notes s busy = absurd (isnt_busy rules late notes c.args.self.now c.args.slots.now s c.if-self-ne0.false busy)
+
+pub returns-then-places_for-saturating_sub-clause-taken : goal.returns-then-places_for-saturating_sub-clause-taken
+returns-then-places_for-saturating_sub-clause-taken c rules late notes s busy = absurd (isnt_busy rules late notes c.args.self.now c.args.slots.now s c.if-self-ne0.false busy)
+
+pub returns-then-pick-ne0-clause-taken : goal.returns-then-pick-ne0-clause-taken
+returns-then-pick-ne0-clause-taken c rules late notes s busy = absurd (isnt_busy rules late notes c.args.self.now c.args.slots.now s c.if-self-ne0.false busy)
+
+pub returns-then-is_own-clause-taken : goal.returns-then-is_own-clause-taken
+returns-then-is_own-clause-taken c rules late notes s busy = absurd (isnt_busy rules late notes c.args.self.now c.args.slots.now s c.if-self-ne0.false busy)
+
+pub returns-else-is_own-clause-taken : goal.returns-else-is_own-clause-taken
+returns-else-is_own-clause-taken c rules late notes s busy = absurd (isnt_busy rules late notes c.args.self.now c.args.slots.now s c.if-self-ne0.false busy)

@@ -1,11 +1,10 @@
--- The pick of the board is the next pick.
 use Rattle.std.proofs.Common.{◌≡◌, ℕ, ◌+◌, sym, ap, subst, ◌∙◌}
 use Rattle.std.specs.Prelude.{slice_set, min}
-use Rattle.nvme_ctrl.specs.Steps.{HasStepped}
-use Rattle.nvme_ctrl.specs.declared.picks.Step.TheVariants as step
+use Rattle.nvme_ctrl.specs.Steps.{picked_notes}
+use Rattle.nvme_ctrl.specs.Standing.{Stands}
 use Rattle.nvme_ctrl.specs.declared.state.SqState.{SqState}
 use Rattle.nvme_ctrl.specs.declared.state.Controller.{Controller}
-use Rattle.nvme_ctrl.proofs.PickCall.{next_lawful, io_places, pick-call, picked_state}
+use Rattle.nvme_ctrl.proofs.PickCall.{next_lawful, io_places, pick-stands, picked_state}
 use Rattle.nvme_ctrl.proofs.state.Controller.pick_io.Goals as goal
 
 pub returns : goal.returns
@@ -17,14 +16,14 @@ returns c = record {
       let can = c.requires.can in
       let q : ℕ = c.args.pick.qid in
       let n : ℕ = c.args.pick.n in
-      let done = pick-call rules late notes self c.args.slots.now s can.none_picked c.args.pick c.keep.new.self
-      (next_lawful self c.args.pick can.next) c.keep.ensures.stands c.keep.ensures.queues c.keep.ensures.is_arbiter
+      let done = pick-stands rules late notes self c.args.slots.now s can.none_picked c.args.pick c.keep.new.self
+      (next_lawful self c.args.pick can.next can.some) c.keep.ensures.stands c.keep.ensures.queues c.keep.ensures.is_arbiter
       (io_places self c.args.slots.now c.args.pick c.requires.io can.places) c.requires.io in
       let unposted : c.saturating_add.result ≡ min (c.sq-sq.result.unposted + n) 65535 = c.saturating_add.ensures in
       let put : c.put_sq.new.self ≡ record self { board = c.keep.new.self; sqs = slice_set self.sqs q (picked_state self q n) } =
       c.put_sq.ensures
       ∙ ap (λ (u : ℕ). record self { board = c.keep.new.self; sqs = slice_set self.sqs q (record c.sq-sq.result { unposted = u }) }) unposted
       ∙ ap (λ (z : SqState). record self { board = c.keep.new.self; sqs = slice_set self.sqs q (record z { unposted = min (z.unposted + n) 65535 }) }) c.sq-sq.ensures in
-      subst (λ (o : ℕ). HasStepped rules late notes (step.Picked c.args.pick) (record c.put_sq.new.self { outstanding = o; picked = n; picked_qid = q }) c.args.slots.now) (sym c.saturating_add-self.ensures)
-      (subst (λ (x : Controller). HasStepped rules late notes (step.Picked c.args.pick) (record x { outstanding = min (x.outstanding + n) 65535; picked = n; picked_qid = q }) c.args.slots.now) (sym put) done);
+      subst (λ (o : ℕ). Stands rules late (picked_notes notes c.args.pick) (record c.put_sq.new.self { outstanding = o; picked = n; picked_qid = q }) c.args.slots.now) (sym c.saturating_add-self.ensures)
+      (subst (λ (x : Controller). Stands rules late (picked_notes notes c.args.pick) (record x { outstanding = min (x.outstanding + n) 65535; picked = n; picked_qid = q }) c.args.slots.now) (sym put) done);
 }

@@ -1,5 +1,6 @@
 -- The command of the pick is carried out, and what it makes is logged.
 use Rattle.std.proofs.Common.{◌≡◌, List, [], length, sym, ap, ◌∙◌, subst}
+use Rattle.nvme_arbiter.specs.Limits.{highest_count}
 use Rattle.nvme_ctrl.specs.Steps.{HasStepped}
 use Rattle.nvme_ctrl.specs.declared.picks.Step.{Step}
 use Rattle.nvme_ctrl.specs.declared.picks.Step.TheVariants as step
@@ -22,7 +23,7 @@ returns-in_default c = record {
       let stands = stands_with rules late notes [] e s c.deref_mut.result.now c.deref_mut.ensures.value in
       absurd (is_carried_out rules late notes e (written e c.pick.new.self c.pick.new.slots) s pick may
       (leaves e c.pick.new.self c.pick.new.slots c.pick.ensures.window c.pick.ensures.own size) admin c.pick.result
-      (subst (λ (xs : List Slot). HasStepped s.their s.their_late notes c.pick.result c.pick.new.self xs) (sym (slots_are e c.pick.new.self c.pick.new.slots size))
+      (subst (λ (xs : List Slot). HasStepped s.their s.their_late notes highest_count c.pick.result c.pick.new.self xs) (sym (slots_are e c.pick.new.self c.pick.new.slots size))
       (c.pick.ensures.stands s.their s.their_late notes stands))
       c.pick.ensures.io (c.pick.ensures.passed s.their s.their_late notes stands) c.in_default.not-Done);
 }
@@ -38,8 +39,8 @@ returns c = record {
       carried rules late notes e (written e c.pick.new.self c.pick.new.slots) s pick may
       (leaves e c.pick.new.self c.pick.new.slots c.pick.ensures.window c.pick.ensures.own size) admin c.args.log.now.items c.log_effect.new.log.items c.ending-ending.result
       (λ index oldest_entry oldest is. c.ending-ending.ensures rules late notes index oldest_entry s oldest is) did entry
-      (subst (λ (xs : List Slot). HasStepped s.their s.their_late notes (step.Done did entry) c.pick.new.self xs) (sym (slots_are e c.pick.new.self c.pick.new.slots size))
-      (subst (λ (z : Step). HasStepped s.their s.their_late notes z c.pick.new.self c.pick.new.slots) c.in-Done.is (c.pick.ensures.stands s.their s.their_late notes stands)))
+      (subst (λ (xs : List Slot). HasStepped s.their s.their_late notes highest_count (step.Done did entry) c.pick.new.self xs) (sym (slots_are e c.pick.new.self c.pick.new.slots size))
+      (subst (λ (z : Step). HasStepped s.their s.their_late notes highest_count z c.pick.new.self c.pick.new.slots) c.in-Done.is (c.pick.ensures.stands s.their s.their_late notes stands)))
       (c.pick.ensures.names s.their s.their_late notes stands (on_regions s.their s.alike.adds) did entry c.in-Done.is)
       (c.pick.ensures.commanded s.their s.their_late notes stands did entry c.in-Done.is) c.log_effect.ensures;
 }

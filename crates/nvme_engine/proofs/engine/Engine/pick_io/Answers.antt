@@ -1,4 +1,5 @@
 use Rattle.std.proofs.Common.{◌≡◌, List, [], length, sym, ap, ◌∙◌, subst}
+use Rattle.nvme_arbiter.specs.Limits.{highest_count}
 use Rattle.nvme_ctrl.specs.Steps.{HasStepped}
 use Rattle.nvme_ctrl.specs.declared.slot.Slot.{Slot}
 use Rattle.nvme_engine.specs.declared.engine.Engine.{Engine}
@@ -18,6 +19,6 @@ returns c = record {
       let stands = stands_with rules late notes [] e s c.deref_mut.result.now c.deref_mut.ensures.value in
       has_picked rules late notes e (written e c.pick.new.self c.pick.new.slots) s pick may
       (leaves e c.pick.new.self c.pick.new.slots c.pick.ensures.window c.pick.ensures.own size) io c.pick.result
-      (subst (λ (xs : List Slot). HasStepped s.their s.their_late notes c.pick.result c.pick.new.self xs) (sym (slots_are e c.pick.new.self c.pick.new.slots size))
+      (subst (λ (xs : List Slot). HasStepped s.their s.their_late notes highest_count c.pick.result c.pick.new.self xs) (sym (slots_are e c.pick.new.self c.pick.new.slots size))
       (c.pick.ensures.stands s.their s.their_late notes stands));
 }
