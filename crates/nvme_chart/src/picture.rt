@@ -282,7 +282,7 @@ impl Watch for Picture {
 
     fn watch(&mut self, number: u64, event: &TraceEvent) -> Result<(), TraceError> {
         match event {
-            TraceEvent::Pick { seen, pick } => self.note_pick(number, seen, pick),
+            TraceEvent::Pick { seen, pick, .. } => self.note_pick(number, seen, pick),
             TraceEvent::Set { settings } => {
                 self.note_set(*settings);
                 Ok(())

@@ -116,7 +116,7 @@ impl Chooser {
         let number = self.next;
         let reached = number <= self.selection.last;
         match event {
-            TraceEvent::Pick { seen, pick } => {
+            TraceEvent::Pick { seen, pick, .. } => {
                 self.next = more(number, 1);
                 reached
                     && self.selection.first <= number

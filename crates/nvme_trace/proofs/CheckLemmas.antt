@@ -4,7 +4,7 @@ use Rattle.std.specs.Prelude.{IfSome, IfOk, IfErr, Result, Err}
 use mathlib.Core.List.{reverse-cons, reverse-reverse}
 use Rattle.nvme_arbiter.specs.History.{ArbitrationEvent, Picked, Changed, History}
 use Rattle.nvme_trace.specs.Lines.{lines_of, numbered, told_lines, TakesTold, HasNoTold}
-use Rattle.nvme_trace.specs.Format.{head_of_line, event_by}
+use Rattle.nvme_trace.specs.Format.{head_of_line, event_by, room_of_line}
 use Rattle.nvme_trace.specs.Judged.{IsObserved, picks_of}
 use Rattle.nvme_trace.specs.Bases.{IsRunBy, IsAllowedBy, IsReasonBy, StandsBy, picks_by}
 use Rattle.nvme_trace.specs.declared.basis.Basis.{Basis}
@@ -21,41 +21,51 @@ use Rattle.nvme_trace.specs.declared.checks.Checked.{Checked}
 reverse_more : (line : ℕ × List ℕ) (lines rest : List (ℕ × List ℕ)) → reverse lines ++ line ∷ rest ≡ reverse (line ∷ lines) ++ rest
 reverse_more line lines rest = sym (append_assoc (reverse lines) (line ∷ []) rest) ∙ ap (λ (ls : List (ℕ × List ℕ)). ls ++ rest) (sym (reverse-cons line lines))
 
-run_more : (basis : Basis) (head : Head) (past : History) (e : ArbitrationEvent) → IsObserved e → IsAllowedBy basis head past e → IsRunBy basis head past → IsRunBy basis head (e ∷ past)
-run_more Profile head past (Picked seen pick) o l h = (o, l, h)
-run_more Profile head past (Changed settings) o l h = h
-run_more Specification head past (Picked seen pick) o l h = (o, l, h)
-run_more Specification head past (Changed settings) o l h = h
+run_more : (basis : Basis) (head : Head) (past : History) (e : ArbitrationEvent) (line : ℕ × List ℕ) (lines : List (ℕ × List ℕ)) → IsObserved e → IsAllowedBy basis head past (room_of_line line.1) e → IsRunBy basis head past lines
+    → IsRunBy basis head (e ∷ past) (line ∷ lines)
+run_more Profile head past (Picked seen pick) line lines o l h = (o, l, h)
+run_more Profile head past (Changed settings) line lines o l h = h
+run_more Specification head past (Picked seen pick) line lines o l h = (o, l, h)
+run_more Specification head past (Changed settings) line lines o l h = h
 
-run_first : (basis : Basis) (head : Head) → IsRunBy basis head []
-run_first Profile head = tt
-run_first Specification head = tt
+run_first : (basis : Basis) (head : Head) (lines : List (ℕ × List ℕ)) → IsRunBy basis head [] lines
+run_first Profile head lines = tt
+run_first Specification head lines = tt
+
+-- the text of the first of some lines
+abbrev first_text : List ℕ → List (ℕ × List ℕ) → List ℕ
+first_text other [] = other
+first_text other (line ∷ lines) = line.1
+
+pub same_text : (n : ℕ) (a b : List ℕ) (xs ys : List (ℕ × List ℕ)) → (n, a) ∷ xs ≡ (n, b) ∷ ys → a ≡ b
+same_text n a b xs ys e = ap (first_text a) e
 
 -- after the head
 pub judged_head : (basis : Basis) (text : List ℕ) (n : ℕ) (new : Option (List ℕ)) (head : Head) (judge : BasisJudge) → TakesTold (λ line. head_of_line line ≡ Ok head) 0 (Some text) n new → StandsBy basis head [] judge → picks_by judge ≡ 0 → JudgedUpTo basis text new n head judge
 judged_head basis text n None head judge t s p = t
 judged_head basis text n (Some rest) head judge (line, split, is) s p = record {
   past = [];
-  before = record { lines = (n, line) ∷ []; split = split; tells = ((n, line), refl, is); lawful = run_first basis head };
+  before = record { lines = (n, line) ∷ []; split = split; tells = ((n, line), refl, is); lawful = run_first basis head ((n, line) ∷ []) };
   stands = s;
   picks = p;
 }
 
 -- after one event more that is lawful
-pub judged_more : (basis : Basis) (text : List ℕ) (m : ℕ) (old : Option (List ℕ)) (n : ℕ) (new : Option (List ℕ)) (head : Head) (judge next : BasisJudge) (e : ArbitrationEvent)
-    → JudgedUpTo basis text old m head judge → TakesTold (λ line. event_by basis line ≡ Ok e) m old n new → IsObserved e
-    → ((past : History) → StandsBy basis head past judge → IsAllowedBy basis head past e)
+pub judged_more : (basis : Basis) (text : List ℕ) (m : ℕ) (old : Option (List ℕ)) (n : ℕ) (new : Option (List ℕ)) (quoted : List ℕ) (head : Head) (judge next : BasisJudge) (e : ArbitrationEvent)
+    → JudgedUpTo basis text old m head judge → TakesTold (λ line. event_by basis line ≡ Ok e) m old n new → TakesTold (λ line. line ≡ quoted) m old n new → IsObserved e
+    → ((past : History) → StandsBy basis head past judge → IsAllowedBy basis head past (room_of_line quoted) e)
     → ((past : History) → StandsBy basis head past judge → StandsBy basis head (e ∷ past) next)
     → picks_by next ≡ picks_by judge + picks_of e → JudgedUpTo basis text new n head next
-judged_more basis text m None n new head judge next e j t o l s p = absurd j
-judged_more basis text m (Some xs) n None head judge next e j t o l s p = absurd t
-judged_more basis text m (Some xs) n (Some ys) head judge next e j (line, split, is) o l s p = record {
+judged_more basis text m None n new quoted head judge next e j t q o l s p = absurd j
+judged_more basis text m (Some xs) n None quoted head judge next e j t q o l s p = absurd t
+judged_more basis text m (Some xs) n (Some ys) quoted head judge next e j (line, split, is) (one, split', same) o l s p = record {
   past = e ∷ j.past;
   before = record {
     lines = (n, line) ∷ j.before.lines;
     split = j.before.split ∙ ap (λ (ls : List (ℕ × List ℕ)). reverse j.before.lines ++ ls) split ∙ reverse_more (n, line) j.before.lines (numbered n (lines_of ys));
     tells = ((n, line), j.before.lines, refl, is, j.before.tells);
-    lawful = run_more basis head j.past e o (l j.past j.stands) j.before.lawful;
+    lawful = let there : line ≡ quoted = same_text n line one _ _ (sym split ∙ split') ∙ same in
+        run_more basis head j.past e (n, line) j.before.lines o (subst (λ (x : List ℕ). IsAllowedBy basis head j.past (room_of_line x) e) (sym there) (l j.past j.stands)) j.before.lawful;
   };
   stands = s j.past j.stands;
   picks = p ∙ ap (λ (n : ℕ). n + picks_of e) j.picks;
@@ -71,22 +81,14 @@ judged_all basis text (Some xs) number head judge picks j n p =
       head = head;
       past = j.past;
       tells = subst (TellsBy basis head j.past) back j.before.tells;
-      lawful = j.before.lawful;
+      lawful = subst (IsRunBy basis head j.past) back j.before.lawful;
       picks_are = p ∙ j.picks;
     }
-
--- the text of the first of some lines
-abbrev first_text : List ℕ → List (ℕ × List ℕ) → List ℕ
-first_text other [] = other
-first_text other (line ∷ lines) = line.1
-
-pub same_text : (n : ℕ) (a b : List ℕ) (xs ys : List (ℕ × List ℕ)) → (n, a) ∷ xs ≡ (n, b) ∷ ys → a ≡ b
-same_text n a b xs ys e = ap (first_text a) e
 
 -- at a pick that is not allowed
 pub judged_reason : (basis : Basis) (text : List ℕ) (m : ℕ) (old : Option (List ℕ)) (n : ℕ) (new : Option (List ℕ)) (line : ℕ) (quoted : List ℕ) (head : Head) (judge : BasisJudge) (e : ArbitrationEvent) (reason : Reason)
     → JudgedUpTo basis text old m head judge → TakesTold (λ line. event_by basis line ≡ Ok e) m old n new → TakesTold (λ line. line ≡ quoted) m old n new
-    → ((past : History) → StandsBy basis head past judge → IsReasonBy basis head past e reason)
+    → ((past : History) → StandsBy basis head past judge → IsReasonBy basis head past (room_of_line quoted) e reason)
     → line ≡ n → IsRefusedBy basis text line quoted reason
 judged_reason basis text m None n new line quoted head judge e reason j t q f is = absurd j
 judged_reason basis text m (Some xs) n None line quoted head judge e reason j t q f is = absurd t

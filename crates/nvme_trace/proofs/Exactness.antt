@@ -5,7 +5,7 @@ use Rattle.nvme_arbiter.specs.History.{ArbitrationEvent, Picked, Changed, Histor
 use Rattle.nvme_trace.specs.Taken.{IsTakenRun}
 use Rattle.nvme_arbiter.specs.Specified.{IsSpecifiedRun}
 use Rattle.nvme_trace.specs.Lines.{told_lines}
-use Rattle.nvme_trace.specs.Format.{head_of_line, event_by}
+use Rattle.nvme_trace.specs.Format.{head_of_line, event_by, room_of_line, rooms_of}
 use Rattle.nvme_trace.specs.Judged.{IsFinding}
 use Rattle.nvme_trace.specs.Bases.{IsRunBy, IsBreach, IsReasonBy}
 use Rattle.nvme_trace.specs.Checks.{TellsBy, OneAnswer}
@@ -50,12 +50,18 @@ same_told basis h k (d ∷ p) (e ∷ q) lines (a, before, is, x, more) (b, earli
     let pasts : p ≡ q = below.pasts in
     record { heads = below.heads; pasts = cc }
 
+-- the events before the latest are a run
+run_before : (basis : Basis) (head : Head) (e : ArbitrationEvent) (past : History) (line : ℕ × List ℕ) (lines : List (ℕ × List ℕ)) → IsRunBy basis head (e ∷ past) (line ∷ lines) → IsRunBy basis head past lines
+run_before Profile head (Picked seen pick) past line lines r = r.2
+run_before Profile head (Changed settings) past line lines r = r
+run_before Specification head (Picked seen pick) past line lines r = r.2
+run_before Specification head (Changed settings) past line lines r = r
+
 -- what a line tells within more lines
-record IsTold (basis : Basis) (head : Head) (past : History) (at : ℕ × List ℕ) (earlier : List (ℕ × List ℕ)) : Type 0 where
-  pub later : History
+record IsTold (basis : Basis) (head : Head) (at : ℕ × List ℕ) (earlier : List (ℕ × List ℕ)) : Type 0 where
   pub event : ArbitrationEvent
   pub before : History
-  pub is : past ≡ later ++ event ∷ before
+  pub run : IsRunBy basis head (event ∷ before) (at ∷ earlier)
   pub says : event_by basis at.1 ≡ Ok event
   pub tells : TellsBy basis head before earlier
 
@@ -63,41 +69,27 @@ not_empty : (xs : List (ℕ × List ℕ)) (at : ℕ × List ℕ) (earlier : List
 not_empty [] at earlier e = cc
 not_empty (x ∷ xs) at earlier e = cc
 
-told_within : (basis : Basis) (head other : Head) (past q : History) (later : List (ℕ × List ℕ)) (at : ℕ × List ℕ) (earlier : List (ℕ × List ℕ)) → TellsBy basis head past (later ++ at ∷ earlier) → TellsBy basis other q earlier → IsTold basis head past at earlier
-told_within basis head other [] q [] at earlier (line, is, h) t =
+told_within : (basis : Basis) (head other : Head) (past q : History) (later : List (ℕ × List ℕ)) (at : ℕ × List ℕ) (earlier : List (ℕ × List ℕ)) → TellsBy basis head past (later ++ at ∷ earlier) → TellsBy basis other q earlier → IsRunBy basis head past (later ++ at ∷ earlier)
+    → IsTold basis head at earlier
+told_within basis head other [] q [] at earlier (line, is, h) t r =
     let none : earlier ≡ [] = cc in
     absurd (nothing_told basis other q (subst (TellsBy basis other q) none t))
-told_within basis head other (e ∷ past) q [] at earlier (line, before, is, says, more) t =
+told_within basis head other (e ∷ past) q [] at earlier (line, before, is, says, more) t r =
     let one : line ≡ at = cc in
     let rest : before ≡ earlier = cc in
-    record { later = []; event = e; before = past; is = refl; says = subst (λ (l : ℕ × List ℕ). event_by basis l.1 ≡ Ok e) one says; tells = subst (TellsBy basis head past) rest more }
-told_within basis head other [] q (x ∷ xs) at earlier (line, is, h) t =
+    record { event = e; before = past; run = r; says = subst (λ (l : ℕ × List ℕ). event_by basis l.1 ≡ Ok e) one says; tells = subst (TellsBy basis head past) rest more }
+told_within basis head other [] q (x ∷ xs) at earlier (line, is, h) t r =
     let none : xs ++ at ∷ earlier ≡ [] = cc in
     absurd (not_empty xs at earlier none)
-told_within basis head other (e ∷ past) q (x ∷ xs) at earlier (line, before, is, says, more) t =
+told_within basis head other (e ∷ past) q (x ∷ xs) at earlier (line, before, is, says, more) t r =
     let rest : before ≡ xs ++ at ∷ earlier = cc in
-    let below = told_within basis head other past q xs at earlier (subst (TellsBy basis head past) rest more) t in
-    record { later = e ∷ below.later; event = below.event; before = below.before; is = ap (λ (l : History). e ∷ l) below.is; says = below.says; tells = below.tells }
-
--- the events before an event are a run
-specified_before : (head : Head) (later rest : History) → IsSpecifiedRun head.mechanism head.settings (later ++ rest) → IsSpecifiedRun head.mechanism head.settings rest
-specified_before head [] rest r = r
-specified_before head (Picked seen pick ∷ later) rest r = specified_before head later rest r.2
-specified_before head (Changed settings ∷ later) rest r = specified_before head later rest r
-
-taken_before : (head : Head) (later rest : History) → IsTakenRun head.mechanism head.settings (later ++ rest) → IsTakenRun head.mechanism head.settings rest
-taken_before head [] rest r = r
-taken_before head (Picked seen pick ∷ later) rest r = taken_before head later rest r.2
-taken_before head (Changed settings ∷ later) rest r = taken_before head later rest r
-
-run_before : (basis : Basis) (head : Head) (later rest : History) → IsRunBy basis head (later ++ rest) → IsRunBy basis head rest
-run_before Profile head later rest r = taken_before head later rest r
-run_before Specification head later rest r = specified_before head later rest r
+    told_within basis head other past q xs at earlier (subst (TellsBy basis head past) rest more) t (run_before basis head e past x (xs ++ at ∷ earlier) r)
 
 -- there is no reason against an event that is allowed
-no_finding : (head : Head) (past : History) (event : ArbitrationEvent) (finding : Finding) → IsTakenRun head.mechanism head.settings (event ∷ past) → IsFinding head.mechanism head.settings past event finding → ⊥
-no_finding head past event finding run f =
-    let lawful : IsTakenRun head.mechanism head.settings (Picked f.seen finding.picked ∷ past) = subst (λ e. IsTakenRun head.mechanism head.settings (e ∷ past)) f.event_is run in
+no_finding : (head : Head) (past : History) (at : ℕ × List ℕ) (earlier : List (ℕ × List ℕ)) (event : ArbitrationEvent) (finding : Finding) → IsTakenRun head.mechanism head.settings (event ∷ past) (rooms_of (at ∷ earlier))
+    → IsFinding head.mechanism head.settings past (room_of_line at.1) event finding → ⊥
+no_finding head past at earlier event finding run f =
+    let lawful : IsTakenRun head.mechanism head.settings (Picked f.seen finding.picked ∷ past) (rooms_of (at ∷ earlier)) = subst (λ e. IsTakenRun head.mechanism head.settings (e ∷ past) (rooms_of (at ∷ earlier))) f.event_is run in
     f.other (f.lawful_is ∙ lawful.1)
 
 no_breach : (head : Head) (past : History) (event : ArbitrationEvent) (breach : Breach) → IsSpecifiedRun head.mechanism head.settings (event ∷ past) → IsBreach head past event breach → ⊥
@@ -105,11 +97,12 @@ no_breach head past event breach run f =
     let allowed : IsSpecifiedRun head.mechanism head.settings (Picked f.seen breach.picked ∷ past) = subst (λ e. IsSpecifiedRun head.mechanism head.settings (e ∷ past)) f.event_is run in
     f.broken.breaks (allowed.1 breach.rule)
 
-no_reason : (basis : Basis) (head : Head) (past : History) (event : ArbitrationEvent) (reason : Reason) → IsRunBy basis head (event ∷ past) → IsReasonBy basis head past event reason → ⊥
-no_reason Profile head past event (Differs finding) run f = no_finding head past event finding run f
-no_reason Profile head past event (Breaks breach) run f = f
-no_reason Specification head past event (Breaks breach) run f = no_breach head past event breach run f
-no_reason Specification head past event (Differs finding) run f = f
+no_reason : (basis : Basis) (head : Head) (past : History) (at : ℕ × List ℕ) (earlier : List (ℕ × List ℕ)) (event : ArbitrationEvent) (reason : Reason) → IsRunBy basis head (event ∷ past) (at ∷ earlier)
+    → IsReasonBy basis head past (room_of_line at.1) event reason → ⊥
+no_reason Profile head past at earlier event (Differs finding) run f = no_finding head past at earlier event finding run f
+no_reason Profile head past at earlier event (Breaks breach) run f = f
+no_reason Specification head past at earlier event (Breaks breach) run f = no_breach head past event breach run f
+no_reason Specification head past at earlier event (Differs finding) run f = f
 
 turned : (earlier later : List (ℕ × List ℕ)) (at : ℕ × List ℕ) → reverse (reverse earlier ++ at ∷ later) ≡ reverse later ++ at ∷ earlier
 turned earlier later at =
@@ -119,12 +112,12 @@ turned earlier later at =
 pub one_answer : OneAnswer
 one_answer basis text picks line quoted reason l u =
     let lines : reverse (told_lines text) ≡ reverse u.later ++ (line, quoted) ∷ u.earlier = ap reverse u.split ∙ turned u.earlier u.later (line, quoted) in
-    let told = told_within basis l.head u.head l.past u.past (reverse u.later) (line, quoted) u.earlier (subst (TellsBy basis l.head l.past) lines l.tells) u.tells in
+    let told = told_within basis l.head u.head l.past u.past (reverse u.later) (line, quoted) u.earlier (subst (TellsBy basis l.head l.past) lines l.tells) u.tells (subst (IsRunBy basis l.head l.past) lines l.lawful) in
     let same = same_told basis l.head u.head told.before u.past u.earlier told.tells u.tells in
     let event : told.event ≡ u.event = same_event basis quoted told.event u.event told.says u.says in
-    let run : IsRunBy basis l.head (told.event ∷ told.before) = run_before basis l.head told.later (told.event ∷ told.before) (subst (IsRunBy basis l.head) told.is l.lawful) in
-    let there : IsRunBy basis u.head (u.event ∷ u.past) =
-    subst (λ (h : Head). IsRunBy basis h (u.event ∷ u.past)) same.heads
-    (subst (λ (e : ArbitrationEvent). IsRunBy basis l.head (e ∷ u.past)) event
-    (subst (λ (p : History). IsRunBy basis l.head (told.event ∷ p)) same.pasts run)) in
-    no_reason basis u.head u.past u.event reason there u.reason_is
+    let at = (line, quoted) ∷ u.earlier in
+    let there : IsRunBy basis u.head (u.event ∷ u.past) at =
+    subst (λ (h : Head). IsRunBy basis h (u.event ∷ u.past) at) same.heads
+    (subst (λ (e : ArbitrationEvent). IsRunBy basis l.head (e ∷ u.past) at) event
+    (subst (λ (p : History). IsRunBy basis l.head (told.event ∷ p) at) same.pasts told.run)) in
+    no_reason basis u.head u.past (line, quoted) u.earlier u.event reason there u.reason_is

@@ -1,13 +1,16 @@
 -- A trace that the profile reads and allows is read and allowed where the specification alone judges.
-use Rattle.std.proofs.Common.{◌≡◌, Bool, true, false, List, ◌∷◌, [], ℕ, Option, Some, None, refl}
-use Rattle.std.specs.Prelude.{is_some, ok_or, if◌then◌else◌, Result, Ok, Err}
+use Rattle.std.proofs.Common.{◌≡◌, ◌≤◌, ◌==◌, Bool, reverse, arith, true, false, List, ◌∷◌, [], ℕ, Option, Some, None, refl}
+use Rattle.std.specs.Prelude.{is_some, ok_or, option_map, IfSome, if◌then◌else◌, Result, Ok, Err}
+use Rattle.std.proofs.lemmas.Bool.{eqb-false}
 use Rattle.serde_json.specs.Data.{Data}
 use Rattle.serde_json.specs.Find.{get, as_bool}
 use Rattle.nvme_arbiter.specs.History.{ArbitrationEvent, History}
 use Rattle.nvme_trace.proofs.TakenLemmas.{lawful_taken, taken_specified}
 use Rattle.nvme_trace.specs.Fields.{text_of}
-use Rattle.nvme_trace.specs.Readings.{◌>>=◌, ◌>>◌, number_at, flag_at}
-use Rattle.nvme_trace.specs.Format.{data_of, object_in, set_in, fresh_in, pick_in, event_in, event_by}
+use Rattle.nvme_trace.specs.Readings.{◌>>=◌, ◌>>◌, whole, number_at, flag_at}
+use Rattle.nvme_trace.specs.Format.{data_of, object_in, set_in, but_zero, room_at, room_in, room_read, room_by, rooms_of, fresh_in, pick_in, event_in, event_by}
+use Rattle.nvme_trace.specs.Lines.{told_lines}
+use Rattle.nvme_trace.specs.Taken.{TellSomeRoom}
 use Rattle.nvme_trace.specs.Checks.{TellsBy, LawfulTextsPass, LawfulTextsAreAllowed}
 use Rattle.nvme_trace.specs.declared.basis.Basis.TheVariants.{Profile, Specification}
 use Rattle.nvme_trace.specs.declared.fault.LineFault.{LineFault}
@@ -45,7 +48,7 @@ fresh_same d b is = fresh_by (get (text_of field.Fresh) d) d b refl is
 pick_same : (d : Data) (e : ArbitrationEvent) → pick_in Profile d ≡ Ok e → pick_in Specification d ≡ Ok e
 unfolding pick_in
 pick_same d e is =
-    then_same (number_at field.Pick 65535 d) _ _ e (λ qid. then_same (number_at field.N 65535 d) _ _ e (λ n. first_same (fresh_in Profile d) (fresh_in Specification d) _ e (fresh_same d))) is
+    then_same (number_at field.Pick 65535 d) _ _ e (λ qid. then_same (number_at field.N 65535 d) _ _ e (λ n. then_after (room_in d) _ _ e (first_same (fresh_in Profile d) (fresh_in Specification d) _ e (fresh_same d)))) is
 
 event_same : (set : Bool) (d : Data) (e : ArbitrationEvent) → (if set then set_in d else pick_in Profile d) ≡ Ok e → (if set then set_in d else pick_in Specification d) ≡ Ok e
 event_same true d e is = is
@@ -55,6 +58,32 @@ line_same : (line : List ℕ) (e : ArbitrationEvent) → event_by Profile line �
 unfolding event_by event_in
 line_same line e is =
     then_same (data_of line) _ _ e (λ d. then_after (object_in d) _ _ e (event_same (is_some (get (text_of field.Set) d)) d e)) is
+
+-- a room that is told is not 0
+number_some : (zero : Bool) (n : ℕ) → (n == 0) ≡ zero → IfSome (room_read (ok_or (option_map (λ n. Some n) (if zero then None else Some n)) (Bad field.Room))) (λ n. 1 ≤ n)
+number_some true n e = tt
+number_some false n e = let some = eqb-false n 0 e in omega (arith, some)
+
+but_zero_some : (o : Option ℕ) → IfSome (room_read (ok_or (option_map (λ n. Some n) (but_zero o)) (Bad field.Room))) (λ n. 1 ≤ n)
+but_zero_some None = tt
+but_zero_some (Some n) = number_some (n == 0) n refl
+
+at_least_one : (o : Option Data) → IfSome (room_read (room_at o)) (λ n. 1 ≤ n)
+at_least_one None = tt
+at_least_one (Some v) = but_zero_some (whole 65535 v)
+
+told_some : (set : Bool) (d : Data) → IfSome (room_read (if set then Ok None else room_in d)) (λ n. 1 ≤ n)
+unfolding room_in
+told_some true d = tt
+told_some false d = at_least_one (get (text_of field.Room) d)
+
+line_some : (r : Result Data LineFault) → IfSome (room_by r) (λ n. 1 ≤ n)
+line_some (Ok d) = told_some (is_some (get (text_of field.Set) d)) d
+line_some (Err e) = tt
+
+rooms_some : (lines : List (ℕ × List ℕ)) → TellSomeRoom (rooms_of lines)
+rooms_some [] = tt
+rooms_some (line ∷ lines) = (line_some (data_of line.1), rooms_some lines)
 
 -- ---- a text
 lines_same : (head : Head) (past : History) (lines : List (ℕ × List ℕ)) → TellsBy Profile head past lines → TellsBy Specification head past lines
@@ -66,7 +95,7 @@ passes text picks l = record {
   head = l.head;
   past = l.past;
   tells = l.tells;
-  lawful = lawful_taken l.head.mechanism l.head.settings l.past l.lawful;
+  lawful = lawful_taken l.head.mechanism l.head.settings l.past _ l.no_room l.lawful;
   picks_are = l.picks_are;
 }
 
@@ -75,6 +104,6 @@ allowed text picks l = record {
   head = l.head;
   past = l.past;
   tells = lines_same l.head l.past _ l.tells;
-  lawful = taken_specified l.head.mechanism l.head.settings l.past l.lawful;
+  lawful = taken_specified l.head.mechanism l.head.settings l.past _ (rooms_some (reverse (told_lines text))) l.lawful;
   picks_are = l.picks_are;
 }

@@ -1,6 +1,6 @@
 -- A surveyor goes through the lines of a text.
 use Rattle.std.proofs.Common.{◌≡◌, ℕ, ◌+◌, ◌<◌, ◌≤◌, min, List, [], ◌∷◌, ◌++◌, length, map, take, reverse, Option, Some, None, Result, Ok, Err, inl, inr, refl, sym, ap, subst, ◌∙◌, append_assoc, append-nil, length-append, arith}
-use Rattle.std.specs.Prelude.{IfSome, IfOk, IfErr, OnOk, if◌then◌else◌}
+use Rattle.std.specs.Prelude.{IfSome, OnOk, if◌then◌else◌}
 use Rattle.std.proofs.lemmas.List.{length-reverse, length-map, map-append, length-take, take_all, take-append-le}
 use mathlib.Core.List.{reverse-cons, reverse-reverse}
 use Rattle.nvme_arbiter.specs.Settings.{ArbitrationFields}
@@ -11,9 +11,9 @@ use Rattle.nvme_arbiter.specs.Standing.{nothing_used, first_kept}
 use Rattle.nvme_arbiter.specs.declared.pick.Seen.{Seen}
 use Rattle.nvme_arbiter.specs.declared.pick.Pick.{Pick}
 use Rattle.nvme_trace.specs.Lines.{lines_of, numbered, told_lines, TakesTold, HasNoTold}
-use Rattle.nvme_trace.specs.Format.{head_of_line, event_by}
+use Rattle.nvme_trace.specs.Format.{head_of_line, event_by, room_of_line, rooms_of}
 use Rattle.nvme_trace.specs.Checks.{Tells}
-use Rattle.nvme_trace.specs.Faults.{IsHeadFault, IsEventFaultBy}
+use Rattle.nvme_trace.specs.Faults.{IsEventFaultBy}
 use Rattle.nvme_trace.specs.Judged.{picks_in}
 use Rattle.nvme_trace.specs.Shown.{IsReadUpTo, IsReadFault}
 use Rattle.nvme_trace.specs.Surveys.{Follows, IsDifferent, Told, AreDifferences, AreCounts, AreNone, LawfulSurveys, IsSurveyOf, IsSurvey, most_told, told_of, kind_of, is_kind, is_told_as}
@@ -28,7 +28,6 @@ use Rattle.nvme_trace.specs.declared.survey.Counts.{Counts}
 use Rattle.nvme_trace.specs.declared.survey.Difference.{Difference}
 use Rattle.nvme_trace.specs.declared.survey.Kind.{Kind}
 use Rattle.nvme_trace.specs.declared.survey.Kind.TheVariants.{NothingReady, Queue, Number, Fresh}
-use Rattle.nvme_trace.specs.declared.survey.Survey.{Survey}
 use Rattle.nvme_trace.specs.declared.survey.Surveyor.{Surveyor}
 
 -- ---- the first that are told
@@ -86,7 +85,7 @@ surveys_set settings s new kept same head past line lines at =
     }
 
 pub surveys_tell : (head : Head) (past : History) (lines : List (ℕ × List ℕ)) (seen : List Seen) (picked : Pick) (d : Difference) (s new : Surveyor) → SurveysAt head past lines s
-    → IsObservation seen → IsDifferent head past seen picked d.finding → Follows head.mechanism head.settings (Picked seen picked ∷ past) new.kept
+    → IsObservation seen → IsDifferent head past (room_of_line d.quoted.items) seen picked d.finding → Follows head.mechanism head.settings (Picked seen picked ∷ past) new.kept
     → ((all : List Told) → map told_of s.survey.first.items ≡ take most_told (reverse all) → map told_of new.survey.first.items ≡ take most_told (reverse (told_of d ∷ all)))
     → ((all : List Told) → AreCounts s.survey.counts all → AreCounts new.survey.counts (told_of d ∷ all))
     → new.survey.picks ≡ s.survey.picks + 1 → SurveysAt head (Picked seen picked ∷ past) ((d.line, d.quoted.items) ∷ lines) new
@@ -196,10 +195,12 @@ none_told counts (told ∷ all) c n =
     let one = some_kind (kind_of told.finding.lawful told.finding.picked) in
     absurd (omega (arith, one, c.nothing_ready, c.queue, c.number, c.fresh, n.nothing_ready, n.queue, n.number, n.fresh))
 
-lawful_lines : (head : Head) (past : History) (lines : List (ℕ × List ℕ)) (all : List Told) → AreDifferences head past lines all → all ≡ [] → IsTakenRun head.mechanism head.settings past
+lawful_lines : (head : Head) (past : History) (lines : List (ℕ × List ℕ)) (all : List Told) → AreDifferences head past lines all → all ≡ [] → IsTakenRun head.mechanism head.settings past (rooms_of lines)
 lawful_lines head [] lines all d none = tt
-lawful_lines head (Changed settings ∷ past) lines all (line, earlier, is, d) none = lawful_lines head past earlier all d none
-lawful_lines head (Picked seen pick ∷ past) lines all (line, earlier, is, o, inl (l, d)) none = (o, l, lawful_lines head past earlier all d none)
+lawful_lines head (Changed settings ∷ past) lines all (line, earlier, is, d) none =
+    subst (λ (ls : List (ℕ × List ℕ)). IsTakenRun head.mechanism head.settings (Changed settings ∷ past) (rooms_of ls)) (sym is) (lawful_lines head past earlier all d none)
+lawful_lines head (Picked seen pick ∷ past) lines all (line, earlier, is, o, inl (l, d)) none =
+    subst (λ (ls : List (ℕ × List ℕ)). IsTakenRun head.mechanism head.settings (Picked seen pick ∷ past) (rooms_of ls)) (sym is) (o, l, lawful_lines head past earlier all d none)
 lawful_lines head (Picked seen pick ∷ past) lines all (line, earlier, is, o, inr (finding, others, more, different, d)) none = let no : record { line = line.0; quoted = line.1; finding = finding } ∷ others ≡ [] = sym more ∙ none in absurd (cc no)
 
 pub lawful_survey : LawfulSurveys

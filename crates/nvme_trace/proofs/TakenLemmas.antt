@@ -1,13 +1,13 @@
 -- A pick as this front writes it.
-use Rattle.std.proofs.Common.{◌≡◌, ◌≢◌, ℕ, ◌+◌, ◌<◌, ◌≤◌, ◌==◌, ◌&&◌, ◌||◌, min, not, Bool, true, false, List, [], ◌∷◌, inl, inr, refl, sym, ap, subst, ◌∙◌, arith}
-use Rattle.std.specs.Prelude.{Option, Some, None, if◌then◌else◌, All, IfSome, IsFalse}
+use Rattle.std.proofs.Common.{◌≡◌, ℕ, ◌+◌, ◌<◌, ◌≤◌, ◌==◌, ◌&&◌, ◌||◌, not, Bool, true, false, List, [], ◌∷◌, inl, inr, refl, sym, ap, subst, ◌∙◌, arith}
+use Rattle.std.specs.Prelude.{Option, Some, None, if◌then◌else◌, option_map, All, IfSome, IsFalse}
 use Rattle.std.specs.List.{list_any}
 use Rattle.std.proofs.lemmas.Bool.{cases_Bool, eqb-true, eqb-false, eq-eqb, and_parts, true≢false}
 use Rattle.nvme_arbiter.specs.Settings.{ArbitrationFields, burst_of, weight_of, IsLevel}
 use Rattle.nvme_arbiter.specs.Observation.{IsObservation, class_in}
 use Rattle.nvme_arbiter.specs.History.{Picked, Changed, History, settings_after, last_served, last_served_of, is_in_class, used_in_round, taken}
 use Rattle.nvme_arbiter.specs.Rules.{credit, round_robin_pick, weighted_pick}
-use Rattle.nvme_arbiter.specs.Lawful.{lawful_pick, IsLawfulPick, IsLawfulRun}
+use Rattle.nvme_arbiter.specs.Lawful.{lawful_pick, cut, IsCutOf, IsLimitedPick}
 use Rattle.nvme_arbiter.specs.Laws.{IsRoundOver}
 use Rattle.nvme_arbiter.specs.Specified.{starts_round, round_used, ready_in, has_waited, Keeps, IsSpecifiedRun}
 use Rattle.nvme_arbiter.specs.Standing.{used_of, used_with, used_before, StandsAt}
@@ -21,12 +21,13 @@ use Rattle.nvme_arbiter.specs.declared.pick.Seen.{Seen}
 use Rattle.nvme_arbiter.specs.declared.pick.Pick.{Pick}
 use Rattle.nvme_arbiter.specs.declared.specified.Rule.{Rule}
 use Rattle.nvme_arbiter.specs.declared.specified.Rule.TheVariants as rules
-use Rattle.nvme_arbiter.proofs.PickLaws.{fresh_due}
-use Rattle.nvme_arbiter.proofs.SpecifiedLaws.{lawful_specified}
+use Rattle.nvme_arbiter.proofs.PickLaws.{fresh_due, whole_is_limited, limits_are_picks}
+use Rattle.nvme_arbiter.proofs.SpecifiedLaws.{limited_specified}
 use Rattle.nvme_trace.proofs.FollowLemmas.{same_picks}
 use Rattle.nvme_trace.specs.Surveys.{Follows, capped_used}
-use Rattle.nvme_trace.specs.Taken.{is_unused, as_written, written, IsTakenPick, IsTakenRun, TakenRunsAreLawful, LawfulRunsAreTaken}
-use Rattle.nvme_trace.specs.inside.Steps.{unused_by}
+use Rattle.nvme_trace.specs.Taken.{is_unused, as_written, written, pick_within, latest_room, earlier_rooms, IsTakenRun, TellNoRoom, TellSomeRoom, TakenRunsAreLawful, TakenRunsAreLimited, LawfulRunsAreTaken}
+use Rattle.nvme_trace.specs.Within.{RunsWithinAreTaken}
+use Rattle.nvme_trace.specs.inside.Steps.{unused_by, within_room}
 
 -- ---- whether nothing is used
 unused_same : (a b c x y z : ℕ) → (a == 0) ≡ (x == 0) → (b == 0) ≡ (y == 0) → (c == 0) ≡ (z == 0) → ((a == 0) && ((b == 0) && (c == 0))) ≡ ((x == 0) && ((y == 0) && (z == 0)))
@@ -94,7 +95,7 @@ stands_told Weighted first past seen pick k h = record {
 }
 
 -- ---- runs
--- a lawful pick isn't fresh while nothing is used
+-- a pick that is lawful with a limit isn't fresh while nothing is used
 some_weight : (s : ArbitrationFields) (level : Class) → IsLevel level → 0 < weight_of s level
 some_weight s Admin l = absurd l
 some_weight s Urgent l = absurd l
@@ -116,16 +117,49 @@ flag_kept true true h = absurd (h refl refl)
 flag_kept true false h = refl
 flag_kept false unused h = refl
 
-same_written : (m : Mechanism) (first : ArbitrationFields) (past : History) (seen : List Seen) (pick : Pick) → IsLawfulPick m first past seen pick → pick ≡ as_written m past pick
+same_written : (m : Mechanism) (first : ArbitrationFields) (past : History) (seen : List Seen) (pick : Pick) → IsLimitedPick m first past seen pick → pick ≡ as_written m past pick
 same_written RoundRobin first past seen pick l = ap (λ (b : Bool). record pick { fresh = b }) (flag_kept pick.fresh false (λ f u. true≢false (sym u)))
 same_written Weighted first past seen pick l = ap (λ (b : Bool). record pick { fresh = b }) (flag_kept pick.fresh (is_unused Weighted past) (λ f u.
     not_over (settings_after first past) past seen u ((fresh_due first past seen pick l).0 f)))
 
+-- where no room is told
+no_latest : (rooms : List (Option ℕ)) → TellNoRoom rooms → latest_room rooms ≡ None
+no_latest [] n = refl
+no_latest (room ∷ rooms) n = n.0
+
+none_earlier : (rooms : List (Option ℕ)) → TellNoRoom rooms → TellNoRoom (earlier_rooms rooms)
+none_earlier [] n = tt
+none_earlier (room ∷ rooms) n = n.1
+
+no_limit : (m : Mechanism) (first : ArbitrationFields) (past : History) (seen : List Seen) (rooms : List (Option ℕ)) → TellNoRoom rooms → pick_within (latest_room rooms) m first past seen ≡ lawful_pick m first past seen
+no_limit m first past seen rooms n = ap (λ (room : Option ℕ). pick_within room m first past seen) (no_latest rooms n)
+
 pub lawful_taken : LawfulRunsAreTaken
-lawful_taken m first [] r = tt
-lawful_taken m first (Changed settings ∷ past) r = lawful_taken m first past r
-lawful_taken m first (Picked seen pick ∷ past) r =
-    (r.0, subst (λ (p : Pick). IsLawfulPick m first past seen p) (same_written m first past seen pick r.1) r.1, lawful_taken m first past r.2)
+lawful_taken m first [] rooms n r = tt
+lawful_taken m first (Changed settings ∷ past) rooms n r = lawful_taken m first past (earlier_rooms rooms) (none_earlier rooms n) r
+lawful_taken m first (Picked seen pick ∷ past) rooms n r =
+    (r.0, no_limit m first past seen rooms n ∙ (r.1 ∙ ap Some (same_written m first past seen pick (whole_is_limited m first past seen pick r.0 r.1))), lawful_taken m first past (earlier_rooms rooms) (none_earlier rooms n) r.2)
+
+-- where some room is told
+some_latest : (rooms : List (Option ℕ)) → TellSomeRoom rooms → IfSome (latest_room rooms) (λ n. 1 ≤ n)
+some_latest [] s = tt
+some_latest (room ∷ rooms) s = s.0
+
+some_earlier : (rooms : List (Option ℕ)) → TellSomeRoom rooms → TellSomeRoom (earlier_rooms rooms)
+some_earlier [] s = tt
+some_earlier (room ∷ rooms) s = s.1
+
+limited_within : (m : Mechanism) (first : ArbitrationFields) (past : History) (room : Option ℕ) (seen : List Seen) (pick : Pick) → IsObservation seen → IfSome room (λ n. 1 ≤ n) → pick_within room m first past seen ≡ Some pick
+    → IsLimitedPick m first past seen pick
+limited_within m first past None seen pick o s l = whole_is_limited m first past seen pick o l
+limited_within m first past (Some n) seen pick o s l = (limits_are_picks n m first past seen pick o s l).0
+
+pub within_taken : RunsWithinAreTaken
+within_taken m first [] rooms s r = tt
+within_taken m first (Changed settings ∷ past) rooms s r = within_taken m first past (earlier_rooms rooms) (some_earlier rooms s) r
+within_taken m first (Picked seen pick ∷ past) rooms s r =
+    let limited = limited_within m first past (latest_room rooms) seen pick r.0 (some_latest rooms s) r.1 in
+    (r.0, r.1 ∙ ap Some (same_written m first past seen pick limited), within_taken m first past (earlier_rooms rooms) (some_earlier rooms s) r.2)
 
 -- what is looked back for is the same in a history as this front writes it
 same_settings : (m : Mechanism) (first : ArbitrationFields) (past : History) → settings_after first (written m past) ≡ settings_after first past
@@ -168,9 +202,31 @@ lawful_same Weighted first past seen =
     (credit_same (settings_after first past) (λ l. used_in_round l (written Weighted past)) (λ l. used_in_round l past) (λ level l. same_used level past l))
 
 pub taken_lawful : TakenRunsAreLawful
-taken_lawful m first [] r = tt
-taken_lawful m first (Changed settings ∷ past) r = taken_lawful m first past r
-taken_lawful m first (Picked seen pick ∷ past) r = (r.0, lawful_same m first past seen ∙ r.1, taken_lawful m first past r.2)
+taken_lawful m first [] rooms n r = tt
+taken_lawful m first (Changed settings ∷ past) rooms n r = taken_lawful m first past (earlier_rooms rooms) (none_earlier rooms n) r
+taken_lawful m first (Picked seen pick ∷ past) rooms n r =
+    (r.0, lawful_same m first past seen ∙ (sym (no_limit m first past seen rooms n) ∙ r.1), taken_lawful m first past (earlier_rooms rooms) (none_earlier rooms n) r.2)
+
+within_same : (m : Mechanism) (first : ArbitrationFields) (past : History) (room : Option ℕ) (seen : List Seen) → pick_within room m first (written m past) seen ≡ pick_within room m first past seen
+within_same m first past None seen = lawful_same m first past seen
+within_same m first past (Some n) seen = ap (option_map (cut n)) (lawful_same m first past seen)
+
+pub taken_limited : TakenRunsAreLimited
+taken_limited m first [] rooms s r = tt
+taken_limited m first (Changed settings ∷ past) rooms s r = taken_limited m first past (earlier_rooms rooms) (some_earlier rooms s) r
+taken_limited m first (Picked seen pick ∷ past) rooms s r =
+    let here = within_same m first past (latest_room rooms) seen ∙ r.1 in
+    (r.0, limited_within m first (written m past) (latest_room rooms) seen (as_written m past pick) r.0 (some_latest rooms s) here, taken_limited m first past (earlier_rooms rooms) (some_earlier rooms s) r.2)
+
+-- ---- a room
+pub within_lawful : (room : Option ℕ) (m : Mechanism) (first : ArbitrationFields) (past : History) (seen : List Seen) (o : Option Pick) → o ≡ lawful_pick m first past seen → option_map (within_room room) o ≡ pick_within room m first past seen
+within_lawful None m first past seen None e = e
+within_lawful None m first past seen (Some pick) e = e
+within_lawful (Some n) m first past seen o e = ap (option_map (cut n)) e
+
+pub within_cut : (room : Option ℕ) (pick : Pick) → IsCutOf pick (within_room room pick)
+within_cut None pick = record { qid = refl; fresh = refl; few = omega arith }
+within_cut (Some n) pick = record { qid = refl; fresh = refl; few = omega arith }
 
 -- ---- by the specification
 same_round : (m : Mechanism) (first : ArbitrationFields) (past : History) → round_used first (written m past) ≡ round_used first past
@@ -219,5 +275,5 @@ specified_told m first (Changed settings ∷ past) r = specified_told m first pa
 specified_told m first (Picked seen pick ∷ past) r = (r.0, λ rule. keeps_told m first past seen pick rule (r.1 rule), specified_told m first past r.2)
 
 -- what is taken is allowed by the specification
-pub taken_specified : (m : Mechanism) (first : ArbitrationFields) (past : History) → IsTakenRun m first past → IsSpecifiedRun m first past
-taken_specified m first past r = specified_told m first past (lawful_specified m first (written m past) (taken_lawful m first past r))
+pub taken_specified : (m : Mechanism) (first : ArbitrationFields) (past : History) (rooms : List (Option ℕ)) → TellSomeRoom rooms → IsTakenRun m first past rooms → IsSpecifiedRun m first past
+taken_specified m first past rooms s r = specified_told m first past (limited_specified m first (written m past) (taken_limited m first past rooms s r))

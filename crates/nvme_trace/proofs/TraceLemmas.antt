@@ -3,7 +3,7 @@ use Rattle.std.proofs.Common.{◌≡◌, ◌≢◌, ℕ, ◌+◌, ◌<◌, ◌�
 use Rattle.std.specs.Prelude.{if◌then◌else◌}
 use Rattle.std.specs.List.{list_all}
 use Rattle.std.proofs.lemmas.Bool.{lt-ltb, le-leb, lt-leb}
-use Rattle.nvme_trace.specs.Lines.{lines_of, is_space, is_blank, numbered, TakesLine, StartsWithLine, HasNoLine, TakesTold, StartsTold, HasNoTold, PassesBlank}
+use Rattle.nvme_trace.specs.Lines.{lines_of, is_space, is_blank, numbered, StartsWithLine, TakesTold, StartsTold, HasNoTold, PassesBlank}
 use Rattle.nvme_trace.specs.Readings.{Fails}
 use Rattle.nvme_trace.specs.Format.{longest_line, data_of, head_of_line, event_by}
 use Rattle.nvme_trace.specs.declared.basis.Basis.{Basis}

@@ -1,11 +1,12 @@
 -- What the profile and the specification each ask of a trace. (Base Specification, Command Arbitration; what is told: profile)
-use Rattle.std.specs.Prelude.{◌≡◌, ℕ, List}
+use Rattle.std.specs.Prelude.{◌≡◌, ℕ, List, Option}
 use Rattle.nvme_arbiter.specs.History.{ArbitrationEvent, Picked, Changed, History, settings_after}
 use Rattle.nvme_arbiter.specs.Standing.{StandsAt}
 use Rattle.nvme_arbiter.specs.Specified.{IsSpecifiedPick, IsSpecifiedRun}
 use Rattle.nvme_arbiter.specs.declared.pick.Seen.{Seen}
 use Rattle.nvme_judge.specs.Standing.{JudgeStandsAt, IsFirstBroken, weight_left}
 use Rattle.nvme_trace.specs.Taken.{IsTakenRun}
+use Rattle.nvme_trace.specs.Format.{rooms_of}
 use Rattle.nvme_trace.specs.Judged.{IsTakenEvent, IsFinding, count_in}
 use Rattle.nvme_trace.specs.declared.basis.Basis.{Basis}
 use Rattle.nvme_trace.specs.declared.basis.Basis.TheVariants.{Profile, Specification}
@@ -16,19 +17,19 @@ use Rattle.nvme_trace.specs.declared.judges.Reason.TheVariants.{Differs, Breaks}
 use Rattle.nvme_trace.specs.declared.judges.BasisJudge.{BasisJudge}
 use Rattle.nvme_trace.specs.declared.judges.BasisJudge.TheVariants as judge
 
--- each pick of a history is taken for the one that this front makes, or is one that the specification allows
-abbrev pub IsRunBy : Basis → Head → History → Type 0
-IsRunBy Profile head past = IsTakenRun head.mechanism head.settings past
-IsRunBy Specification head past = IsSpecifiedRun head.mechanism head.settings past
+-- each pick of a history, which these lines tell, is taken for the one that this front makes, or is one that the specification allows. The specification has no room
+abbrev pub IsRunBy : Basis → Head → History → List (ℕ × List ℕ) → Type 0
+IsRunBy Profile head past lines = IsTakenRun head.mechanism head.settings past (rooms_of lines)
+IsRunBy Specification head past lines = IsSpecifiedRun head.mechanism head.settings past
 
 abbrev pub IsSpecifiedEvent : Head → History → ArbitrationEvent → Type 0
 IsSpecifiedEvent head past (Picked seen pick) = IsSpecifiedPick head.mechanism head.settings past seen pick
 IsSpecifiedEvent head past (Changed settings) = Unit {0}
 
--- an event is allowed after a history
-abbrev pub IsAllowedBy : Basis → Head → History → ArbitrationEvent → Type 0
-IsAllowedBy Profile head past event = IsTakenEvent head.mechanism head.settings past event
-IsAllowedBy Specification head past event = IsSpecifiedEvent head past event
+-- an event is allowed after a history, in the room that is told
+abbrev pub IsAllowedBy : Basis → Head → History → Option ℕ → ArbitrationEvent → Type 0
+IsAllowedBy Profile head past room event = IsTakenEvent head.mechanism head.settings past room event
+IsAllowedBy Specification head past room event = IsSpecifiedEvent head past event
 
 -- what is told of a pick that the specification doesn't allow
 pub record IsBreach (head : Head) (past : History) (event : ArbitrationEvent) (breach : Breach) : Type 0 where
@@ -45,11 +46,11 @@ pub record IsBreach (head : Head) (past : History) (event : ArbitrationEvent) (b
   pub broken : IsFirstBroken head.mechanism head.settings past seen breach.picked breach.rule
 
 -- what is told of a pick that isn't allowed
-abbrev pub IsReasonBy : Basis → Head → History → ArbitrationEvent → Reason → Type 0
-IsReasonBy Profile head past event (Differs finding) = IsFinding head.mechanism head.settings past event finding
-IsReasonBy Specification head past event (Breaks breach) = IsBreach head past event breach
-IsReasonBy Profile head past event (Breaks breach) = ⊥
-IsReasonBy Specification head past event (Differs finding) = ⊥
+abbrev pub IsReasonBy : Basis → Head → History → Option ℕ → ArbitrationEvent → Reason → Type 0
+IsReasonBy Profile head past room event (Differs finding) = IsFinding head.mechanism head.settings past room event finding
+IsReasonBy Specification head past room event (Breaks breach) = IsBreach head past event breach
+IsReasonBy Profile head past room event (Breaks breach) = ⊥
+IsReasonBy Specification head past room event (Differs finding) = ⊥
 
 -- a judge stands at a history
 abbrev pub StandsBy : Basis → Head → History → BasisJudge → Type 0

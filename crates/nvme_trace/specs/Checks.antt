@@ -3,9 +3,10 @@ use Rattle.std.specs.Prelude.{◌≡◌, ◌⊎◌, ℕ, List, [], ◌∷◌, �
 use Rattle.nvme_arbiter.specs.History.{ArbitrationEvent, History}
 use Rattle.nvme_arbiter.specs.Lawful.{IsLawfulRun}
 use Rattle.nvme_trace.specs.Lines.{lines_of, numbered, told_lines}
-use Rattle.nvme_trace.specs.Format.{head_of_line, event_by}
+use Rattle.nvme_trace.specs.Format.{head_of_line, event_by, room_of_line, rooms_of}
 use Rattle.nvme_trace.specs.Faults.{IsHeadFault, IsEventFaultBy}
 use Rattle.nvme_trace.specs.Judged.{picks_in}
+use Rattle.nvme_trace.specs.Taken.{TellNoRoom}
 use Rattle.nvme_trace.specs.Bases.{IsRunBy, IsReasonBy, StandsBy, picks_by}
 use Rattle.nvme_trace.specs.declared.basis.Basis.{Basis}
 use Rattle.nvme_trace.specs.declared.basis.Basis.TheVariants.{Profile, Specification}
@@ -31,21 +32,22 @@ pub record IsLawfulUpTo (basis : Basis) (text rest : List ℕ) (number : ℕ) (h
   pub lines : List (ℕ × List ℕ)
   pub split : told_lines text ≡ reverse lines ++ numbered number (lines_of rest)
   pub tells : TellsBy basis head past lines
-  pub lawful : IsRunBy basis head past
+  pub lawful : IsRunBy basis head past lines
 
 -- the text is a head and the events of a history with this many picks, each of which is allowed. Blank lines don't matter
 pub record IsLawfulBy (basis : Basis) (text : List ℕ) (picks : ℕ) : Type 0 where
   pub head : Head
   pub past : History
   pub tells : TellsBy basis head past (reverse (told_lines text))
-  pub lawful : IsRunBy basis head past
+  pub lawful : IsRunBy basis head past (reverse (told_lines text))
   pub picks_are : picks ≡ picks_in past
 
--- the text is a head and the events of a lawful history with this many picks, as this front writes them
+-- the text is a head and the events of a lawful history with this many picks, as this front writes them: no line tells a room
 pub record IsLawfulText (text : List ℕ) (picks : ℕ) : Type 0 where
   pub head : Head
   pub past : History
   pub tells : Tells head past (reverse (told_lines text))
+  pub no_room : TellNoRoom (rooms_of (reverse (told_lines text)))
   pub lawful : IsLawfulRun head.mechanism head.settings past
   pub picks_are : picks ≡ picks_in past
 
@@ -60,9 +62,9 @@ pub record IsRefusedBy (basis : Basis) (text : List ℕ) (line : ℕ) (quoted : 
   pub earlier : List (ℕ × List ℕ)
   pub split : told_lines text ≡ reverse earlier ++ (line, quoted) ∷ later
   pub tells : TellsBy basis head past earlier
-  pub lawful : IsRunBy basis head past
+  pub lawful : IsRunBy basis head past earlier
   pub says : event_by basis quoted ≡ Ok event
-  pub reason_is : IsReasonBy basis head past event reason
+  pub reason_is : IsReasonBy basis head past (room_of_line quoted) event reason
 
 -- what a check of a text answers
 abbrev pub IsAnswer : Basis → List ℕ → Checked → Type 0

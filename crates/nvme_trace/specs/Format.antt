@@ -1,5 +1,5 @@
 -- What a line of a trace says, or its first fault. (profile)
-use Rattle.std.specs.Prelude.{ℕ, ◌==◌, Bool, false, nat_lt, if◌then◌else◌, codes, List, [], ◌∷◌, ◌++◌, length, Option, Some, None, is_some, ok_or, option_and_then, option_map, Result, Ok, Err, nat_eq}
+use Rattle.std.specs.Prelude.{ℕ, ◌+◌, ◌==◌, Bool, false, nat_lt, if◌then◌else◌, codes, List, [], ◌∷◌, ◌++◌, length, map, Option, Some, None, is_some, ok_or, option_and_then, option_map, Result, Ok, Err, nat_eq}
 use Rattle.std.specs.Cmp.Lexicographic.{pointwise}
 use Rattle.std.specs.Str.{is_utf8}
 use Rattle.serde_json.specs.Data.{Data, Items, no_items, item}
@@ -112,14 +112,28 @@ unfoldable pub fresh_in : Basis → Data → Result Bool LineFault
 fresh_in Profile d = flag_at field.Fresh d
 fresh_in Specification d = if is_some (get (text_of field.Fresh) d) then flag_at field.Fresh d else Ok false
 
+-- a number but 0
+abbrev pub but_zero : Option ℕ → Option ℕ
+but_zero None = None
+but_zero (Some n) = if n == 0 then None else Some n
+
+-- how many commands the device had room for, where that is told
+abbrev pub room_at : Option Data → Result (Option ℕ) LineFault
+room_at None = Ok None
+room_at (Some v) = ok_or (option_map (λ n. Some n) (but_zero (whole 65535 v))) (Bad field.Room)
+
+unfoldable pub room_in : Data → Result (Option ℕ) LineFault
+room_in d = room_at (get (text_of field.Room) d)
+
 -- how many fields the line of a pick has
 abbrev pub pick_fields : Data → ℕ
-pick_fields d = if is_some (get (text_of field.Fresh) d) then 4 else 3
+pick_fields d = (if is_some (get (text_of field.Fresh) d) then 4 else 3) + (if is_some (get (text_of field.Room) d) then 1 else 0)
 
 unfoldable pub pick_in : Basis → Data → Result ArbitrationEvent LineFault
 pick_in basis d = do
   qid ← number_at field.Pick 65535 d
   n ← number_at field.N 65535 d
+  room_in d
   fresh ← fresh_in basis d
   seen ← value_at field.Seen d >>= (λ v. ok_or (observation_of v) NotObservation)
   only (pick_fields d) d
@@ -149,11 +163,35 @@ event_by basis line = do
   object_in d
   event_in basis d
 
+-- the room that an event tells: a change of the settings tells none
+abbrev pub room_told : Data → Result (Option ℕ) LineFault
+room_told d = if is_some (get (text_of field.Set) d) then Ok None else room_in d
+
+abbrev pub room_read : Result (Option ℕ) LineFault → Option ℕ
+room_read (Ok room) = room
+room_read (Err e) = None
+
+abbrev pub room_by : Result Data LineFault → Option ℕ
+room_by (Ok d) = room_read (room_told d)
+room_by (Err e) = None
+
+-- how many commands the device had room for at the pick of a line, where the line tells it
+abbrev pub room_of_line : List ℕ → Option ℕ
+room_of_line line = room_by (data_of line)
+
+-- the rooms of some lines, each behind its number
+abbrev pub rooms_of : List (ℕ × List ℕ) → List (Option ℕ)
+rooms_of lines = map (λ line. room_of_line line.1) lines
+
 -- what this front writes of an event, and reads
 abbrev pub event_of_line : List ℕ → Result ArbitrationEvent LineFault
 event_of_line line = event_by Profile line
 
--- an event of the code as one of a history
+-- an event of the code as one of a history, which keeps no room
 abbrev pub event_view : TraceEvent → ArbitrationEvent
-event_view (Pick seen pick) = Picked seen.items pick
+event_view (Pick seen pick room) = Picked seen.items pick
 event_view (Set settings) = Changed settings
+
+abbrev pub room_view : TraceEvent → Option ℕ
+room_view (Pick seen pick room) = room
+room_view (Set settings) = None

@@ -4,6 +4,7 @@ pub mod Readings
 pub mod Format
 pub mod Lines
 pub mod Taken
+pub mod Within
 pub mod Judged
 pub mod Faults
 pub mod Checks

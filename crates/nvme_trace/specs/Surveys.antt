@@ -4,7 +4,6 @@ use Rattle.std.specs.Prelude.{◌≡◌, ◌≢◌, ◌⊎◌, ℕ, ◌+◌, ◌
 use Rattle.nvme_arbiter.specs.Settings.{ArbitrationFields, IsLevel}
 use Rattle.nvme_arbiter.specs.Observation.{IsObservation, class_in}
 use Rattle.nvme_arbiter.specs.History.{Picked, Changed, History, settings_after, last_served, last_served_of, used_in_round}
-use Rattle.nvme_arbiter.specs.Lawful.{lawful_pick}
 use Rattle.nvme_arbiter.specs.Standing.{last_of, used_of}
 use Rattle.nvme_arbiter.specs.declared.settings.Class.{Class}
 use Rattle.nvme_arbiter.specs.declared.settings.Mechanism.{Mechanism}
@@ -12,8 +11,9 @@ use Rattle.nvme_arbiter.specs.declared.settings.Mechanism.TheVariants.{RoundRobi
 use Rattle.nvme_arbiter.specs.declared.kept.Kept.{Kept}
 use Rattle.nvme_arbiter.specs.declared.pick.Seen.{Seen}
 use Rattle.nvme_arbiter.specs.declared.pick.Pick.{Pick}
-use Rattle.nvme_trace.specs.Taken.{as_written, IsTakenPick}
+use Rattle.nvme_trace.specs.Taken.{as_written, pick_within, IsTakenPick}
 use Rattle.nvme_trace.specs.Lines.{told_lines}
+use Rattle.nvme_trace.specs.Format.{room_of_line}
 use Rattle.nvme_trace.specs.Judged.{count_in, picks_in}
 use Rattle.nvme_trace.specs.Checks.{Tells, IsLawfulBy}
 use Rattle.nvme_trace.specs.declared.basis.Basis.TheVariants.{Profile}
@@ -41,15 +41,16 @@ pub record Follows (mechanism : Mechanism) (first : ArbitrationFields) (past : H
   pub remembers : Remembers mechanism past k
 
 -- ---- a pick that differs
--- what is told of a pick that isn't taken for the lawful one after the picks that were made
-pub record IsDifferent (head : Head) (past : History) (seen : List Seen) (picked : Pick) (finding : Finding) : Type 0 where
+-- what is told of a pick that isn't taken for the lawful one after the picks that were made, in the room that is told
+pub record IsDifferent (head : Head) (past : History) (room : Option ℕ) (seen : List Seen) (picked : Pick) (finding : Finding) : Type 0 where
   pub picked_is : finding.picked ≡ picked
   -- the lawful one, which is another, however it is written
-  pub lawful_is : finding.lawful ≡ lawful_pick head.mechanism head.settings past seen
+  pub lawful_is : finding.lawful ≡ pick_within room head.mechanism head.settings past seen
   pub other : finding.lawful ≢ Some (as_written head.mechanism past picked)
   -- the class of its queue, and how many commands wait in it
   pub class_is : finding.class ≡ option_and_then (λ pick. class_in seen pick.qid) finding.lawful
   pub waiting_is : finding.waiting ≡ option_and_then (λ pick. count_in seen pick.qid) finding.lawful
+  pub room_is : finding.room ≡ room
   pub kept_is : Follows head.mechanism head.settings past finding.kept
 
 -- in what a pick differs from the lawful one: the first of these
@@ -72,9 +73,9 @@ AreDifferences head [] lines all = all ≡ []
 AreDifferences head (Changed settings ∷ past) lines all = (line : ℕ × List ℕ) × (earlier : List (ℕ × List ℕ)) × (lines ≡ line ∷ earlier) × AreDifferences head past earlier all
 AreDifferences head (Picked seen pick ∷ past) lines all =
     (line : ℕ × List ℕ) × (earlier : List (ℕ × List ℕ)) × (lines ≡ line ∷ earlier)
-    × IsObservation seen × ((IsTakenPick head.mechanism head.settings past seen pick × AreDifferences head past earlier all)
+    × IsObservation seen × ((IsTakenPick head.mechanism head.settings past (room_of_line line.1) seen pick × AreDifferences head past earlier all)
     ⊎ ((finding : Finding) × (others : List Told) × (all ≡ record { line = line.0; quoted = line.1; finding = finding } ∷ others)
-    × IsDifferent head past seen pick finding × AreDifferences head past earlier others))
+    × IsDifferent head past (room_of_line line.1) seen pick finding × AreDifferences head past earlier others))
 
 -- ---- how many there are of each kind
 abbrev pub is_kind : Kind → Kind → Bool

@@ -133,6 +133,7 @@ fn put_number<W: fmt::Write>(finding: &Finding, f: &mut fmt::Formatter<W>) -> fm
     write!(f, "\nnumber: n is the least of ")?;
     put_bound("burst", kept.settings.burst(), f)?;
     put_bound("credit", credit_of(kept, finding.class, pick.fresh), f)?;
+    put_bound("room", finding.room, f)?;
     write!(f, "waiting {waiting}")
 }
 

@@ -20,6 +20,8 @@ pub enum Field {
     Pick,
     /// `n` of a pick: the number of commands that it takes.
     N,
+    /// `room` of a pick: for how many commands the device had room, where that was a limit.
+    Room,
     /// `fresh` of a pick: whether it starts a new round.
     Fresh,
     /// `seen` of a pick: the open queues, each as an array of identifier, class and count.
@@ -40,6 +42,7 @@ impl Field {
             Field::Set => "set",
             Field::Pick => "pick",
             Field::N => "n",
+            Field::Room => "room",
             Field::Fresh => "fresh",
             Field::Seen => "seen",
         }

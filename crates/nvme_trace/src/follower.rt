@@ -3,7 +3,7 @@ ghost use Rattle.std.specs.Prelude.{◌≡◌, ◌∷◌, Some, MatchOption};
 ghost use Rattle.nvme_arbiter.specs.Settings.{ArbitrationFields};
 ghost use Rattle.nvme_arbiter.specs.History.{History, Picked};
 ghost use Rattle.nvme_arbiter.specs.Lawful.{lawful_pick};
-ghost use Rattle.nvme_trace.specs.Taken.{IsTakenPick};
+ghost use Rattle.nvme_trace.specs.Taken.{pick_within, IsTakenPick};
 ghost use Rattle.nvme_arbiter.specs.Observation.{IsObservation, class_in};
 ghost use Rattle.nvme_arbiter.specs.Standing.{last_with, used_before};
 ghost use Rattle.nvme_arbiter.specs.declared.settings.Mechanism.{Mechanism};
@@ -12,7 +12,7 @@ ghost use Rattle.nvme_trace.specs.inside.Steps.{used_plus, followed, WeightsFit}
 ghost use Rattle.nvme_trace.specs.declared.records.Head.{Head};
 
 use crate::judge::Finding;
-use crate::taken::as_written;
+use crate::taken::{as_written, within_room};
 use nvme_arbiter::{Arbiter, Class, Kept, Last, Pick, Seen, Settings, Used, class_in};
 use nvme_judge::count_in;
 
@@ -99,12 +99,22 @@ fn lawful_after(kept: &Kept, seen: &[Seen]) -> Option<Pick>
     Arbiter::from_parts(kept).peek(seen)
 }
 
-/// What is told of a pick that isn't the lawful one after the picks that were made. `None` where it is.
-pub fn difference(kept: &Kept, seen: &[Seen], picked: Pick) -> Option<Finding>
+// The pick of this front after the picks that were made, in the room that is told.
+fn within_after(kept: &Kept, room: Option<u16>, seen: &[Seen]) -> Option<Pick>
     requires observed { IsObservation seen.now }
-    ensures { (head : Head) (past : History) → Follows head.mechanism head.settings past kept.now → MatchOption result (IsTakenPick head.mechanism head.settings past seen.now picked) (IsDifferent head past seen.now picked) }
+    ensures { (mechanism : Mechanism) (first : ArbitrationFields) (past : History) → Follows mechanism first past kept.now → result ≡ pick_within room mechanism first past seen.now }
 {
-    let lawful = lawful_after(kept, seen);
+    let pick = lawful_after(kept, seen)?;
+    Some(within_room(room, pick))
+}
+
+/// What is told of a pick that isn't the lawful one after the picks that were made, in the room that is told. `None` where
+/// it is.
+pub fn difference(kept: &Kept, seen: &[Seen], picked: Pick, room: Option<u16>) -> Option<Finding>
+    requires observed { IsObservation seen.now }
+    ensures { (head : Head) (past : History) → Follows head.mechanism head.settings past kept.now → MatchOption result (IsTakenPick head.mechanism head.settings past room seen.now picked) (IsDifferent head past room seen.now picked) }
+{
+    let lawful = within_after(kept, room, seen);
     if lawful == Some(as_written(kept, picked)) {
         return None;
     }
@@ -113,6 +123,7 @@ pub fn difference(kept: &Kept, seen: &[Seen], picked: Pick) -> Option<Finding>
         lawful,
         class: lawful.and_then(|pick| class_in(seen, pick.qid)),
         waiting: lawful.and_then(|pick| count_in(seen, pick.qid)),
+        room,
         kept: *kept,
     })
 }

@@ -2,7 +2,7 @@
 ghost use Rattle.std.specs.Prelude.{◌≡◌};
 
 use crate::records::{Head, TraceEvent};
-use crate::taken::as_written;
+use crate::taken::{as_written, pick_within};
 use nvme_arbiter::{Arbiter, Class, Kept, Pick, Seen, class_in};
 use nvme_judge::count_in;
 use std::marker::Model;
@@ -18,6 +18,8 @@ pub struct Finding {
     pub class: Option<Class>,
     /// How many commands wait in that queue.
     pub waiting: Option<u16>,
+    /// For how many commands the device had room, where the line tells that.
+    pub room: Option<u16>,
     /// What the arbiter kept before the pick: what was served last, and what was used in the round.
     pub kept: Kept,
 }
@@ -38,13 +40,13 @@ impl Model for Judge {
 }
 
 impl Judge {
-    ghost use Rattle.std.specs.Prelude.{◌+◌, ◌-◌, ◌^◌, ◌<◌, [], ◌∷◌, MatchOption, IfSome, IfNone};
+    ghost use Rattle.std.specs.Prelude.{◌+◌, ◌-◌, ◌^◌, ◌<◌, ℕ, [], ◌∷◌, Option, MatchOption, IfSome, IfNone};
     ghost use Rattle.nvme_arbiter.specs.Settings.{ArbitrationFields};
     ghost use Rattle.nvme_arbiter.specs.History.{History, Picked};
     ghost use Rattle.nvme_arbiter.specs.Observation.{IsObservation};
     ghost use Rattle.nvme_arbiter.specs.Standing.{StandsAt};
     ghost use Rattle.nvme_arbiter.specs.declared.settings.Mechanism.{Mechanism};
-    ghost use Rattle.nvme_trace.specs.Format.{event_view};
+    ghost use Rattle.nvme_trace.specs.Format.{event_view, room_view};
     ghost use Rattle.nvme_trace.specs.Judged.{IsObserved, IsTakenEvent, IsFinding, picks_of};
     ghost use Rattle.nvme_trace.specs.Taken.{IsTakenPick};
 
@@ -66,18 +68,18 @@ impl Judge {
         self.picks
     }
 
-    /// Judges the next event. `None` where it is lawful after the events so far; it then counts among them. While nothing
-    /// is used in the round, a lawful pick may be told to be fresh or not. A pick that isn't lawful changes nothing.
+    /// Judges the next event. `None` where it is lawful after the events so far, a pick in the room that it tells; it then
+    /// counts among them. While nothing is used in the round, a lawful pick may be told to be fresh or not. A pick that isn't lawful changes nothing.
     pub fn judge(&mut self, event: &TraceEvent) -> Option<Finding>
         requires observed { IsObserved (event_view event.now) }
         requires few { self.old.picks < 2 ^ 64 - 1 }
-        ensures lawful { (mechanism : Mechanism) (first : ArbitrationFields) (past : History) → StandsAt mechanism first past self.old.kept → MatchOption result (IsTakenEvent mechanism first past (event_view event.now)) (IsFinding mechanism first past (event_view event.now)) }
+        ensures lawful { (mechanism : Mechanism) (first : ArbitrationFields) (past : History) → StandsAt mechanism first past self.old.kept → MatchOption result (IsTakenEvent mechanism first past (room_view event.now) (event_view event.now)) (IsFinding mechanism first past (room_view event.now) (event_view event.now)) }
         ensures stands { (mechanism : Mechanism) (first : ArbitrationFields) (past : History) → StandsAt mechanism first past self.old.kept → IfNone result (StandsAt mechanism first (event_view event.now ∷ past) self.new.kept) }
         ensures picks { IfNone result (self.new.picks ≡ self.old.picks + picks_of (event_view event.now)) }
         ensures unlawful { IfSome result (λ _. self.new ≡ self.old) }
     {
         match event {
-            TraceEvent::Pick { seen, pick } => self.judge_pick(seen, *pick),
+            TraceEvent::Pick { seen, pick, room } => self.judge_pick(seen, *pick, *room),
             TraceEvent::Set { settings } => {
                 self.arbiter.set(*settings);
                 None
@@ -85,18 +87,18 @@ impl Judge {
         }
     }
 
-    // Judges a pick.
-    fn judge_pick(&mut self, seen: &[Seen], picked: Pick) -> Option<Finding>
+    // Judges a pick in the room that is told.
+    fn judge_pick(&mut self, seen: &[Seen], picked: Pick, room: Option<u16>) -> Option<Finding>
         requires observed { IsObservation seen.now }
         requires few { self.old.picks < 2 ^ 64 - 1 }
-        ensures lawful { (mechanism : Mechanism) (first : ArbitrationFields) (past : History) → StandsAt mechanism first past self.old.kept → MatchOption result (IsTakenPick mechanism first past seen.now picked) (IsFinding mechanism first past (Picked seen.now picked)) }
+        ensures lawful { (mechanism : Mechanism) (first : ArbitrationFields) (past : History) → StandsAt mechanism first past self.old.kept → MatchOption result (IsTakenPick mechanism first past room seen.now picked) (IsFinding mechanism first past room (Picked seen.now picked)) }
         ensures stands { (mechanism : Mechanism) (first : ArbitrationFields) (past : History) → StandsAt mechanism first past self.old.kept → IfNone result (StandsAt mechanism first (Picked seen.now picked ∷ past) self.new.kept) }
         ensures picks { IfNone result (self.new.picks ≡ self.old.picks + 1) }
         ensures unlawful { IfSome result (λ _. self.new ≡ self.old) }
     {
         let kept = self.arbiter.parts();
         let mut next = self.arbiter;
-        let lawful = next.pick(seen);
+        let lawful = pick_within(&mut next, room, seen);
         if lawful == Some(as_written(&kept, picked)) {
             self.arbiter = next;
             self.picks += 1;
@@ -107,6 +109,7 @@ impl Judge {
             lawful,
             class: lawful.and_then(|pick| class_in(seen, pick.qid)),
             waiting: lawful.and_then(|pick| count_in(seen, pick.qid)),
+            room,
             kept,
         })
     }

@@ -1,7 +1,7 @@
 // Judges a history by the profile or by the specification.
 ghost use Rattle.std.specs.Prelude.{◌≡◌, ◌+◌, ◌-◌, ◌^◌, ◌<◌, [], ◌∷◌, MatchOption, IfSome, IfNone};
 ghost use Rattle.nvme_arbiter.specs.History.{History};
-ghost use Rattle.nvme_trace.specs.Format.{event_view};
+ghost use Rattle.nvme_trace.specs.Format.{event_view, room_view};
 ghost use Rattle.nvme_trace.specs.Judged.{IsObserved, picks_of};
 ghost use Rattle.nvme_trace.specs.Bases.{IsAllowedBy, IsBreach, IsReasonBy, StandsBy, picks_by};
 ghost use Rattle.nvme_judge.specs.Standing.{JudgeStandsAt};
@@ -53,12 +53,12 @@ pub enum BasisJudge {
 fn judge_by_rules(judge: &mut RuleJudge, event: &TraceEvent) -> Option<Breach>
     requires observed { IsObserved (event_view event.now) }
     requires few { judge.old.picks < 2 ^ 64 - 1 }
-    ensures allowed { (head : Head) (past : History) → JudgeStandsAt head.mechanism head.settings past judge.old → MatchOption result (IsAllowedBy basis.Specification head past (event_view event.now)) (IsBreach head past (event_view event.now)) }
+    ensures allowed { (head : Head) (past : History) → JudgeStandsAt head.mechanism head.settings past judge.old → MatchOption result (IsAllowedBy basis.Specification head past (room_view event.now) (event_view event.now)) (IsBreach head past (event_view event.now)) }
     ensures stands { (head : Head) (past : History) → JudgeStandsAt head.mechanism head.settings past judge.old → IfNone result (JudgeStandsAt head.mechanism head.settings (event_view event.now ∷ past) judge.new) }
     ensures picks { IfNone result (judge.new.picks ≡ judge.old.picks + picks_of (event_view event.now)) }
 {
     match event {
-        TraceEvent::Pick { seen, pick } => match judge.judge(seen, pick) {
+        TraceEvent::Pick { seen, pick, .. } => match judge.judge(seen, pick) {
             Some(rule) => Some(Breach {
                 picked: *pick,
                 mechanism: judge.mechanism(),
@@ -104,7 +104,7 @@ impl BasisJudge {
     pub fn judge(&mut self, event: &TraceEvent) -> Option<Reason>
         requires observed { IsObserved (event_view event.now) }
         requires few { picks_by self.old < 2 ^ 64 - 1 }
-        ensures allowed { (basis : Basis) (head : Head) (past : History) → StandsBy basis head past self.old → MatchOption result (IsAllowedBy basis head past (event_view event.now)) (IsReasonBy basis head past (event_view event.now)) }
+        ensures allowed { (basis : Basis) (head : Head) (past : History) → StandsBy basis head past self.old → MatchOption result (IsAllowedBy basis head past (room_view event.now) (event_view event.now)) (IsReasonBy basis head past (room_view event.now) (event_view event.now)) }
         ensures stands { (basis : Basis) (head : Head) (past : History) → StandsBy basis head past self.old → IfNone result (StandsBy basis head (event_view event.now ∷ past) self.new) }
         ensures picks { IfNone result (picks_by self.new ≡ picks_by self.old + picks_of (event_view event.now)) }
     {

@@ -1,16 +1,24 @@
 // Laws of traces.
 ghost use Rattle.nvme_trace.specs.Checks.{LawfulTextsAreAllowed, LawfulTextsPass, OneAnswer};
 ghost use Rattle.nvme_trace.specs.Surveys.{LawfulSurveys};
-ghost use Rattle.nvme_trace.specs.Taken.{LawfulRunsAreTaken, TakenRunsAreLawful};
+ghost use Rattle.nvme_trace.specs.Taken.{LawfulRunsAreTaken, TakenRunsAreLawful, TakenRunsAreLimited};
+ghost use Rattle.nvme_trace.specs.Within.{RunsWithinAreTaken};
 
-/// Picks that are taken for those of this front are lawful, but for `fresh` where a round begins by itself.
+/// Picks that are taken for those of this front are lawful, with limits where a room is told, but for `fresh` where a round
+/// begins by itself.
 pub fn taken_runs_are_lawful()
-    ensures { TakenRunsAreLawful }
+    ensures lawful { TakenRunsAreLawful }
+    ensures limited { TakenRunsAreLimited }
 {}
 
-/// A lawful run is taken.
+/// A lawful run is taken where no room is told.
 pub fn lawful_runs_are_taken()
     ensures { LawfulRunsAreTaken }
+{}
+
+/// What this front makes where the device has room for so many commands is taken where the lines tell it.
+pub fn runs_within_rooms_are_taken()
+    ensures { RunsWithinAreTaken }
 {}
 
 /// A text that this front writes of a lawful run is lawful by the profile.

@@ -15,6 +15,8 @@ const HEAD: &str = "version, mechanism and cdw11";
 
 const PICK: &str = "pick, n, fresh and seen";
 
+const PICK_OR_LIMIT: &str = "pick, n, fresh, seen and, with a limit, room";
+
 // What makes a line of each object.
 const ARRAY: &str = "; one object on each line (jq -c '.[]' makes them)";
 
@@ -27,6 +29,7 @@ fn wanted(field: Field) -> &'static str {
         Field::Mechanism => "\"round-robin\" or \"weighted\"",
         Field::Cdw11 | Field::Set => "a whole number from 0 to 4294967295",
         Field::Pick | Field::N => "a whole number from 0 to 65535",
+        Field::Room => "a whole number from 1 to 65535; without a limit leave it out",
         Field::Fresh => "true or false",
         Field::Seen => "an array of the open submission queues",
     }
@@ -354,7 +357,18 @@ fn event_value_note(
     if line.value.get(Field::Set.name()).is_some() {
         value_note(alloc, line, fault, &["set"], "set alone")
     } else {
-        value_note(alloc, line, fault, &["pick", "n", "fresh", "seen"], PICK)
+        let fields = if fault == LineFault::Unknown {
+            PICK_OR_LIMIT
+        } else {
+            PICK
+        };
+        value_note(
+            alloc,
+            line,
+            fault,
+            &["pick", "n", "room", "fresh", "seen"],
+            fields,
+        )
     }
 }
 

@@ -1,8 +1,8 @@
 // Reads what a line says.
-ghost use Rattle.std.specs.Prelude.{◌≡◌, ◌≤◌, length, option_map, ok_or, IfOk, IfSome};
+ghost use Rattle.std.specs.Prelude.{◌≡◌, ◌≤◌, length, None, Ok, option_map, ok_or, IfOk, IfSome};
 ghost use Rattle.serde_json.specs.View.{view, members_view};
 ghost use Rattle.nvme_trace.specs.Readings.{Gives, seen_by, only, value_at, whole, number_at, flag_at, is_extra, member_count, field_count};
-ghost use Rattle.nvme_trace.specs.Format.{longest_line, mechanism_of, head_in, class_named, number_of_part, class_of_part, part_count, triple_of, queue_of, queues_of, observation_of, set_in, fresh_in, pick_fields, pick_in, event_in, data_of, object_in, head_of_line, event_by, event_view};
+ghost use Rattle.nvme_trace.specs.Format.{longest_line, mechanism_of, head_in, class_named, number_of_part, class_of_part, part_count, triple_of, queue_of, queues_of, observation_of, set_in, fresh_in, but_zero, room_in, pick_fields, pick_in, event_in, room_told, room_of_line, data_of, object_in, head_of_line, event_by, event_view, room_view};
 ghost use Rattle.serde_json.specs.Read.{read};
 ghost use Rattle.nvme_arbiter.specs.Observation.{IsObservation};
 ghost use Rattle.nvme_trace.specs.Judged.{IsObserved};
@@ -26,10 +26,11 @@ pub struct Head {
 /// A line of a trace after its head.
 #[derive(Debug, Drop, PartialEq, Eq)]
 pub enum TraceEvent {
-    /// A pick, and the open queues that were seen.
+    /// A pick, the open queues that were seen, and for how many commands the device had room, where that was a limit.
     Pick {
         seen: ArrayVec<Seen, QUEUE_LIMIT>,
         pick: Pick,
+        room: Option<u16>,
     },
     /// A change of the settings.
     Set {
@@ -244,6 +245,7 @@ fn observation_of(value: &Value) -> Option<ArrayVec<Seen, QUEUE_LIMIT>>
 #[tactic(auto, unfolding(crate::specs::Format::set_in))]
 fn set_in(line: &Value) -> Result<TraceEvent, LineFault>
     ensures value { seen_by event_view result ≡ set_in (view line.now) }
+    ensures room { IfOk result (λ e. room_view e ≡ None) }
     ensures observed { IfOk result (λ e. IsObserved (event_view e)) }
 {
     let cdw11 = number_at(line, Field::Set, 0xffff_ffff)?;
@@ -265,25 +267,57 @@ fn fresh_in(basis: Basis, line: &Value) -> Result<bool, LineFault>
     }
 }
 
+// A whole number from 1 to 65,535.
+fn but_zero(value: &Value) -> Option<u16>
+    ensures { result ≡ but_zero (whole 65535 (view value.now)) }
+{
+    match whole(value, 0xffff)? {
+        0 => None,
+        number => Some(number as u16),
+    }
+}
+
+// For how many commands the device had room, where that is told.
+#[tactic(auto, unfolding(crate::specs::Format::room_in))]
+fn room_in(line: &Value) -> Result<Option<u16>, LineFault>
+    ensures { result ≡ room_in (view line.now) }
+{
+    let Some(value) = line.get(Field::Room.name()) else {
+        return Ok(None);
+    };
+    match but_zero(value) {
+        Some(room) => Ok(Some(room)),
+        None => Err(LineFault::Bad(Field::Room)),
+    }
+}
+
 // The number of fields of a pick.
 fn pick_fields(line: &Value) -> usize
     ensures { result ≡ pick_fields (view line.now) }
 {
-    if line.get(Field::Fresh.name()).is_some() {
+    let with_fresh = if line.get(Field::Fresh.name()).is_some() {
         4
     } else {
         3
-    }
+    };
+    let with_room = if line.get(Field::Room.name()).is_some() {
+        1
+    } else {
+        0
+    };
+    with_fresh + with_room
 }
 
 // What a pick says.
 #[tactic(auto, unfolding(crate::specs::Format::pick_in))]
 fn pick_in(basis: Basis, line: &Value) -> Result<TraceEvent, LineFault>
     ensures value { seen_by event_view result ≡ pick_in basis (view line.now) }
+    ensures room { IfOk result (λ e. Ok (room_view e) ≡ room_in (view line.now)) }
     ensures observed { IfOk result (λ e. IsObserved (event_view e)) }
 {
     let qid = number_at(line, Field::Pick, 0xffff)? as u16;
     let n = number_at(line, Field::N, 0xffff)? as u16;
+    let room = room_in(line)?;
     let fresh = fresh_in(basis, line)?;
     let Some(seen) = observation_of(value_at(line, Field::Seen)?) else {
         return Err(LineFault::NotObservation);
@@ -292,6 +326,7 @@ fn pick_in(basis: Basis, line: &Value) -> Result<TraceEvent, LineFault>
     Ok(TraceEvent::Pick {
         seen,
         pick: Pick { qid, n, fresh },
+        room,
     })
 }
 
@@ -299,6 +334,7 @@ fn pick_in(basis: Basis, line: &Value) -> Result<TraceEvent, LineFault>
 #[tactic(auto, unfolding(crate::specs::Format::event_in))]
 fn event_in(basis: Basis, line: &Value) -> Result<TraceEvent, LineFault>
     ensures value { seen_by event_view result ≡ event_in basis (view line.now) }
+    ensures room { IfOk result (λ e. Ok (room_view e) ≡ room_told (view line.now)) }
     ensures observed { IfOk result (λ e. IsObserved (event_view e)) }
 {
     if line.get(Field::Set.name()).is_some() {
@@ -361,6 +397,7 @@ pub(crate) fn event_of_line(
 ) -> Result<TraceEvent, LineFault>
     requires { length line.now ≤ longest_line }
     ensures value { Gives (seen_by event_view result) (event_by basis line.now) }
+    ensures room { IfOk result (λ e. room_view e ≡ room_of_line line.now) }
     ensures observed { IfOk result (λ e. IsObserved (event_view e)) }
 {
     let value = data_of(alloc, line)?;

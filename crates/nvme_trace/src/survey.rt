@@ -4,7 +4,7 @@ ghost use Rattle.nvme_arbiter.specs.History.{History, Picked, Changed};
 ghost use Rattle.nvme_trace.specs.Taken.{IsTakenPick};
 ghost use Rattle.nvme_arbiter.specs.Observation.{IsObservation};
 ghost use Rattle.nvme_trace.specs.Lines.{TakesTold};
-ghost use Rattle.nvme_trace.specs.Format.{head_of_line, event_view};
+ghost use Rattle.nvme_trace.specs.Format.{head_of_line, event_view, room_view, room_of_line};
 ghost use Rattle.nvme_trace.specs.Judged.{IsObserved, picks_of};
 ghost use Rattle.nvme_trace.specs.Shown.{IsReadFault};
 ghost use Rattle.nvme_trace.specs.Surveys.{IsSurvey, IsDifferent, AreNone, Told, kind_of, is_kind, most_told, told_of};
@@ -181,7 +181,7 @@ impl Surveyor {
     // Takes a pick that is the lawful one.
     fn pass(&mut self, seen: &[Seen], picked: Pick)
         requires few { self.old.survey.picks < 2 ^ 64 - 1 }
-        ensures at { (head : Head) (past : History) (line : ℕ × List ℕ) (lines : List (ℕ × List ℕ)) → SurveysAt head past lines self.old → IsObservation seen.now → IsTakenPick head.mechanism head.settings past seen.now picked → SurveysAt head (Picked seen.now picked ∷ past) (line ∷ lines) self.new }
+        ensures at { (head : Head) (past : History) (line : ℕ × List ℕ) (lines : List (ℕ × List ℕ)) → SurveysAt head past lines self.old → IsObservation seen.now → IsTakenPick head.mechanism head.settings past (room_of_line line.1) seen.now picked → SurveysAt head (Picked seen.now picked ∷ past) (line ∷ lines) self.new }
         ensures picks { self.new.survey.picks ≡ self.old.survey.picks + 1 }
         ensures counts { self.new.survey.counts ≡ self.old.survey.counts }
     {
@@ -198,7 +198,7 @@ impl Surveyor {
     ) -> Result<(), TraceError>
         requires few { AreFew self.old.survey.counts self.old.survey.picks }
         requires room { self.old.survey.picks < 2 ^ 64 - 1 }
-        ensures at { OnOk result ((head : Head) (past : History) (lines : List (ℕ × List ℕ)) → SurveysAt head past lines self.old → IsObservation seen.now → IsDifferent head past seen.now picked difference.finding → SurveysAt head (Picked seen.now picked ∷ past) ((difference.line, difference.quoted.items) ∷ lines) self.new) }
+        ensures at { OnOk result ((head : Head) (past : History) (lines : List (ℕ × List ℕ)) → SurveysAt head past lines self.old → IsObservation seen.now → IsDifferent head past (room_of_line difference.quoted.items) seen.now picked difference.finding → SurveysAt head (Picked seen.now picked ∷ past) ((difference.line, difference.quoted.items) ∷ lines) self.new) }
         ensures picks { self.new.survey.picks ≡ self.old.survey.picks + 1 }
         ensures counts { AreFew self.new.survey.counts self.new.survey.picks }
         ensures fault { IfErr result (λ e. e ≡ fault.NoMemory) }
@@ -219,6 +219,7 @@ impl Surveyor {
         event: &TraceEvent,
     ) -> Result<(), TraceError>
         requires observed { IsObserved (event_view event.now) }
+        requires told { room_view event.now ≡ room_of_line trace.old.latest }
         requires few { AreFew self.old.survey.counts self.old.survey.picks }
         requires room { self.old.survey.picks < 2 ^ 64 - 1 }
         ensures at { OnOk result ((head : Head) (past : History) (lines : List (ℕ × List ℕ)) → SurveysAt head past lines self.old → SurveysAt head (event_view event.now ∷ past) ((trace.old.number, trace.old.latest) ∷ lines) self.new) }
@@ -233,7 +234,9 @@ impl Surveyor {
                 self.set(*settings);
                 Ok(())
             }
-            TraceEvent::Pick { seen, pick } => match difference(&self.kept, seen, *pick) {
+            TraceEvent::Pick { seen, pick, room } => match difference(
+                &self.kept, seen, *pick, *room,
+            ) {
                 None => {
                     self.pass(seen, *pick);
                     Ok(())

@@ -341,3 +341,161 @@ fn turns_by_rules(rt: HostRuntime) -> Result<(), Fail> {
     );
     Ok(())
 }
+
+// The traces of these tests go on from the changed settings: burst 4, High 3, Medium 1, Low 2. High is used up, so the next
+// pick is of the low q4, and takes the least of burst 4, credit 2, what waits and the room that the line tells.
+#[test]
+fn picks_within_a_room(rt: HostRuntime) -> Result<(), Fail> {
+    let alloc = rt.alloc();
+    for (lines, picks) in [
+        (
+            "{\"pick\":4,\"n\":1,\"room\":1,\"fresh\":false,\"seen\":[[0,\"admin\",0],[1,\"high\",2],[4,\"low\",5]]}",
+            4,
+        ),
+        (
+            "{\"pick\":4,\"n\":2,\"room\":2,\"fresh\":false,\"seen\":[[0,\"admin\",0],[1,\"high\",2],[4,\"low\",5]]}",
+            4,
+        ),
+        (
+            "{\"pick\":4,\"n\":2,\"room\":65535,\"fresh\":false,\"seen\":[[0,\"admin\",0],[1,\"high\",2],[4,\"low\",5]]}",
+            4,
+        ),
+        // What there was no room for stays of the credit.
+        (
+            "{\"pick\":4,\"n\":1,\"room\":1,\"fresh\":false,\"seen\":[[0,\"admin\",0],[1,\"high\",2],[4,\"low\",5]]}\n{\"pick\":4,\"n\":1,\"fresh\":false,\"seen\":[[0,\"admin\",0],[1,\"high\",2],[4,\"low\",4]]}",
+            5,
+        ),
+    ] {
+        let text = format!(in alloc; "{CHANGED}{lines}\n")?;
+        let lawful = format!(in alloc; "lawful: {picks} picks")?;
+        let told = format!(in alloc; "differs: 0 of {picks} picks")?;
+        assert_eq!(rt;
+            answer(alloc, text.as_str())?.as_str(),
+            lawful.as_str(),
+            "at {lines}"
+        );
+        assert_eq!(rt;
+            survey(alloc, text.as_str())?.as_str(),
+            told.as_str(),
+            "at {lines}"
+        );
+        assert_eq!(rt;
+            answer_by_rules(alloc, text.as_str())?.as_str(),
+            lawful.as_str(),
+            "at {lines}"
+        );
+    }
+    Ok(())
+}
+
+#[test]
+fn picks_beside_a_room(rt: HostRuntime) -> Result<(), Fail> {
+    let alloc = rt.alloc();
+    for (line, picked, expected, least) in [
+        // too few without a room
+        (
+            "{\"pick\":4,\"n\":1,\"fresh\":false,\"seen\":[[0,\"admin\",0],[1,\"high\",2],[4,\"low\",5]]}",
+            1,
+            2,
+            "burst 4, credit 2, waiting 5",
+        ),
+        // fewer than there is room for
+        (
+            "{\"pick\":4,\"n\":1,\"room\":3,\"fresh\":false,\"seen\":[[0,\"admin\",0],[1,\"high\",2],[4,\"low\",5]]}",
+            1,
+            2,
+            "burst 4, credit 2, room 3, waiting 5",
+        ),
+        // more than there is room for
+        (
+            "{\"pick\":4,\"n\":2,\"room\":1,\"fresh\":false,\"seen\":[[0,\"admin\",0],[1,\"high\",2],[4,\"low\",5]]}",
+            2,
+            1,
+            "burst 4, credit 2, room 1, waiting 5",
+        ),
+        // as many as there is room for, and more than the credit
+        (
+            "{\"pick\":4,\"n\":3,\"room\":3,\"fresh\":false,\"seen\":[[0,\"admin\",0],[1,\"high\",2],[4,\"low\",5]]}",
+            3,
+            2,
+            "burst 4, credit 2, room 3, waiting 5",
+        ),
+    ] {
+        let text = format!(in alloc; "{CHANGED}{line}\n")?;
+        let want = format!(in alloc;
+            "differs: line 6\npicked: q4 {picked}\nexpected: q4 {expected}\nwhy: case 3, the first level that is ready and has credit\nserved last: admin q0, urgent none, high q1, medium none, low none\nused in the round: high 3 of 3, medium 0 of 1, low 0 of 2\nnumber: n is the least of {least}\nsettings: burst 4, high 3, medium 1, low 2\nline: {line}"
+        )?;
+        let told = format!(in alloc; "differs: 1 of 4 picks\nanother number: 1\n\n{want}")?;
+        assert_eq!(rt; answer(alloc, text.as_str())?.as_str(), want.as_str());
+        assert_eq!(rt; survey(alloc, text.as_str())?.as_str(), told.as_str());
+    }
+    Ok(())
+}
+
+// The specification knows no room, so that a pick may take more or fewer. The line is read, and its faults told.
+#[test]
+fn rooms_by_rules(rt: HostRuntime) -> Result<(), Fail> {
+    let alloc = rt.alloc();
+    for (line, told) in [
+        (
+            "{\"pick\":4,\"n\":1,\"room\":3,\"fresh\":false,\"seen\":[[0,\"admin\",0],[1,\"high\",2],[4,\"low\",5]]}",
+            "lawful: 4 picks",
+        ),
+        (
+            "{\"pick\":4,\"n\":2,\"room\":1,\"seen\":[[4,\"low\",5]]}",
+            "lawful: 4 picks",
+        ),
+        (
+            "{\"pick\":4,\"n\":1,\"room\":0,\"seen\":[[4,\"low\",5]]}",
+            "trace: line 6: bad room: found 0, wanted a whole number from 1 to 65535; without a limit leave it out",
+        ),
+        (
+            "{\"pick\":4,\"n\":3,\"room\":3,\"seen\":[[4,\"low\",5]]}",
+            "unlawful: line 6\npicked: q4 3\nrule: no more commands of a level are picked in a round than its weight\nnumber: n is from 1 to the least of burst 4, waiting 5, weight left 2\nsettings: burst 4, high 3, medium 1, low 2\nline: {\"pick\":4,\"n\":3,\"room\":3,\"seen\":[[4,\"low\",5]]}",
+        ),
+    ] {
+        let text = format!(in alloc; "{CHANGED}{line}\n")?;
+        assert_eq!(rt;
+            answer_by_rules(alloc, text.as_str())?.as_str(),
+            told,
+            "at {line}"
+        );
+    }
+    Ok(())
+}
+
+#[test]
+fn rooms_under_round_robin(rt: HostRuntime) -> Result<(), Fail> {
+    let alloc = rt.alloc();
+    for (cdw11, least) in [
+        (2, "burst 4, room 3, waiting 7\nsettings: burst 4"),
+        (7, "room 3, waiting 7\nsettings: no burst limit"),
+    ] {
+        let head = format!(in alloc;
+            "{{\"version\":1,\"mechanism\":\"round-robin\",\"cdw11\":{cdw11}}}\n"
+        )?;
+        let rest = "\"room\":3,\"fresh\":false,\"seen\":[[1,\"low\",7]]}";
+        let lawful = format!(in alloc; "{head}{{\"pick\":1,\"n\":3,{rest}")?;
+        let few = format!(in alloc; "{head}{{\"pick\":1,\"n\":2,{rest}")?;
+        let want = format!(in alloc;
+            "differs: line 2\npicked: q1 2\nexpected: q1 3\nwhy: round robin, the next ready queue after the latest pick\nserved last: of all none\nnumber: n is the least of {least}\nline: {{\"pick\":1,\"n\":2,{rest}"
+        )?;
+        assert_eq!(rt; answer(alloc, lawful.as_str())?.as_str(), "lawful: 1 pick");
+        assert_eq!(rt; answer(alloc, few.as_str())?.as_str(), want.as_str());
+    }
+    Ok(())
+}
+
+// Within a room, too, a pick may say that it starts the first round.
+#[test]
+fn first_rounds_begin_by_themselves_within_a_room(rt: HostRuntime) -> Result<(), Fail> {
+    let alloc = rt.alloc();
+    let head = "{\"version\":1,\"mechanism\":\"weighted\",\"cdw11\":50397185}";
+    for fresh in ["true", "false"] {
+        let text = format!(in alloc;
+            "{head}\n{{\"pick\":1,\"n\":1,\"room\":1,\"fresh\":{fresh},\"seen\":[[1,\"high\",5]]}}\n"
+        )?;
+        assert_eq!(rt; answer(alloc, text.as_str())?.as_str(), "lawful: 1 pick");
+    }
+    Ok(())
+}

@@ -90,6 +90,10 @@ fn heads(rt: HostRuntime) -> Result<(), Fail> {
             "{\"version\":1,\"mechanism\":\"weighted\",\"cdw11\":0,\"x\":0,\"t\":5,\"x_t\":1}",
             "unknown field: \"t\", wanted version, mechanism and cdw11; fields that begin with x_ are ignored",
         ),
+        (
+            "{\"version\":1,\"mechanism\":\"weighted\",\"cdw11\":0,\"room\":1}",
+            "unknown field: \"room\", wanted version, mechanism and cdw11; fields that begin with x_ are ignored",
+        ),
     ] {
         let want = format!(in rt.alloc(); "trace: line 1: {want}")?;
         assert_eq!(rt;
@@ -157,6 +161,38 @@ fn events(rt: HostRuntime) -> Result<(), Fail> {
             "bad n: found \"012345678901234567890123456789012345678.., wanted a whole number from 0 to 65535",
         ),
         (
+            "{\"pick\":1,\"room\":0}",
+            "missing n: wanted a whole number from 0 to 65535",
+        ),
+        (
+            "{\"pick\":1,\"n\":0,\"room\":0}",
+            "bad room: found 0, wanted a whole number from 1 to 65535; without a limit leave it out",
+        ),
+        (
+            "{\"pick\":1,\"n\":1,\"room\":65536}",
+            "bad room: found 65536, wanted a whole number from 1 to 65535; without a limit leave it out",
+        ),
+        (
+            "{\"pick\":1,\"n\":3,\"room\":\"3\",\"fresh\":0}",
+            "bad room: found \"3\", wanted a whole number from 1 to 65535; without a limit leave it out",
+        ),
+        (
+            "{\"pick\":1,\"n\":1,\"room\":null}",
+            "bad room: found null, wanted a whole number from 1 to 65535; without a limit leave it out",
+        ),
+        (
+            "{\"pick\":1,\"n\":1,\"room\":1}",
+            "missing fresh: wanted true or false; with --spec it may be left out",
+        ),
+        (
+            "{\"pick\":1,\"n\":1,\"room\":1,\"fresh\":false,\"seen\":[],\"rooms\":1}",
+            "unknown field: \"rooms\", wanted pick, n, fresh, seen and, with a limit, room; fields that begin with x_ are ignored",
+        ),
+        (
+            "{\"set\":0,\"room\":1}",
+            "unknown field: \"room\", wanted set alone; fields that begin with x_ are ignored",
+        ),
+        (
             "{\"pick\":1,\"n\":1}",
             "missing fresh: wanted true or false; with --spec it may be left out",
         ),
@@ -170,7 +206,7 @@ fn events(rt: HostRuntime) -> Result<(), Fail> {
         ),
         (
             "{\"pick\":1,\"n\":1,\"fresh\":false,\"seen\":[],\"x_a\":0,\"x\":0}",
-            "unknown field: \"x\", wanted pick, n, fresh and seen; fields that begin with x_ are ignored",
+            "unknown field: \"x\", wanted pick, n, fresh, seen and, with a limit, room; fields that begin with x_ are ignored",
         ),
     ] {
         let want = format!(in alloc; "trace: line 3: {want}")?;

@@ -46,6 +46,28 @@ q2             0           -         -         -         -         -
     Ok(())
 }
 
+// The same, where the lines tell that there was room for one command, or for two.
+const WAITS_IN_ROOM: &str = "{\"version\":1,\"mechanism\":\"round-robin\",\"cdw11\":0}
+{\"pick\":1,\"n\":1,\"room\":1,\"fresh\":false,\"seen\":[[1,\"high\",5],[2,\"low\",0]]}
+{\"pick\":1,\"n\":1,\"room\":2,\"fresh\":false,\"seen\":[[1,\"high\",4],[2,\"low\",9]]}
+{\"pick\":1,\"n\":1,\"room\":1,\"fresh\":false,\"seen\":[[1,\"high\",3],[2,\"low\",9]]}
+{\"pick\":2,\"n\":1,\"fresh\":false,\"seen\":[[1,\"high\",2],[2,\"low\",9]]}
+";
+
+#[test]
+fn rooms_change_no_numbers(rt: HostRuntime) -> Result<(), Fail> {
+    let alloc = rt.alloc();
+    assert_eq!(rt;
+        table_of(alloc, WAITS_IN_ROOM)?.as_str(),
+        table_of(alloc, WAITS)?.as_str()
+    );
+    assert_eq!(rt;
+        drawn(alloc, WAITS_IN_ROOM.as_bytes())?.as_str(),
+        drawn(alloc, WAITS.as_bytes())?.as_str()
+    );
+    Ok(())
+}
+
 // The table of a text.
 fn table_of(alloc: Global, text: &str) -> Result<String, Fail> {
     let Ok(counted) = stats(alloc, text.as_bytes(), Selection::ALL, None) else {

@@ -1,5 +1,5 @@
 -- A written line is read back as what was written.
-use Rattle.std.proofs.Common.{◌≡◌, ℕ, suc, ◌<◌, ◌≤◌, ltb, leb, true, false, List, [], ◌∷◌, ◌++◌, length, Some, Ok, option_and_then, refl, sym, ap, subst, ◌∙◌, arith, append_assoc, append-nil}
+use Rattle.std.proofs.Common.{◌≡◌, ℕ, suc, ◌<◌, ◌≤◌, ltb, leb, true, false, List, [], ◌∷◌, ◌++◌, length, Some, None, Ok, option_and_then, refl, sym, ap, subst, ◌∙◌, arith, append_assoc, append-nil}
 use Rattle.std.specs.Prelude.{codes, All}
 use Rattle.std.proofs.lemmas.Bool.{le-leb, le-ltb}
 use Rattle.std.proofs.lemmas.Fmt.{decimal_digit}
@@ -28,7 +28,7 @@ use Rattle.nvme_arbiter.specs.declared.pick.Pick.{Pick}
 use Rattle.nvme_trace.specs.declared.basis.Basis.TheVariants.{Profile}
 use Rattle.nvme_trace.specs.Names.{class_text, mechanism_text}
 use Rattle.nvme_trace.specs.Readings.{item_count, number_at, flag_at}
-use Rattle.nvme_trace.specs.Format.{longest_line, class_named, queue_of, triple_of, queues_from, queues_of, observation_of, head_in, set_in, pick_in, event_in, data_of, object_in, head_of_line, fresh_in, event_by, event_of_line}
+use Rattle.nvme_trace.specs.Format.{longest_line, class_named, queue_of, triple_of, queues_from, queues_of, observation_of, head_in, set_in, pick_in, event_in, data_of, object_in, head_of_line, room_in, room_of_line, fresh_in, event_by, event_of_line}
 use Rattle.nvme_tracer.proofs.PlainLines.{plain_utf8}
 use Rattle.nvme_tracer.proofs.ShortLines.{IsShort, cdw11_small, short_head, short_set, short_pick}
 use Rattle.nvme_tracer.proofs.WrittenJson.{head_json, queues_json, pick_json, set_json, line_of, head_bytes, set_bytes, pick_bytes, head_line, set_line, pick_line}
@@ -80,15 +80,22 @@ unfolding head_in number_at
 head_told RoundRobin settings small = let e : leb (cdw11_of settings) 4294967295 ≡ true = le-leb _ _ (omega arith) in rw e refl
 head_told Weighted settings small = let e : leb (cdw11_of settings) 4294967295 ≡ true = le-leb _ _ (omega arith) in rw e refl
 
+head_parsed : (mechanism : Mechanism) (settings : ArbitrationFields) → FitsFields settings → data_of (head_bytes mechanism settings) ≡ Ok (head_data mechanism settings)
+head_parsed mechanism settings f =
+    let small = cdw11_small settings f in
+    data_read _ (head_data mechanism settings) (short_head mechanism settings f)
+    (reads (head_json mechanism settings) (head_data mechanism settings) _ (head_line mechanism settings) (one_number, (tt, (IsNumber-decimal (cdw11_of settings) (omega arith), tt))) (omega arith) (head_is mechanism settings small))
+
+pub head_room : (mechanism : Mechanism) (settings : ArbitrationFields) → FitsFields settings → room_of_line (head_bytes mechanism settings) ≡ None
+unfolding room_in
+head_room mechanism settings f = rw (head_parsed mechanism settings f) refl
+
 pub head_read : (mechanism : Mechanism) (settings : ArbitrationFields) → FitsFields settings
     → head_of_line (head_bytes mechanism settings) ≡ Ok (record { mechanism = mechanism; settings = settings })
 unfolding head_of_line object_in
 head_read mechanism settings f =
     let small = cdw11_small settings f in
-    let d : data_of (head_bytes mechanism settings) ≡ Ok (head_data mechanism settings) =
-    data_read _ (head_data mechanism settings) (short_head mechanism settings f)
-    (reads (head_json mechanism settings) (head_data mechanism settings) _ (head_line mechanism settings) (one_number, (tt, (IsNumber-decimal (cdw11_of settings) (omega arith), tt))) (omega arith) (head_is mechanism settings small)) in
-    rw d (head_told mechanism settings small ∙ ap (λ (s : ArbitrationFields). Ok (record { mechanism = mechanism; settings = s })) (reads_back settings f))
+    rw (head_parsed mechanism settings f) (head_told mechanism settings small ∙ ap (λ (s : ArbitrationFields). Ok (record { mechanism = mechanism; settings = s })) (reads_back settings f))
 
 -- ---- a change of the settings
 set_is : (settings : ArbitrationFields) → cdw11_of settings < 4294967296 → of_json (set_json settings) ≡ Some (set_data settings)
@@ -98,14 +105,20 @@ set_told : (settings : ArbitrationFields) → cdw11_of settings < 4294967296 →
 unfolding event_in set_in number_at
 set_told settings small = let e : leb (cdw11_of settings) 4294967295 ≡ true = le-leb _ _ (omega arith) in rw e refl
 
+set_parsed : (settings : ArbitrationFields) → FitsFields settings → data_of (set_bytes settings) ≡ Ok (set_data settings)
+set_parsed settings f =
+    let small = cdw11_small settings f in
+    data_read _ (set_data settings) (short_set settings f)
+    (reads (set_json settings) (set_data settings) _ (set_line settings) (IsNumber-decimal (cdw11_of settings) (omega arith), tt) (omega arith) (set_is settings small))
+
+pub set_room : (settings : ArbitrationFields) → FitsFields settings → room_of_line (set_bytes settings) ≡ None
+set_room settings f = rw (set_parsed settings f) refl
+
 pub set_read : (settings : ArbitrationFields) → FitsFields settings → event_of_line (set_bytes settings) ≡ Ok (Changed settings)
 unfolding event_by object_in
 set_read settings f =
     let small = cdw11_small settings f in
-    let d : data_of (set_bytes settings) ≡ Ok (set_data settings) =
-    data_read _ (set_data settings) (short_set settings f)
-    (reads (set_json settings) (set_data settings) _ (set_line settings) (IsNumber-decimal (cdw11_of settings) (omega arith), tt) (omega arith) (set_is settings small)) in
-    rw d (set_told settings small ∙ ap (λ (s : ArbitrationFields). Ok (Changed s)) (reads_back settings f))
+    rw (set_parsed settings f) (set_told settings small ∙ ap (λ (s : ArbitrationFields). Ok (Changed s)) (reads_back settings f))
 
 -- ---- the open queues
 queues_numbers : (qs : List Seen) → All IsSeen qs → ItemsHaveNumbers (queues_json qs)
@@ -160,17 +173,22 @@ pick_is : (seen : List Seen) (pick : Pick) → All IsSeen seen → pick.qid < 65
 pick_is seen pick a qid n = rw (number_of-decimal pick.qid (omega arith), number_of-decimal pick.n (omega arith), queues_are seen a) refl
 
 pick_told : (seen : List Seen) (pick : Pick) → IsObservation seen → length seen ≤ 65 → pick.qid < 65536 → pick.n < 65536 → event_in Profile (pick_data seen pick) ≡ Ok (Picked seen pick)
-unfolding event_in pick_in fresh_in number_at flag_at
+unfolding event_in pick_in room_in fresh_in number_at flag_at
 pick_told seen pick o few qid n =
     let a : leb pick.qid 65535 ≡ true = le-leb _ _ (omega arith) in
     let b : leb pick.n 65535 ≡ true = le-leb _ _ (omega arith) in
     rw (a, b, observed_back seen o few) refl
 
-pub pick_read : (seen : List Seen) (pick : Pick) → IsObservation seen → length seen ≤ 65 → pick.qid < 65536 → pick.n < 65536 → event_of_line (pick_bytes seen pick) ≡ Ok (Picked seen pick)
-unfolding event_by object_in
-pick_read seen pick o few qid n =
-    let d : data_of (pick_bytes seen pick) ≡ Ok (pick_data seen pick) =
+pick_parsed : (seen : List Seen) (pick : Pick) → IsObservation seen → length seen ≤ 65 → pick.qid < 65536 → pick.n < 65536 → data_of (pick_bytes seen pick) ≡ Ok (pick_data seen pick)
+pick_parsed seen pick o few qid n =
     data_read _ (pick_data seen pick) (short_pick seen pick o.each few qid n)
     (reads (pick_json seen pick) (pick_data seen pick) _ (pick_line seen pick) (IsNumber-decimal pick.qid (omega arith), (IsNumber-decimal pick.n (omega arith), (tt, (queues_numbers seen o.each, tt))))
-    (omega (arith, queues_depth seen)) (pick_is seen pick o.each qid n)) in
-    rw d (pick_told seen pick o few qid n)
+    (omega (arith, queues_depth seen)) (pick_is seen pick o.each qid n))
+
+pub pick_room : (seen : List Seen) (pick : Pick) → IsObservation seen → length seen ≤ 65 → pick.qid < 65536 → pick.n < 65536 → room_of_line (pick_bytes seen pick) ≡ None
+unfolding room_in
+pick_room seen pick o few qid n = rw (pick_parsed seen pick o few qid n) refl
+
+pub pick_read : (seen : List Seen) (pick : Pick) → IsObservation seen → length seen ≤ 65 → pick.qid < 65536 → pick.n < 65536 → event_of_line (pick_bytes seen pick) ≡ Ok (Picked seen pick)
+unfolding event_by object_in
+pick_read seen pick o few qid n = rw (pick_parsed seen pick o few qid n) (pick_told seen pick o few qid n)

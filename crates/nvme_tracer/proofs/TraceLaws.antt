@@ -9,8 +9,10 @@ use Rattle.nvme_log.proofs.PickCounts.{picks_in-append}
 use Rattle.nvme_trace.specs.Lines.{told_lines}
 use Rattle.nvme_trace.specs.Judged.{picks_in}
 use Rattle.nvme_trace.specs.Checks.{Tells}
+use Rattle.nvme_trace.specs.Format.{rooms_of}
+use Rattle.nvme_trace.specs.Taken.{TellNoRoom}
 use Rattle.nvme_tracer.specs.Traces.{trace_of, head_of, TracesAreReadBack, TracesAreLawful}
-use Rattle.nvme_tracer.proofs.TracedLines.{trace_tells}
+use Rattle.nvme_tracer.proofs.TracedLines.{trace_tells, trace_no_room}
 use Rattle.nvme_tracer.proofs.AccountedSettings.{log_fits}
 
 pub read_back : TracesAreReadBack
@@ -38,6 +40,9 @@ lawful rules sent log collected f a = record {
   head = head_of rules;
   past = arbitration_of (reverse log);
   tells = read_back rules sent log collected f a;
+  no_room = let fit = log_fits rules (reverse log) f a.effects_at_once in
+      subst (λ (es : List Event). TellNoRoom (rooms_of (reverse (told_lines (trace_of rules es))))) (reverse-reverse log)
+      (trace_no_room rules.mechanism rules.start.settings (reverse log) f fit a.lawful);
   lawful = a.lawful;
   picks_are = sym (picks_turned log) ∙ picks_of_log (reverse log);
 }

@@ -23,10 +23,12 @@ use Rattle.nvme_log.specs.Histories.{arbitration_of}
 use Rattle.nvme_trace.specs.Lines.{lines_of, is_blank, numbered, told_lines}
 use Rattle.nvme_tracer.specs.Text.{text_of_head, text_of_event, trace_text, text_of_pick, text_of_set}
 use Rattle.nvme_trace.specs.Checks.{Tells}
+use Rattle.nvme_trace.specs.Format.{rooms_of}
+use Rattle.nvme_trace.specs.Taken.{TellNoRoom}
 use Rattle.nvme_tracer.proofs.PlainLines.{is_plain, plain_line}
 use Rattle.nvme_tracer.proofs.ShortLines.{short_head, short_set, short_pick}
 use Rattle.nvme_tracer.proofs.WrittenJson.{head_bytes, set_bytes, pick_bytes, head_ends, set_ends, pick_ends}
-use Rattle.nvme_tracer.proofs.ReadLines.{head_read, set_read, pick_read}
+use Rattle.nvme_tracer.proofs.ReadLines.{head_read, set_read, pick_read, head_room, set_room, pick_room}
 
 -- ---- the picks of a lawful run are small
 few_from : (least : ℕ) (seen : List Seen) → least ≤ 65 → is_observation_from least seen ≡ true → length seen + least ≤ 65
@@ -94,6 +96,14 @@ lines_tell mechanism first (Picked seen pick ∷ past) f s l =
 lines_tell mechanism first (Changed settings ∷ past) f s l =
     let lines : List (List ℕ) = written_lines mechanism first past in
     ((length lines + 1, set_bytes settings), counted lines, refl, set_read settings s.0, lines_tell mechanism first past f s.1 l)
+
+-- none of them tells a room
+pub lines_no_room : (mechanism : Mechanism) (first : ArbitrationFields) (past : History) → FitsFields first → SettingsFit past → IsLawfulRun mechanism first past → TellNoRoom (rooms_of (counted (written_lines mechanism first past)))
+lines_no_room mechanism first [] f s l = (head_room mechanism first f, tt)
+lines_no_room mechanism first (Picked seen pick ∷ past) f s l =
+    let small = small_pick mechanism first past seen pick l.0 l.1 in
+    (pick_room seen pick l.0 small.few small.qid small.n, lines_no_room mechanism first past f s l.2)
+lines_no_room mechanism first (Changed settings ∷ past) f s l = (set_room settings s.0, lines_no_room mechanism first past f s.1 l)
 
 -- none of them is blank
 abbrev NoneIsBlank : List (List ℕ) → Type 0
@@ -172,12 +182,24 @@ trace_lines mechanism first (event.SetArbitration settings ∷ past) rest f s l 
     ∙ turn_more (set_bytes settings) lines (lines_of rest)))
 trace_lines mechanism first (e ∷ past) rest f s l = ap lines_of (text_more mechanism first past e rest) ∙ trace_lines mechanism first past rest f s l
 
--- a trace tells its head and its history
-pub trace_tells : (mechanism : Mechanism) (first : ArbitrationFields) (past : Past) → FitsFields first → SettingsFit (arbitration_of past) → IsLawfulRun mechanism first (arbitration_of past)
-    → Tells (record { mechanism = mechanism; settings = first }) (arbitration_of past) (reverse (told_lines (trace_text mechanism first (reverse past))))
-trace_tells mechanism first past f s l =
+-- the lines of a trace
+trace_told : (mechanism : Mechanism) (first : ArbitrationFields) (past : Past) → FitsFields first → SettingsFit (arbitration_of past) → IsLawfulRun mechanism first (arbitration_of past)
+    → counted (written_lines mechanism first (arbitration_of past)) ≡ reverse (told_lines (trace_text mechanism first (reverse past)))
+trace_told mechanism first past f s l =
     let text : List ℕ = trace_text mechanism first (reverse past) in
     let lines : List (List ℕ) = written_lines mechanism first (arbitration_of past) in
     let all : lines_of text ≡ reverse lines = ap lines_of (sym (append-nil text)) ∙ (trace_lines mechanism first past [] f s l ∙ append-nil (reverse lines)) in
     let told : told_lines text ≡ reverse (counted lines) = ap (numbered 0) all ∙ numbered_turned lines (none_blank mechanism first (arbitration_of past)) in
-    subst (Tells (record { mechanism = mechanism; settings = first }) (arbitration_of past)) (sym (ap reverse told ∙ reverse-reverse (counted lines))) (lines_tell mechanism first (arbitration_of past) f s l)
+    sym (ap reverse told ∙ reverse-reverse (counted lines))
+
+-- a trace tells its head and its history
+pub trace_tells : (mechanism : Mechanism) (first : ArbitrationFields) (past : Past) → FitsFields first → SettingsFit (arbitration_of past) → IsLawfulRun mechanism first (arbitration_of past)
+    → Tells (record { mechanism = mechanism; settings = first }) (arbitration_of past) (reverse (told_lines (trace_text mechanism first (reverse past))))
+trace_tells mechanism first past f s l =
+    subst (Tells (record { mechanism = mechanism; settings = first }) (arbitration_of past)) (trace_told mechanism first past f s l) (lines_tell mechanism first (arbitration_of past) f s l)
+
+-- and no room
+pub trace_no_room : (mechanism : Mechanism) (first : ArbitrationFields) (past : Past) → FitsFields first → SettingsFit (arbitration_of past) → IsLawfulRun mechanism first (arbitration_of past)
+    → TellNoRoom (rooms_of (reverse (told_lines (trace_text mechanism first (reverse past)))))
+trace_no_room mechanism first past f s l =
+    subst (λ (ls : List (ℕ × List ℕ)). TellNoRoom (rooms_of ls)) (trace_told mechanism first past f s l) (lines_no_room mechanism first (arbitration_of past) f s l)

@@ -2,6 +2,7 @@
 use Rattle.std.specs.Prelude.{◌≤◌, ◌<◌, ℕ, ◌+◌, ◌==◌, ◌&&◌, Bool, false, List, Option, Some, None}
 use Rattle.nvme_arbiter.specs.Settings.{ArbitrationFields}
 use Rattle.nvme_arbiter.specs.History.{History}
+use Rattle.nvme_arbiter.specs.Lawful.{cut}
 use Rattle.nvme_arbiter.specs.Standing.{last_with, used_before}
 use Rattle.nvme_arbiter.specs.declared.settings.Class.{Class}
 use Rattle.nvme_arbiter.specs.declared.settings.Class.TheVariants.{Admin, Urgent, High, Medium, Low}
@@ -27,6 +28,11 @@ used_plus used (Some Low) n = record used { low = capped_used (used.low + n) }
 -- what is kept after any pick of a class
 abbrev pub followed : Kept → Option Class → Pick → Kept
 followed k class pick = record k { last = record (last_with k.last class pick.qid) { all = Some pick.qid }; used = used_plus (used_before pick.fresh k.used) class pick.n }
+
+-- a pick that takes no more commands than there is room for, where that is told
+abbrev pub within_room : Option ℕ → Pick → Pick
+within_room None pick = pick
+within_room (Some room) pick = cut room pick
 
 -- whether nothing is used in the round, as it is kept
 abbrev pub unused_by : Mechanism → Used → Bool

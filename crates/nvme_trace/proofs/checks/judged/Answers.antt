@@ -1,10 +1,10 @@
-use Rattle.std.proofs.Common.{◌≡◌, ◌+◌, None, Ok, arith, rules}
+use Rattle.std.proofs.Common.{◌≡◌, ◌+◌, ℕ, Option, None, Ok, subst, arith, rules}
 use Rattle.std.proofs.lemmas.Result.{err_from_is_err_and}
 use Rattle.nvme_arbiter.specs.History.{History}
 use Rattle.nvme_trace.specs.Lines.{TakesTold, HasNoTold}
-use Rattle.nvme_trace.specs.Format.{event_by, event_view}
+use Rattle.nvme_trace.specs.Format.{event_by, event_view, room_view, room_of_line}
 use Rattle.nvme_trace.specs.Judged.{IsObserved, picks_of}
-use Rattle.nvme_trace.specs.Bases.{IsAllowedBy, StandsBy, picks_by}
+use Rattle.nvme_trace.specs.Bases.{IsAllowedBy, IsReasonBy, StandsBy, picks_by}
 use Rattle.nvme_trace.proofs.JudgeLemmas.{at_none, if_none, few_picks}
 use Rattle.nvme_trace.proofs.CheckLemmas.{judged_head, judged_more, judged_all, judged_reason, judged_fault}
 use Rattle.nvme_trace.proofs.checks.judged.Goals as goal
@@ -37,8 +37,9 @@ returns-in-Some-judge-clause-answer g c = λ text t.
     let n = c.event_by.new.self.number in
     let took : TakesTold (λ line. event_by c.args.basis line ≡ Ok event) m old n new = search rules in
     let quoted : TakesTold (λ line. line ≡ c.take_line.result.items) m old n new = search rules in
+    let room : room_view c.in-Some.event ≡ room_of_line c.take_line.result.items = search rules in
     judged_reason c.args.basis text m old n new c.number.result c.take_line.result.items c.args.head c.loop.judge event c.in-Some-judge.reason (c.loop.invariant.judged text t) took quoted
-    (λ past s. c.in-Some-judge.ensures.allowed c.args.basis c.args.head past s) c.number.ensures
+    (λ past s. subst (λ (r : Option ℕ). IsReasonBy c.args.basis c.args.head past r event c.in-Some-judge.reason) room (c.in-Some-judge.ensures.allowed c.args.basis c.args.head past s)) c.number.ensures
 
 pub loop-preserved : goal.loop-preserved
 loop-preserved g c =
@@ -49,14 +50,17 @@ loop-preserved g c =
     let n = c.event_by.new.self.number in
     let head = c.args.head in
     let took : TakesTold (λ line. event_by c.args.basis line ≡ Ok event) m old n new = search rules in
+    let latest = c.event_by.new.self.latest in
+    let quoted : TakesTold (λ line. line ≡ latest) m old n new = search rules in
+    let room : room_view c.in-Some.event ≡ room_of_line latest = search rules in
     let seen : IsObserved event = search rules in
     let none : c.judge.result ≡ None = search rules in
-    let allowed : (past : History) → StandsBy c.args.basis head past c.loop.judge → IsAllowedBy c.args.basis head past event =
-    λ past s. at_none _ _ c.judge.result (c.judge.ensures.allowed c.args.basis head past s) none in
+    let allowed : (past : History) → StandsBy c.args.basis head past c.loop.judge → IsAllowedBy c.args.basis head past (room_of_line latest) event =
+    λ past s. subst (λ (r : Option ℕ). IsAllowedBy c.args.basis head past r event) room (at_none _ _ c.judge.result (c.judge.ensures.allowed c.args.basis head past s) none) in
     let stands = λ (past : History) (s : StandsBy c.args.basis head past c.loop.judge). if_none _ c.judge.result (c.judge.ensures.stands c.args.basis head past s) none in
     let picks : picks_by c.judge.new.self ≡ picks_by c.loop.judge + picks_of event = if_none _ c.judge.result c.judge.ensures.picks none in
     let few = few_picks event in
     record {
-      judged = λ text t. judged_more c.args.basis text m old n new head c.loop.judge c.judge.new.self event (c.loop.invariant.judged text t) took seen allowed stands picks;
+      judged = λ text t. judged_more c.args.basis text m old n new latest head c.loop.judge c.judge.new.self event (c.loop.invariant.judged text t) took quoted seen allowed stands picks;
       picks = omega (arith, picks, few, c.loop.invariant.picks);
     }

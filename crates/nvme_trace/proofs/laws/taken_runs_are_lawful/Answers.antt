@@ -1,5 +1,8 @@
-use Rattle.nvme_trace.proofs.TakenLemmas.{taken_lawful}
+use Rattle.nvme_trace.proofs.TakenLemmas.{taken_lawful, taken_limited}
 use Rattle.nvme_trace.proofs.laws.taken_runs_are_lawful.Goals as goal
 
-pub returns : goal.returns
-returns c = taken_lawful
+pub returns-clause-lawful : goal.returns-clause-lawful
+returns-clause-lawful c = taken_lawful
+
+pub returns-clause-limited : goal.returns-clause-limited
+returns-clause-limited c = taken_limited

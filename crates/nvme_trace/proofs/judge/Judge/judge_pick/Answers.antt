@@ -11,8 +11,8 @@ pub returns-then-eq-clause-stands : goal.returns-then-eq-clause-stands
 returns-then-eq-clause-stands c = λ m first past h.
     let kept : c.args.self.now.kept ≡ c.self.inside.arbiter = cc in
     let stood = subst (StandsAt m first past) kept h in
-    let same : c.pick-lawful.result ≡ Some c.as_written.result = search rules in
+    let same : c.pick_within-lawful.result ≡ Some c.as_written.result = search rules in
     let written : c.as_written.result ≡ as_written m past c.args.picked = c.as_written.ensures.stands m first past (subst (StandsAt m first past) (sym c.parts-kept.ensures) stood) in
-    stands_told m first past c.args.seen.now c.args.picked c.pick-lawful.new.self
-    (subst (λ (pick : Pick). StandsAt m first (Picked c.args.seen.now pick ∷ past) c.pick-lawful.new.self) written
-    (at_some _ (λ pick. StandsAt m first (Picked c.args.seen.now pick ∷ past) c.pick-lawful.new.self) c.pick-lawful.result c.as_written.result (c.pick-lawful.ensures.stands m first past stood) same))
+    stands_told m first past c.args.seen.now c.args.picked c.pick_within-lawful.new.arbiter
+    (subst (λ (pick : Pick). StandsAt m first (Picked c.args.seen.now pick ∷ past) c.pick_within-lawful.new.arbiter) written
+    (at_some _ (λ pick. StandsAt m first (Picked c.args.seen.now pick ∷ past) c.pick_within-lawful.new.arbiter) c.pick_within-lawful.result c.as_written.result (c.pick_within-lawful.ensures.stands m first past stood) same))

@@ -1,6 +1,7 @@
-use Rattle.std.proofs.Common.{◌∷◌, ℕ, List, sym, subst, ◌∙◌}
+use Rattle.std.proofs.Common.{◌≡◌, ◌∷◌, ℕ, List, Option, sym, ap, subst, ◌∙◌}
 use Rattle.nvme_arbiter.specs.Observation.{IsObservation}
 use Rattle.nvme_arbiter.specs.History.{Picked}
+use Rattle.nvme_trace.specs.Format.{room_of_line}
 use Rattle.nvme_trace.specs.Taken.{IsTakenPick}
 use Rattle.nvme_arbiter.specs.declared.pick.Seen.{Seen}
 use Rattle.nvme_trace.specs.Surveys.{IsDifferent}
@@ -17,11 +18,12 @@ returns-in-None-clause-at g c = λ head past lines at.
     let observed : IsObservation c.in-Pick.seen.items = rw c.in-Pick.is at c.requires.observed in
     let first = c.deref.ensures.0 in
     let second = c.deref-in-None.ensures.0 in
-    let lawful = c.in-None.ensures head past at.follows in
+    let room : c.in-Pick.room ≡ room_of_line c.args.trace.now.latest = rw c.in-Pick.is at c.requires.told in
+    let lawful = subst (λ (r : Option ℕ). IsTakenPick head.mechanism head.settings past r c.deref.result.now pick) room (c.in-None.ensures head past at.follows) in
     rw c.in-Pick.is
     (subst (λ (xs : List Seen). SurveysAt head (Picked xs pick ∷ past) ((c.args.trace.now.number, c.args.trace.now.latest) ∷ lines) c.pass.new.self) second
     (c.pass.ensures.at head past _ lines at (subst IsObservation (sym second) observed)
-    (subst (λ (xs : List Seen). IsTakenPick head.mechanism head.settings past xs pick) (first ∙ sym second) lawful)))
+    (subst (λ (xs : List Seen). IsTakenPick head.mechanism head.settings past (room_of_line c.args.trace.now.latest) xs pick) (first ∙ sym second) lawful)))
 
 pub returns-in-Some-clause-at : goal.returns-in-Some-clause-at
 returns-in-Some-clause-at g c = after_ok c.tell.result _ _ c.tell.ensures.at (λ told head past lines at.
@@ -30,8 +32,11 @@ returns-in-Some-clause-at g c = after_ok c.tell.result _ _ c.tell.ensures.at (λ
     let observed : IsObservation c.in-Pick.seen.items = rw c.in-Pick.is at c.requires.observed in
     let first = c.deref.ensures.0 in
     let second = c.deref-in-Some.ensures.0 in
-    let different = c.in-Some.ensures head past at.follows in
-    let after = told head past lines at (subst IsObservation (sym second) observed) (subst (λ (xs : List Seen). IsDifferent head past xs pick finding) (first ∙ sym second) different) in
+    let line = c.take_line-quoted.result.items in
+    let room : c.in-Pick.room ≡ room_of_line c.args.trace.now.latest = rw c.in-Pick.is at c.requires.told in
+    let told_in : c.in-Pick.room ≡ room_of_line line = room ∙ ap room_of_line (sym c.take_line-quoted.ensures.latest) in
+    let different = subst (λ (r : Option ℕ). IsDifferent head past r c.deref.result.now pick finding) told_in (c.in-Some.ensures head past at.follows) in
+    let after = told head past lines at (subst IsObservation (sym second) observed) (subst (λ (xs : List Seen). IsDifferent head past (room_of_line line) xs pick finding) (first ∙ sym second) different) in
     rw c.in-Pick.is
     (subst (λ (xs : List Seen). SurveysAt head (Picked xs pick ∷ past) ((c.args.trace.now.number, c.args.trace.now.latest) ∷ lines) c.tell.new.self) second
     (subst (λ (l : List ℕ). SurveysAt head (Picked c.deref-in-Some.result.now pick ∷ past) ((c.args.trace.now.number, l) ∷ lines) c.tell.new.self) c.take_line-quoted.ensures.latest
