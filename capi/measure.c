@@ -131,7 +131,7 @@ static void serve(uint16_t cqid, uint16_t head)
     nvmearb_step step;
     nvmearb_command command;
     nvmearb_post post;
-    while (nvmearb_ctrl_pick(&ctrl, slots, COMMANDS, &step) == NVMEARB_OK) {
+    while (nvmearb_ctrl_pick(&ctrl, slots, COMMANDS, NVMEARB_NO_LIMIT, &step) == NVMEARB_OK) {
         while (nvmearb_ctrl_take(&ctrl, slots, COMMANDS, &command) == NVMEARB_OK) {
             nvmearb_ctrl_complete(&ctrl, slots, COMMANDS, command.tag, &success, 0);
         }

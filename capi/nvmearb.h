@@ -18,16 +18,18 @@
  *      as Identify.
  *   4. At each doorbell write nvmearb_ctrl_sq_tail or nvmearb_ctrl_cq_head.
  *   5. For each queue, while nvmearb_ctrl_fetch tells a slot: read the entry there, and nvmearb_ctrl_fetched.
- *   6. While nvmearb_ctrl_take gives a command, execute it. Where it has none, nvmearb_ctrl_pick, and begin again,
- *      until that picks nothing either. At a step that created a queue (NVMEARB_OPEN_SQ, NVMEARB_OPEN_CQ), keep where
- *      it lies (nvmearb_asked). At one that began a deletion (NVMEARB_BEGIN_DELETE), do 9. at once.
+ *   6. While nvmearb_ctrl_take gives a command, execute it. Where it has none, nvmearb_ctrl_pick with room for as many
+ *      commands as the device can take now, and begin again, until that picks nothing either. At a step that created a
+ *      queue (NVMEARB_OPEN_SQ, NVMEARB_OPEN_CQ), keep where it lies (nvmearb_asked). At one that began a deletion
+ *      (NVMEARB_BEGIN_DELETE), do 9. at once.
  *   7. nvmearb_ctrl_complete, or nvmearb_ctrl_complete_with, for each command that ends, in any order and at any time.
  *   8. For each completion queue, while nvmearb_ctrl_post gives a completion: write its bytes into the slot of the
  *      ring, Command Dword 3 last, since it has the phase tag, and then send the interrupt of the queue's vector, if
  *      its enable bit is set.
  *   9. After a pick that began a deletion, nvmearb_ctrl_finish at once and after each 8., while it ends one.
  *  10. Go back to 5., for every queue, until a pass does nothing: picks make room for fetches, posts for picks
- *      (NVMEARB_FULL), and the end of a deletion for both. The completion of its Delete is posted in the next pass.
+ *      (NVMEARB_FULL), and the end of a deletion for both. The completion of its Delete is posted in the next pass. Go
+ *      back too once the device can take more commands than at its last pick.
  *
  * What holds of all calls. Every function is proved (crates/nvme_capi), unless NVMEARB_UNPROVED says otherwise. None
  * allocates, waits, starts a thread, keeps a pointer, or reads or writes anything but what its arguments point to, and all
@@ -103,7 +105,7 @@ uint32_t nvmearb_size(uint32_t state);
 #define NVMEARB_EMANY 5u  /* there are NVMEARB_MAX_REGIONS regions of this kind, or queues may lie anywhere */
 #define NVMEARB_ESIZE 6u  /* a region has 2 to 4096 slots */
 #define NVMEARB_BUSY 7u   /* nothing can be picked yet: commands are to be taken */
-#define NVMEARB_FULL 8u   /* nothing can be picked yet: too many commands were picked and aren't posted */
+#define NVMEARB_FULL 8u   /* nothing can be picked yet: there is room for no command, or too many aren't posted */
 
 /*
  * Entries: the fields of entries and dwords, and the status of an I/O command. No call keeps a state.
@@ -308,6 +310,9 @@ void nvmearb_settings_of(uint32_t cdw11, nvmearb_settings *settings);
 #define NVMEARB_MAX_QUEUES 65
 #define NVMEARB_MAX_COUNT 256
 
+/* The room of a device, or the limit of a pick, where there is none. Each from NVMEARB_MAX_COUNT on is as good. */
+#define NVMEARB_NO_LIMIT 65535u
+
 /*
  * An arbiter. nvmearb_arbiter_init initialises it, and it may be copied. Its fields are the library's. It is valid if
  * `mechanism` is one of the two and each of `last` is at most 65536, whoever wrote them: zeros aren't, and other memory
@@ -356,6 +361,17 @@ uint32_t nvmearb_arbiter_peek(const nvmearb_arbiter *arbiter, const nvmearb_seen
 
 /* Picks: as nvmearb_arbiter_peek, and the arbiter counts these commands as served. The caller takes all n of them. */
 uint32_t nvmearb_arbiter_pick(nvmearb_arbiter *arbiter, const nvmearb_seen *seen, size_t count, nvmearb_pick *pick);
+
+/*
+ * Picks at most `limit` commands: as nvmearb_arbiter_pick, but n is the least of that n and `limit`. It is for a caller
+ * that has room for so many commands: the burst is the most that may be fetched at a time (Command Arbitration), so a
+ * pick may take fewer. The arbiter counts only these n as served. The rest waits until the turn of its queue comes
+ * again; what they would have used of the weight of their class stays.
+ * NVMEARB_ESTATE if `arbiter` isn't valid; otherwise NVMEARB_EARG if `limit` is 0 or as nvmearb_arbiter_peek; otherwise
+ * NVMEARB_NONE if no command waits.
+ */
+uint32_t nvmearb_arbiter_pick_up_to(nvmearb_arbiter *arbiter, const nvmearb_seen *seen, size_t count, uint16_t limit,
+                                    nvmearb_pick *pick);
 
 /*
  * Board: an arbiter that keeps the open queues and the numbers of their commands itself. It is told of each command
@@ -427,6 +443,14 @@ uint32_t nvmearb_board_peek(const nvmearb_board *board, nvmearb_pick *pick);
  */
 uint32_t nvmearb_board_pick(nvmearb_board *board, nvmearb_pick *pick);
 
+/*
+ * Picks at most `limit` commands: as nvmearb_board_pick, but n is the least of that n and `limit`, as
+ * nvmearb_arbiter_pick_up_to tells. The rest of them still waits.
+ * NVMEARB_ESTATE if `board` isn't valid; otherwise NVMEARB_EARG if `limit` is 0; otherwise NVMEARB_NONE if no command
+ * waits.
+ */
+uint32_t nvmearb_board_pick_up_to(nvmearb_board *board, uint16_t limit, nvmearb_pick *pick);
+
 /* Takes new settings, as nvmearb_arbiter_set. The queues stay. NVMEARB_ESTATE if `board` isn't valid. */
 uint32_t nvmearb_board_set(nvmearb_board *board, uint32_t cdw11);
 
@@ -443,7 +467,8 @@ uint32_t nvmearb_board_set(nvmearb_board *board, uint32_t cdw11);
  *   4. nvmearb_board_came for each command that a submission queue tail doorbell announces, or nvmearb_board_came_n
  *      for all of them. A board counts at most NVMEARB_MAX_COUNT of a queue; tell it of further ones once some were
  *      picked.
- *   5. nvmearb_board_pick writes a queue and a number n. Take the n oldest waiting commands out of its ring.
+ *   5. nvmearb_board_pick writes a queue and a number n, as nvmearb_board_pick_up_to does for a caller that has room
+ *      for so many commands. Take the n oldest waiting commands out of its ring.
  *        I/O:   nvmearb_sqe_decode, then nvmearb_check and an execution of one's own, then nvmearb_cqe_encode.
  *        Admin: nvmearb_table_apply, then what the verdict asks for, then nvmearb_cqe_encode.
  */
@@ -836,23 +861,32 @@ uint32_t nvmearb_ctrl_fetched(nvmearb_ctrl *ctrl, nvmearb_slot *slots, size_t co
                               const uint8_t bytes[NVMEARB_SQE_BYTES], uint32_t cookie);
 
 /*
- * Writes the pick that arbitration makes next of the commands that wait now, whether or not nvmearb_ctrl_pick can make
- * it already.
+ * Writes the pick that arbitration makes next of the commands that wait now, where there is room for all of it, whether
+ * or not nvmearb_ctrl_pick can make it already.
  * NVMEARB_ESTATE, NVMEARB_EARG as nvmearb_ctrl_fetched; otherwise NVMEARB_NONE if no command waits but in queues that
  * are held.
  */
 uint32_t nvmearb_ctrl_peek(const nvmearb_ctrl *ctrl, const nvmearb_slot *slots, size_t count, nvmearb_pick *pick);
 
 /*
- * Makes the next pick of arbitration, and writes what it did. An admin command that isn't the device's is carried out
- * at once: queues are created, a deletion begins and the waiting commands of its queue are answered with 0/08, a
- * waiting command is aborted with 0/07, features are set and told. A Delete and an Abort take the longer the more
- * commands of their queue wait.
+ * Makes the next pick of arbitration, and writes what it did. `room` says how many commands the device can take now; a
+ * device without a bound passes NVMEARB_NO_LIMIT. The queue is the one that is picked with any room, and n the least of
+ * the burst, what its class has left of its weight, what waits in the queue, and `room`: the burst is the most that may
+ * be fetched at a time (Command Arbitration). The rest of the burst waits until the turn of its queue comes again, and
+ * what it would have used of the weight stays. A device that holds commands for long, such as Asynchronous Event
+ * Requests, passes at most 256 less as many. Otherwise a pick without a burst limit may be NVMEARB_FULL for ever.
+ *
+ * An admin command is picked alone, and wants a room of 1. One that isn't the device's is carried out at once: queues
+ * are created, a deletion begins and the waiting commands of its queue are answered with 0/08, a waiting command is
+ * aborted with 0/07, features are set and told. A Delete and an Abort take the longer the more commands of their queue
+ * wait.
+ *
  * NVMEARB_ESTATE, NVMEARB_EARG as nvmearb_ctrl_fetched; otherwise NVMEARB_BUSY if commands are picked and not taken;
- * otherwise NVMEARB_NONE if no command waits but in queues that are held; otherwise NVMEARB_FULL if more than 256
- * commands would be picked, or aborted by an Abort, and have no completion posted.
+ * otherwise NVMEARB_NONE if no command waits but in queues that are held; otherwise NVMEARB_FULL if `room` is 0, or if
+ * more than 256 commands would be picked, or aborted by an Abort, and have no completion posted. Then everything stays
+ * as it was. Where NVMEARB_FULL was told for a room above 1, a smaller one may do.
  */
-uint32_t nvmearb_ctrl_pick(nvmearb_ctrl *ctrl, nvmearb_slot *slots, size_t count, nvmearb_step *step);
+uint32_t nvmearb_ctrl_pick(nvmearb_ctrl *ctrl, nvmearb_slot *slots, size_t count, uint16_t room, nvmearb_step *step);
 
 /*
  * The device takes the oldest of the commands that are picked and not taken: writes it.

@@ -102,14 +102,18 @@ static nvmearb_status execute(struct device *d, const nvmearb_sqe *entry)
     return status;
 }
 
-/* Executes what arbitration picks. A device may just as well complete a command later. */
+/*
+ * Executes what arbitration picks. Each command ends before the next pick, so there is always room. A device may just as
+ * well complete a command later, and then passes how many more it can take.
+ */
 static int work(struct device *d)
 {
     int did = 0;
     uint16_t gone;
     nvmearb_command command;
     nvmearb_step step;
-    for (; nvmearb_ctrl_pick(&d->ctrl, d->slots, COMMANDS, &step) == NVMEARB_OK; did = 1) {
+    while (nvmearb_ctrl_pick(&d->ctrl, d->slots, COMMANDS, NVMEARB_NO_LIMIT, &step) == NVMEARB_OK) {
+        did = 1;
         keep(d, &step);
         while (nvmearb_ctrl_take(&d->ctrl, d->slots, COMMANDS, &command) == NVMEARB_OK) {
             nvmearb_status status = execute(d, &command.entry);

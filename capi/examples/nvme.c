@@ -85,7 +85,6 @@ static void release(struct nvme *d)
     if (!d->has_ended)
         return;
     d->has_ended = 0;
-    memset(d->is_busy, 0, sizeof d->is_busy);
     for (uint16_t qid = 1; qid <= NVME_QUEUES; qid++)
         if (d->state.held_queues[qid]) {
             d->state.held_queues[qid] = 0;
@@ -93,34 +92,48 @@ static void release(struct nvme *d)
         }
 }
 
-/*
- * Whether the namespace of a queue's next command has room for a whole pick of it, or nothing in flight. A pick hands
- * over all of a burst, so a burst above the limit passes it. A namespace without room for one is busy for all queues:
- * otherwise one with a smaller pick would overtake.
- */
-static int has_room(struct nvme *d, const nvmearb_pick *next)
+/* The namespace of the n-th command that waits in a queue, by its place, or `count`: it goes to none, or to all. */
+static uint32_t namespace_of(struct nvme *d, uint16_t qid, uint16_t n)
 {
-    nvmearb_sqe entry;
-    uint32_t cookie, k;
-    if (nvmearb_ctrl_waits(&d->state.ctrl, d->state.slots, NVME_COMMANDS, next->qid, 0, &entry, &cookie) != NVMEARB_OK)
-        return 1;
-    k = entry.nsid - 1;
-    if (k >= d->count) /* it goes to no namespace, or to all */
-        return 1;
-    d->is_busy[k] |= d->in_flight[k] && d->in_flight[k] + next->n > d->most;
-    return !d->is_busy[k];
+    nvmearb_sqe entry = {.nsid = 0};
+    uint32_t cookie;
+    nvmearb_ctrl_waits(&d->state.ctrl, d->state.slots, NVME_COMMANDS, qid, n, &entry, &cookie);
+    return entry.nsid - 1 < d->count ? entry.nsid - 1 : d->count;
 }
 
-/* Whether a pick may be made. Queues whose namespace is busy are left out of arbitration until a request ends. */
-static int is_due(struct nvme *d)
+/* How many of the commands that are picked next their namespaces have room for. */
+static uint16_t fitting(struct nvme *d, const nvmearb_pick *next)
+{
+    uint16_t more[NVME_NAMESPACES + 1] = {0}, n;
+    for (n = 0; n < next->n; n++) {
+        uint32_t k = namespace_of(d, next->qid, n);
+        if (k < d->count && d->in_flight[k] + more[k] >= d->most)
+            break;
+        more[k]++;
+    }
+    return n;
+}
+
+/*
+ * How many commands may be picked now, 0 for none: those that are next, as far as there is room for them. The rest of
+ * the burst waits until the turn of its queue comes again. Queues whose next command there is no room for are left out
+ * of arbitration until a request ends.
+ */
+static uint16_t room(struct nvme *d)
 {
     nvmearb_pick next;
     release(d);
     while (nvmearb_ctrl_peek(&d->state.ctrl, d->state.slots, NVME_COMMANDS, &next) == NVMEARB_OK) {
+        uint16_t whole = next.n;
         if (next.qid == 0)
-            return 1;
-        if (!d->most || has_room(d, &next))
-            return !d->host.may_pick || d->host.may_pick(d->host.context, &next);
+            return NVMEARB_NO_LIMIT;
+        if (d->most)
+            next.n = fitting(d, &next);
+        next.n = next.n < NVME_PICKED ? next.n : NVME_PICKED;
+        if (next.n && d->host.may_pick && !d->host.may_pick(d->host.context, &next))
+            return 0;
+        if (next.n)
+            return next.n < whole ? next.n : NVMEARB_NO_LIMIT;
         d->state.held_queues[next.qid] = 1;
         nvmearb_ctrl_hold(&d->state.ctrl, next.qid, 1);
     }
@@ -129,15 +142,16 @@ static int is_due(struct nvme *d)
 
 /* ---- The loop ---- */
 
-/* The next pick, which is told for a trace. */
+/* The next pick, of as many commands as there is room for, which is told for a trace. */
 static uint32_t pick(struct nvme *d, nvmearb_step *step)
 {
     struct trace_view view;
     nvmearb_ctrl *ctrl = &d->state.ctrl;
+    uint16_t most = room(d);
     if (!d->host.picked)
-        return nvmearb_ctrl_pick(ctrl, d->state.slots, NVME_COMMANDS, step);
-    trace_look(ctrl, &view);
-    uint32_t told = nvmearb_ctrl_pick(ctrl, d->state.slots, NVME_COMMANDS, step);
+        return nvmearb_ctrl_pick(ctrl, d->state.slots, NVME_COMMANDS, most, step);
+    trace_look(ctrl, most, &view);
+    uint32_t told = nvmearb_ctrl_pick(ctrl, d->state.slots, NVME_COMMANDS, most, step);
     if (told == NVMEARB_OK)
         d->host.picked(d->host.context, &view, step);
     return told;
@@ -151,7 +165,7 @@ static int work(struct nvme *d)
     nvmearb_step step;
     uint16_t gone;
     int has_picked = 0;
-    while (is_due(d) && pick(d, &step) == NVMEARB_OK) {
+    while (pick(d, &step) == NVMEARB_OK) {
         has_picked = 1;
         if (step.kind == NVMEARB_CARRIED_OUT)
             opened(d, &step);

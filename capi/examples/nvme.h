@@ -13,8 +13,9 @@
  *
  * What is in flight has a limit, `most`. A pick hands commands to a backend, which serves what it has in an order of
  * its own. If it may have all 256 commands that a controller allows, few wait to be picked, and weights are without
- * effect, though each pick is lawful. So nothing is picked for a namespace that has as many as its backend
- * needs to be busy. Its queues are held meanwhile, and those of other namespaces go on.
+ * effect, though each pick is lawful. So no more is picked for a namespace than its backend needs to be busy: a pick
+ * takes what there is room for. Where a queue's next command goes to a namespace without room, the queue is held
+ * meanwhile, and the others go on.
  */
 #ifndef NVME_H
 #define NVME_H
@@ -26,6 +27,8 @@
 #define NVME_PAGE 4096u
 #define NVME_QUEUES NVMEARB_MAX_IO_QUEUES             /* the most I/O queues of a kind */
 #define NVME_COMMANDS ((NVME_QUEUES + 1) * 256 + 256) /* the slots of the controller */
+#define NVME_EVENT_REQUESTS 4                         /* the most Asynchronous Event Requests that are held */
+#define NVME_PICKED (256 - NVME_EVENT_REQUESTS)       /* the most commands that are picked while these are held */
 #define NVME_NAMESPACES 16                            /* the most namespaces */
 #define NVME_SERIAL 20                                /* the most characters of a serial number */
 #define NVME_MOST_BYTES (256 * NVME_PAGE)             /* the most bytes of one transfer (MDTS) */
@@ -51,7 +54,7 @@ struct nvme_host {
     void (*settle)(void *context);
     /* The time in nanoseconds, from any beginning. */
     uint64_t (*now)(void *context);
-    /* NULL, or whether the next pick of I/O commands may be made now. */
+    /* NULL, or whether the next pick of I/O commands may be made now, of as many as there is room for. */
     int (*may_pick)(void *context, const nvmearb_pick *next);
     /* Executes an admin command of opcode C0h. NULL: there is none. */
     nvmearb_status (*vendor)(void *context, const nvmearb_sqe *entry, uint32_t *dw0);
@@ -125,9 +128,9 @@ struct nvme_state {
     struct nvme_ring sqs[NVME_QUEUES + 1], cqs[NVME_QUEUES + 1]; /* by identifier */
     uint32_t registers[28], masked, features[32], recovery[NVME_NAMESPACES];
     uint8_t uncoalesced[NVME_QUEUES + 1]; /* by vector: CD of Interrupt Vector Configuration */
-    uint8_t held_queues[NVME_QUEUES + 1]; /* queues that are held, since a namespace is busy */
+    uint8_t held_queues[NVME_QUEUES + 1]; /* queues that are held, since a namespace has no room */
     uint8_t is_asserted, is_stopping;     /* the pin; CC.EN is 0, and Writes are in flight */
-    uint16_t held[4], held_count;         /* Asynchronous Event Requests */
+    uint16_t held[NVME_EVENT_REQUESTS], held_count; /* Asynchronous Event Requests */
     uint32_t pending, told;               /* events, and those whose log wasn't read since they were told */
     uint32_t changed;                     /* namespaces that changed since their log was read: bit 0 is namespace 1 */
     struct {
@@ -156,7 +159,7 @@ struct nvme {
     struct nvme_state state;
     struct nvme_request *requests; /* those in flight */
     uint16_t in_flight[NVME_NAMESPACES];
-    uint8_t is_busy[NVME_NAMESPACES], has_ended; /* of which queues are held; whether a request ended since */
+    uint8_t has_ended; /* whether a request ended since queues were held */
 };
 
 /* Makes a device, which isn't enabled. It must be zero but for what is chosen. */

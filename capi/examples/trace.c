@@ -7,8 +7,9 @@ void trace_head(FILE *to, const nvmearb_config *config)
     fprintf(to, "{\"version\":1,\"mechanism\":\"%s\",\"cdw11\":%u}\n", mechanism, config->cdw11);
 }
 
-void trace_look(const nvmearb_ctrl *ctrl, struct trace_view *view)
+void trace_look(const nvmearb_ctrl *ctrl, uint16_t room, struct trace_view *view)
 {
+    view->room = room;
     view->count = 0;
     for (uint16_t qid = 0; qid < NVMEARB_MAX_QUEUES; qid++)
         view->count += nvmearb_ctrl_seen(ctrl, qid, &view->seen[view->count]) == NVMEARB_OK;
@@ -19,7 +20,10 @@ void trace_step(FILE *to, const struct trace_view *view, const nvmearb_step *ste
     static const char *const classes[] = {"admin", "urgent", "high", "medium", "low"};
     /* the pick of a command that the controller carried out itself isn't told: it is one of the admin queue */
     nvmearb_pick pick = step->kind == NVMEARB_CARRIED_OUT ? (nvmearb_pick){.qid = 0, .n = 1} : step->pick;
-    fprintf(to, "{\"pick\":%u,\"n\":%u,\"fresh\":%s,\"seen\":[", pick.qid, pick.n, pick.fresh ? "true" : "false");
+    fprintf(to, "{\"pick\":%u,\"n\":%u,", pick.qid, pick.n);
+    if (view->room < NVMEARB_MAX_COUNT) /* a larger one is no limit */
+        fprintf(to, "\"room\":%u,", view->room);
+    fprintf(to, "\"fresh\":%s,\"seen\":[", pick.fresh ? "true" : "false");
     for (size_t k = 0; k < view->count; k++) {
         const nvmearb_seen *it = &view->seen[k];
         fprintf(to, "%s[%u,\"%s\",%u]", k ? "," : "", it->qid, classes[it->priority], it->count);

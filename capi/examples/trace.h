@@ -5,8 +5,9 @@
 #include <nvmearb.h>
 #include <stdio.h>
 
-/* What a pick is shown: each open submission queue, by ascending identifier. */
+/* What a pick is shown: each open submission queue, by ascending identifier, and the room that there is. */
 struct trace_view {
+    uint16_t room;
     size_t count;
     nvmearb_seen seen[NVMEARB_MAX_QUEUES];
 };
@@ -14,8 +15,8 @@ struct trace_view {
 /* Writes the head of the trace of a controller that was made with this. */
 void trace_head(FILE *to, const nvmearb_config *config);
 
-/* Looks at the queues, just before nvmearb_ctrl_pick. */
-void trace_look(const nvmearb_ctrl *ctrl, struct trace_view *view);
+/* Looks at the queues, just before nvmearb_ctrl_pick with this room. */
+void trace_look(const nvmearb_ctrl *ctrl, uint16_t room, struct trace_view *view);
 
 /* Writes the pick that nvmearb_ctrl_pick made, and the settings of the Arbitration feature if it set them. */
 void trace_step(FILE *to, const struct trace_view *view, const nvmearb_step *step);

@@ -216,7 +216,7 @@ static inline void serve(hand_ctrl *ctrl, const nvmearb_pick *pick)
     }
 }
 
-uint32_t hand_pick(hand_ctrl *ctrl, hand_slot *slots, size_t count, nvmearb_step *step)
+uint32_t hand_pick(hand_ctrl *ctrl, hand_slot *slots, size_t count, uint16_t room, nvmearb_step *step)
 {
     (void)slots;
     nvmearb_pick pick = {0, 0, 0};
@@ -235,7 +235,8 @@ uint32_t hand_pick(hand_ctrl *ctrl, hand_slot *slots, size_t count, nvmearb_step
     if (ctrl->burst != NO_LIMIT) {
         pick.n = least(pick.n, 1u << ctrl->burst);
     }
-    if (pick.n > MOST_OUT - ctrl->unposted) {
+    pick.n = least(pick.n, room);
+    if (room == 0 || pick.n > MOST_OUT - ctrl->unposted) {
         return NVMEARB_FULL;
     }
     serve(ctrl, &pick);

@@ -59,7 +59,7 @@ uint32_t hand_sq_tail(hand_ctrl *ctrl, uint16_t qid, uint16_t tail);
 uint32_t hand_cq_head(hand_ctrl *ctrl, uint16_t cqid, uint16_t head);
 uint32_t hand_fetch(const hand_ctrl *ctrl, uint16_t qid, uint16_t *slot);
 uint32_t hand_fetched(hand_ctrl *ctrl, hand_slot *slots, size_t count, uint16_t qid, const uint8_t *bytes, uint32_t cookie);
-uint32_t hand_pick(hand_ctrl *ctrl, hand_slot *slots, size_t count, nvmearb_step *step);
+uint32_t hand_pick(hand_ctrl *ctrl, hand_slot *slots, size_t count, uint16_t room, nvmearb_step *step);
 uint32_t hand_take(hand_ctrl *ctrl, hand_slot *slots, size_t count, nvmearb_command *command);
 uint32_t hand_complete(hand_ctrl *ctrl, hand_slot *slots, size_t count, uint16_t tag, const nvmearb_status *status,
                        uint32_t dw0);

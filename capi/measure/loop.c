@@ -71,7 +71,7 @@ static void loop_create(uint16_t tail, uint8_t opcode, uint64_t prp1, uint16_t q
     nvmearb_sqe_encode(&entry, it.entry);
     loop_check(nvmearb_ctrl_sq_tail(&it.ctrl, 0, tail % RING));
     loop_check(nvmearb_ctrl_fetched(&it.ctrl, it.slots, POOL, 0, it.entry, 0));
-    loop_check(nvmearb_ctrl_pick(&it.ctrl, it.slots, POOL, &step));
+    loop_check(nvmearb_ctrl_pick(&it.ctrl, it.slots, POOL, NVMEARB_NO_LIMIT, &step));
     loop_check(nvmearb_ctrl_post(&it.ctrl, it.slots, POOL, 0, &post));
     loop_check(nvmearb_ctrl_cq_head(&it.ctrl, 0, tail % RING));
     loop_check(nvmearb_cqe_decode(post.bytes, &answer));
@@ -107,8 +107,8 @@ static void loop_refuse(uint16_t closed)
         CALL(fetch)(&it.ctrl, 1, &slot),
         CALL(fetched)(&it.ctrl, it.slots, POOL - 1, 1, it.entry, 0),
         CALL(fetched)(&it.ctrl, it.slots, POOL, 1, it.entry, 0),
-        CALL(pick)(&it.ctrl, it.slots, POOL - 1, &step),
-        CALL(pick)(&it.ctrl, it.slots, POOL, &step),
+        CALL(pick)(&it.ctrl, it.slots, POOL - 1, 0, &step),
+        CALL(pick)(&it.ctrl, it.slots, POOL, 0, &step),
         CALL(take)(&it.ctrl, it.slots, POOL - 1, &command),
         CALL(take)(&it.ctrl, it.slots, POOL, &command),
         CALL(complete)(&it.ctrl, it.slots, POOL - 1, 0, &success, 0),
@@ -208,7 +208,7 @@ __attribute__((noinline)) static uint64_t counted(const loop_case *of, unsigned 
         for (uint16_t qid = 1; qid <= of->queues; qid++) {
             loop_submit(qid, of->batch);
         }
-        while (CALL(pick)(&it.ctrl, it.slots, POOL, &step) == NVMEARB_OK) {
+        while (CALL(pick)(&it.ctrl, it.slots, POOL, NVMEARB_NO_LIMIT, &step) == NVMEARB_OK) {
             loop_add(loop_join(step.pick.qid, step.pick.n, step.pick.fresh));
             loop_execute();
             loop_post(step.pick.qid);

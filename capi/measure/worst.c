@@ -53,6 +53,7 @@ CALL(arbiter_init, &arbiter, NVMEARB_WEIGHTED, CDW11)
 CALL(arbiter_set, &arbiter, CDW11)
 CALL(arbiter_peek, &arbiter, seen, n, &pick)
 CALL(arbiter_pick, &arbiter, seen, n, &pick)
+CALL(arbiter_pick_up_to, &arbiter, seen, n, 1, &pick)
 CALL(board_init, &board, NVMEARB_WEIGHTED, CDW11)
 CALL(board_open, &board, qid, NVMEARB_LOW)
 CALL(board_close, &board, qid)
@@ -61,6 +62,7 @@ CALL(board_came_n, &board, qid, n)
 CALL(board_went, &board, qid)
 CALL(board_peek, &board, &pick)
 CALL(board_pick, &board, &pick)
+CALL(board_pick_up_to, &board, 1, &pick)
 CALL(board_set, &board, CDW11)
 CALL(ctrl_init, &ctrl, slots, pool, &config)
 CALL(ctrl_init_anywhere, &ctrl, slots, pool, &config, &placement)
@@ -75,7 +77,7 @@ CALL(ctrl_cq_head, &ctrl, qid, n)
 CALL(ctrl_fetch, &ctrl, qid, &number)
 CALL(ctrl_fetched, &ctrl, slots, pool, qid, bytes, 1)
 CALL(ctrl_peek, &ctrl, slots, pool, &pick)
-CALL(ctrl_pick, &ctrl, slots, pool, &step)
+CALL(ctrl_pick, &ctrl, slots, pool, NVMEARB_NO_LIMIT, &step)
 CALL(ctrl_take, &ctrl, slots, pool, &command)
 CALL(ctrl_complete, &ctrl, slots, pool, tag, &success, 0)
 CALL(ctrl_complete_with, &ctrl, slots, pool, tag, &success, 0, NVMEARB_DNR | NVMEARB_MORE)
@@ -182,10 +184,10 @@ static void open(uint16_t last)
     for (uint16_t of = 1; of <= last; of++) {
         put_create_cq(of);
         submit(0);
-        check(nvmearb_ctrl_pick(&ctrl, slots, pool, &step));
+        check(nvmearb_ctrl_pick(&ctrl, slots, pool, NVMEARB_NO_LIMIT, &step));
         put_create_sq(of);
         submit(0);
-        check(nvmearb_ctrl_pick(&ctrl, slots, pool, &step));
+        check(nvmearb_ctrl_pick(&ctrl, slots, pool, NVMEARB_NO_LIMIT, &step));
         check(step.answer.status.sct | step.answer.status.sc);
         post_admin();
     }
@@ -237,6 +239,7 @@ static void count_arbiter(uint16_t queues)
         }
         for (int k = 0; k < 8 && nvmearb_arbiter_peek(&arbiter, seen, n, &pick) == NVMEARB_OK; k++) {
             COUNT(arbiter_peek, with("%u queues are shown", n), "queues that are shown");
+            COUNT(arbiter_pick_up_to, with("%u queues are shown", n), "queues that are shown");
             COUNT(arbiter_pick, with("%u queues are shown", n), "queues that are shown");
         }
     }
@@ -253,6 +256,7 @@ static void count_board_picks(void)
         }
         for (int k = 0; k < 8 && nvmearb_board_peek(&board, &pick) == NVMEARB_OK; k++) {
             COUNT(board_peek, "", "");
+            COUNT(board_pick_up_to, "", "");
             COUNT(board_pick, "", "");
         }
     }
@@ -317,7 +321,7 @@ static void count_way(void)
     COUNT(ctrl_fetched, "", "");
     COUNT(ctrl_waiting, "", "");
     COUNT(ctrl_seen, "", "");
-    check(nvmearb_ctrl_pick(&ctrl, slots, pool, &step));
+    check(nvmearb_ctrl_pick(&ctrl, slots, pool, NVMEARB_NO_LIMIT, &step));
     COUNT(ctrl_take, "", "");
     take();
     COUNT(ctrl_command, "", "");
@@ -399,7 +403,7 @@ static void count_creates(int is_anywhere)
     came_to(NVMEARB_OPEN_SQ);
     put(NVMEARB_OPC_DELETE_SQ, 1, 0, QUEUES, 0);
     submit(0);
-    check(nvmearb_ctrl_pick(&ctrl, slots, pool, &step));
+    check(nvmearb_ctrl_pick(&ctrl, slots, pool, NVMEARB_NO_LIMIT, &step));
     COUNT(ctrl_finish, "one deletion, of queue 64", "identifiers before it");
     post_admin();
     put(NVMEARB_OPC_DELETE_CQ, 1, 0, QUEUES, 0);
@@ -435,7 +439,7 @@ static void count_deletions(void)
         for (uint16_t of = 1; of <= QUEUES; of++) {
             put(NVMEARB_OPC_DELETE_SQ, 1, 0, of, 0);
             submit(0);
-            check(nvmearb_ctrl_pick(&ctrl, slots, pool, &step));
+            check(nvmearb_ctrl_pick(&ctrl, slots, pool, NVMEARB_NO_LIMIT, &step));
         }
         if (without) {
             COUNT(ctrl_finish, "64 deletions, the last ends", "identifiers before it");

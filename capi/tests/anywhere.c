@@ -41,7 +41,7 @@ static int through(uint8_t opcode, uint64_t prp1, uint32_t cdw10, uint32_t cdw11
     entry_of(opcode, slot, prp1, cdw10, cdw11, bytes);
     if (nvmearb_ctrl_sq_tail(&ctrl, 0, next) != NVMEARB_OK || nvmearb_ctrl_fetch(&ctrl, 0, &told) != NVMEARB_OK ||
         told != slot || nvmearb_ctrl_fetched(&ctrl, slots, SLOTS, 0, bytes, 7) != NVMEARB_OK ||
-        nvmearb_ctrl_pick(&ctrl, slots, SLOTS, &step) != NVMEARB_OK || step.kind != NVMEARB_CARRIED_OUT ||
+        nvmearb_ctrl_pick(&ctrl, slots, SLOTS, 1, &step) != NVMEARB_OK || step.kind != NVMEARB_CARRIED_OUT ||
         step.answer.verdict != verdict)
         return 0;
     if (verdict == NVMEARB_BEGIN_DELETE && nvmearb_ctrl_finish(&ctrl, slots, SLOTS, &gone) != NVMEARB_OK)

@@ -93,6 +93,7 @@ static void refused(void)
     memcpy(&kept, &arbiter, sizeof kept);
     for (size_t k = 0; k < sizeof bad / sizeof bad[0]; k++) {
         CHECK(nvmearb_arbiter_pick(&arbiter, bad[k], 2, &pick) == NVMEARB_EARG);
+        CHECK(nvmearb_arbiter_pick_up_to(&arbiter, bad[k], 2, 1, &pick) == NVMEARB_EARG);
     }
     CHECK(nvmearb_arbiter_pick(&arbiter, many, NVMEARB_MAX_QUEUES + 1, &pick) == NVMEARB_EARG);
     CHECK(memcmp(&kept, &arbiter, sizeof kept) == 0);
@@ -100,6 +101,43 @@ static void refused(void)
     CHECK(nvmearb_arbiter_pick(&arbiter, many, 0, &pick) == NVMEARB_ESTATE);
     CHECK(nvmearb_arbiter_peek(&arbiter, many, 0, &pick) == NVMEARB_ESTATE);
     CHECK(nvmearb_arbiter_set(&arbiter, 0) == NVMEARB_ESTATE);
+}
+
+/* As many as there is room for: the rest of a burst waits for the next turn of its queue, and the credit stays. */
+static void up_to_a_limit(void)
+{
+    /* burst 8; the weights are 4, 2 and 1 */
+    static const nvmearb_pick want[] = {{1, 1, 0}, {1, 3, 0}, {2, 1, 0}, {2, 1, 0}, {3, 1, 0}, {1, 4, 1}};
+    static const uint16_t limits[] = {1, 4, 1, NVMEARB_NO_LIMIT, 5, NVMEARB_MAX_COUNT};
+    static const nvmearb_seen seen[] = {{1, NVMEARB_HIGH, 9}, {2, NVMEARB_MEDIUM, 9}, {3, NVMEARB_LOW, 9}};
+    nvmearb_arbiter arbiter, kept;
+    nvmearb_pick pick, none;
+    memset(&none, 0xee, sizeof none);
+    pick = none;
+    CHECK(nvmearb_arbiter_init(&arbiter, NVMEARB_WEIGHTED, 0x03010003) == NVMEARB_OK);
+    memcpy(&kept, &arbiter, sizeof kept);
+    CHECK(nvmearb_arbiter_pick_up_to(&arbiter, seen, 3, 0, &pick) == NVMEARB_EARG);
+    CHECK(nvmearb_arbiter_pick_up_to(&arbiter, seen, 0, 0, &pick) == NVMEARB_EARG);
+    CHECK(nvmearb_arbiter_pick_up_to(&arbiter, seen, 0, 1, &pick) == NVMEARB_NONE);
+    CHECK(memcmp(&kept, &arbiter, sizeof kept) == 0 && memcmp(&pick, &none, sizeof pick) == 0);
+    for (size_t k = 0; k < sizeof want / sizeof *want; k++) {
+        CHECK(nvmearb_arbiter_pick_up_to(&arbiter, seen, 3, limits[k], &pick) == NVMEARB_OK);
+        CHECK(memcmp(&pick, &want[k], sizeof pick) == 0);
+    }
+    memset(&arbiter, 0, sizeof arbiter);
+    CHECK(nvmearb_arbiter_pick_up_to(&arbiter, seen, 3, 0, &pick) == NVMEARB_ESTATE);
+}
+
+/* A pick, of which a drawn word says whether and how it is limited, does what was told ahead, but for its limit. */
+static int is_pick(nvmearb_arbiter *arbiter, const nvmearb_seen *seen, size_t count, uint64_t word, uint32_t told,
+                   nvmearb_pick ahead, nvmearb_pick *pick)
+{
+    uint16_t limit = word & 2 ? NVMEARB_NO_LIMIT : (uint16_t)(1 + (word >> 30) % 40);
+    if (word & 1)
+        return nvmearb_arbiter_pick(arbiter, seen, count, pick) == told && !memcmp(&ahead, pick, sizeof ahead);
+    if (told == NVMEARB_OK && ahead.n > limit)
+        ahead.n = limit;
+    return nvmearb_arbiter_pick_up_to(arbiter, seen, count, limit, pick) == told && !memcmp(&ahead, pick, sizeof ahead);
 }
 
 /* A million rounds on random states, queues and lengths. */
@@ -134,8 +172,7 @@ static void random_calls(void)
         memcpy(&before, &arbiter, sizeof before);
         told = nvmearb_arbiter_peek(&arbiter, seen, count, &ahead);
         wrong += told > NVMEARB_ESTATE;
-        wrong += nvmearb_arbiter_pick(&arbiter, seen, count, &pick) != told;
-        wrong += memcmp(&ahead, &pick, sizeof pick) != 0;
+        wrong += !is_pick(&arbiter, seen, count, word, told, ahead, &pick);
         if (told == NVMEARB_OK) {
             picked++;
             wrong += pick.qid >= count || pick.n < 1 || pick.n > seen[pick.qid].count || pick.fresh > 1;
@@ -155,6 +192,7 @@ int main(void)
     urgent_cuts_in();
     settings_start_a_round();
     refused();
+    up_to_a_limit();
     random_calls();
     return told();
 }

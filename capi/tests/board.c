@@ -50,6 +50,28 @@ static void open_and_close(void)
     CHECK(nvmearb_board_set(&board, 1) == NVMEARB_ESTATE);
 }
 
+/* What is over a limit still waits; a limit of 0 is refused. */
+static void up_to_a_limit(void)
+{
+    nvmearb_board board, before;
+    nvmearb_pick pick = {0xeeee, 0xeeee, 0xeeee};
+    CHECK(nvmearb_board_init(&board, NVMEARB_WEIGHTED, 0x03010007) == NVMEARB_OK);
+    CHECK(nvmearb_board_open(&board, 1, NVMEARB_HIGH) == NVMEARB_OK);
+    CHECK(nvmearb_board_pick_up_to(&board, 1, &pick) == NVMEARB_NONE);
+    CHECK(nvmearb_board_pick_up_to(&board, 0, &pick) == NVMEARB_EARG);
+    CHECK(nvmearb_board_came_n(&board, 1, NVMEARB_MAX_COUNT) == NVMEARB_OK);
+    memcpy(&before, &board, sizeof before);
+    CHECK(nvmearb_board_pick_up_to(&board, 0, &pick) == NVMEARB_EARG && pick.n == 0xeeee);
+    CHECK(memcmp(&before, &board, sizeof before) == 0);
+    CHECK(nvmearb_board_pick_up_to(&board, 1, &pick) == NVMEARB_OK);
+    CHECK(pick.qid == 1 && pick.n == 1 && pick.fresh == 0);
+    CHECK(nvmearb_board_came_n(&board, 1, 2) == NVMEARB_EARG && nvmearb_board_came(&board, 1) == NVMEARB_OK);
+    CHECK(nvmearb_board_pick_up_to(&board, NVMEARB_NO_LIMIT, &pick) == NVMEARB_OK);
+    CHECK(pick.n == 3 && pick.fresh == 0); /* the rest of the weight */
+    memset(&board, 0, sizeof board);
+    CHECK(nvmearb_board_pick_up_to(&board, 0, &pick) == NVMEARB_ESTATE);
+}
+
 /* A board and an arbiter, over many steps of one kind or another. */
 static void beside_an_arbiter(uint32_t mechanism)
 {
@@ -108,8 +130,14 @@ static void beside_an_arbiter(uint32_t mechanism)
                     seen[count++] = (nvmearb_seen){q, priorities[q], counts[q]};
                 }
             }
-            told = nvmearb_arbiter_pick(&arbiter, seen, count, &a);
-            wrong += nvmearb_board_pick(&board, &b) != told;
+            if (word >> 41 & 1) {
+                told = nvmearb_arbiter_pick(&arbiter, seen, count, &a);
+                wrong += nvmearb_board_pick(&board, &b) != told;
+            } else {
+                uint16_t limit = (uint16_t)(1 + (word >> 42) % 4);
+                told = nvmearb_arbiter_pick_up_to(&arbiter, seen, count, limit, &a);
+                wrong += nvmearb_board_pick_up_to(&board, limit, &b) != told;
+            }
             if (told == NVMEARB_OK) {
                 picked++;
                 wrong += memcmp(&a, &b, sizeof a) != 0;
@@ -174,7 +202,8 @@ static void random_calls(void)
             told = nvmearb_board_came_n(&board, qid, (uint16_t)(word >> 32) % 300);
             break;
         default:
-            told = nvmearb_board_pick(&board, &pick);
+            told = word >> 32 & 1 ? nvmearb_board_pick(&board, &pick)
+                                  : nvmearb_board_pick_up_to(&board, (uint16_t)(1 + (word >> 33) % 300), &pick);
         }
         picked += word % 8 == 7 && told == NVMEARB_OK && pick.n <= NVMEARB_MAX_COUNT && pick.qid < NVMEARB_MAX_QUEUES;
         wrong += told > NVMEARB_ESTATE;
@@ -190,6 +219,7 @@ static void random_calls(void)
 int main(void)
 {
     open_and_close();
+    up_to_a_limit();
     beside_an_arbiter(NVMEARB_ROUND_ROBIN);
     beside_an_arbiter(NVMEARB_WEIGHTED);
     random_calls();

@@ -200,9 +200,9 @@ static void windows_and_slots(void)
         CHECK(nvmearb_ctrl_fetched(&ctrl, slots, 3, 0, bytes, 1001) == want);
         if (k == 2) {
             nvmearb_step step;
-            CHECK(nvmearb_ctrl_pick(&ctrl, slots, 3, &step) == NVMEARB_OK && none_to_fetch(1));
+            CHECK(nvmearb_ctrl_pick(&ctrl, slots, 3, NVMEARB_NO_LIMIT, &step) == NVMEARB_OK && none_to_fetch(1));
             CHECK(nvmearb_ctrl_fetched(&ctrl, slots, 3, 0, bytes, 1001) == NVMEARB_OK);
-            CHECK(nvmearb_ctrl_pick(&ctrl, slots, 3, &step) == NVMEARB_OK && none_to_fetch(0));
+            CHECK(nvmearb_ctrl_pick(&ctrl, slots, 3, NVMEARB_NO_LIMIT, &step) == NVMEARB_OK && none_to_fetch(0));
         }
     }
 }
@@ -268,7 +268,7 @@ static uint32_t made(struct call *it, unsigned which)
     case PEEK:
         return nvmearb_ctrl_peek(it->ctrl, it->slots, it->count, &it->pick);
     case PICK:
-        return nvmearb_ctrl_pick(it->ctrl, it->slots, it->count, &it->step);
+        return nvmearb_ctrl_pick(it->ctrl, it->slots, it->count, it->a, &it->step);
     case TAKE:
         return nvmearb_ctrl_take(it->ctrl, it->slots, it->count, &it->command);
     case COMPLETE:
@@ -458,7 +458,7 @@ static int passed_on(uint8_t opcode, uint16_t cid, uint16_t *tag)
 {
     nvmearb_step step;
     nvmearb_command it;
-    int is_well = nvmearb_ctrl_pick(&ctrl, slots, SLOTS, &step) == NVMEARB_OK && step.kind == NVMEARB_PASSED &&
+    int is_well = nvmearb_ctrl_pick(&ctrl, slots, SLOTS, 1, &step) == NVMEARB_OK && step.kind == NVMEARB_PASSED &&
                   step.pick.qid == 0 && step.pick.n == 1 && step.pick.fresh == 0 && step.answer.verdict == 0;
     is_well = is_well && picks_none(NVMEARB_BUSY) && nvmearb_ctrl_take(&ctrl, slots, SLOTS, &it) == NVMEARB_OK;
     *tag = it.tag;

@@ -1,4 +1,4 @@
-/* A controller of 16 slots, and what is asked of it, for the tests of ctrl.c and verify.c. */
+/* A controller of 16 slots, and what is asked of it, for the tests of ctrl.c, room.c and verify.c. */
 #ifndef CTRL_H
 #define CTRL_H
 
@@ -56,8 +56,8 @@ static inline int none_to_fetch(uint16_t qid)
 static inline int carried_out(uint32_t verdict)
 {
     nvmearb_step step;
-    return nvmearb_ctrl_pick(&ctrl, slots, SLOTS, &step) == NVMEARB_OK && step.kind == NVMEARB_CARRIED_OUT &&
-           step.answer.verdict == verdict;
+    return nvmearb_ctrl_pick(&ctrl, slots, SLOTS, NVMEARB_NO_LIMIT, &step) == NVMEARB_OK &&
+           step.kind == NVMEARB_CARRIED_OUT && step.answer.verdict == verdict;
 }
 
 /* Commands of queue 1 are picked. */
@@ -66,17 +66,22 @@ static inline int picked(uint16_t n)
     nvmearb_step step;
     nvmearb_pick pick;
     return nvmearb_ctrl_peek(&ctrl, slots, SLOTS, &pick) == NVMEARB_OK && pick.qid == 1 && pick.n == n &&
-           nvmearb_ctrl_pick(&ctrl, slots, SLOTS, &step) == NVMEARB_OK && step.kind == NVMEARB_PICKED &&
-           step.pick.qid == 1 && step.pick.n == n && step.pick.fresh == 0;
+           nvmearb_ctrl_pick(&ctrl, slots, SLOTS, NVMEARB_NO_LIMIT, &step) == NVMEARB_OK &&
+           step.kind == NVMEARB_PICKED && step.pick.qid == 1 && step.pick.n == n && step.pick.fresh == 0;
 }
 
-/* A pick answers this, and writes nothing. */
-static inline int picks_none(uint32_t want)
+/* A pick with this room answers this, and writes nothing. */
+static inline int picks_none_with(uint16_t room, uint32_t want)
 {
     nvmearb_step step, before;
     memset(&step, 0xee, sizeof step);
     before = step;
-    return nvmearb_ctrl_pick(&ctrl, slots, SLOTS, &step) == want && memcmp(&step, &before, sizeof step) == 0;
+    return nvmearb_ctrl_pick(&ctrl, slots, SLOTS, room, &step) == want && memcmp(&step, &before, sizeof step) == 0;
+}
+
+static inline int picks_none(uint32_t want)
+{
+    return picks_none_with(NVMEARB_NO_LIMIT, want);
 }
 
 /* The command with this identifier is taken, under the tag that is told. */

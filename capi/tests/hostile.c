@@ -1,8 +1,9 @@
 /*
  * Controllers under a hostile host and a hostile device: ten million calls with drawn arguments, under a fixed seed. An
  * account of its own (account.h) keeps each queue and each command in plain lists, and says before each call what it
- * has to answer and to write. The account picks as an arbiter that is shown its counts. Of about every second
- * controller queues may lie anywhere. Of the others they lie on regions, and a queue table answers as the account does.
+ * has to answer and to write. The account picks as an arbiter that is shown its counts, and the room of each pick is
+ * drawn. Of about every second controller queues may lie anywhere. Of the others they lie on regions, and a queue table
+ * answers as the account does.
  *
  *   hostile [COUNT [SEED]]
  */
@@ -142,7 +143,7 @@ static struct {
 
 static struct {
     uint64_t ok, none, busy, full, refused, passed, passed_aborts, named, held, classed, deletions, together, aborts;
-    uint64_t marked, created, made;
+    uint64_t marked, created, made, cut;
     uint64_t anywhere, lies_anywhere, most, bad_sizes, bad_offsets, bad_vectors; /* where queues may lie anywhere */
 } tally;
 
@@ -500,37 +501,64 @@ static int follows(const nvmearb_pick *pick, const nvmearb_step *step)
     return is_taking(step, NVMEARB_PICKED, pick);
 }
 
+/* How many commands the device can take: any number, a few, or none. */
+static uint16_t draw_room(void)
+{
+    switch (upto(8)) {
+    case 0:
+        return 0;
+    case 1:
+        return (uint16_t)upto(0x10000);
+    case 2:
+    case 3:
+        return NVMEARB_NO_LIMIT;
+    }
+    return (uint16_t)(1 + upto(upto(4) ? 6 : 300));
+}
+
 /* Whether a call with another number of slots is refused. */
 static int is_refused(void)
 {
     nvmearb_step step;
     nvmearb_pick pick;
     size_t other = account.slots + 1 + upto(3);
-    return is_right(nvmearb_ctrl_pick(CTRL, room.slots, other, &step), NVMEARB_EARG) &&
+    return is_right(nvmearb_ctrl_pick(CTRL, room.slots, other, draw_room(), &step), NVMEARB_EARG) &&
            is_right(nvmearb_ctrl_peek(CTRL, room.slots, other, &pick), NVMEARB_EARG);
 }
 
+/* What a pick with this room answers, where `pick` is the next one as far as there is room for it. */
+static uint32_t pick_answer(uint32_t next, uint16_t most, const nvmearb_pick *pick)
+{
+    const struct command *oldest = &account.commands[account.sqs[0].waiting.at[0]];
+    if (account.picked.n)
+        return NVMEARB_BUSY;
+    if (next != NVMEARB_OK)
+        return next;
+    unsigned more = pick->qid == 0 && oldest->entry[0] == NVMEARB_OPC_ABORT ? 2 : pick->n;
+    return most == 0 || account.places + more > 256 ? NVMEARB_FULL : NVMEARB_OK;
+}
+
+/* A pick: n is the least of the room and of what is picked with any room. */
 static int picks(void)
 {
     nvmearb_seen seen[NVMEARB_MAX_QUEUES];
     nvmearb_pick pick = {0}, found = {0};
     nvmearb_step step;
+    uint16_t most = draw_room();
     size_t n = observe(seen);
-    uint32_t want = nvmearb_arbiter_peek(&account.arbiter, seen, n, &pick);
-    if (!is_right(nvmearb_ctrl_peek(CTRL, POOL, &found), want) || memcmp(&pick, &found, sizeof pick))
+    uint32_t next = nvmearb_arbiter_peek(&account.arbiter, seen, n, &pick), want;
+    if (!is_right(nvmearb_ctrl_peek(CTRL, POOL, &found), next) || memcmp(&pick, &found, sizeof pick))
         return 0;
-    if (account.picked.n) {
-        want = NVMEARB_BUSY;
-    } else if (want == NVMEARB_OK) {
-        const struct command *oldest = &account.commands[account.sqs[0].waiting.at[0]];
-        unsigned more = pick.qid == 0 && oldest->entry[0] == NVMEARB_OPC_ABORT ? 2 : pick.n;
-        want = account.places + more > 256 ? NVMEARB_FULL : NVMEARB_OK;
-    }
-    if (!is_right(nvmearb_ctrl_pick(CTRL, POOL, &step), want))
+    int is_cut = most < pick.n;
+    pick.n = is_cut ? most : pick.n;
+    want = pick_answer(next, most, &pick);
+    if (!is_right(nvmearb_ctrl_pick(CTRL, POOL, most, &step), want))
         return 0;
     if (want != NVMEARB_OK)
         return 1;
-    nvmearb_arbiter_pick(&account.arbiter, seen, n, &pick);
+    tally.cut += (uint64_t)is_cut;
+    if (nvmearb_arbiter_pick_up_to(&account.arbiter, seen, n, most, &found) || memcmp(&pick, &found, sizeof pick))
+        return 0;
     return follows(&pick, &step);
 }
 
@@ -759,7 +787,8 @@ int main(int count, char **words)
            (uintmax_t)tally.created, (uintmax_t)tally.deletions, (uintmax_t)tally.aborts);
     printf("%ju commands passed on, %ju of them Aborts, %ju named, %ju marked\n", (uintmax_t)tally.passed,
            (uintmax_t)tally.passed_aborts, (uintmax_t)tally.named, (uintmax_t)tally.marked);
-    printf("%ju queues held, %ju classes set\n", (uintmax_t)tally.held, (uintmax_t)tally.classed);
+    printf("%ju queues held, %ju classes set, %ju picks cut to the room\n", (uintmax_t)tally.held,
+           (uintmax_t)tally.classed, (uintmax_t)tally.cut);
     printf("%ju controllers with queues anywhere: %ju Creates accepted, at most %ju of one; refused by size %ju, by "
            "address %ju, by vector %ju\n", (uintmax_t)tally.anywhere, (uintmax_t)tally.lies_anywhere,
            (uintmax_t)tally.most, (uintmax_t)tally.bad_sizes, (uintmax_t)tally.bad_offsets,
@@ -768,5 +797,6 @@ int main(int count, char **words)
     CHECK(tally.busy && tally.full && tally.created && tally.deletions && tally.together && tally.aborts);
     CHECK(tally.most > NVMEARB_MAX_REGIONS && tally.bad_sizes && tally.bad_offsets && tally.bad_vectors);
     CHECK(tally.passed && tally.marked && tally.passed_aborts && tally.named && tally.held && tally.classed);
+    CHECK(tally.cut);
     return told();
 }

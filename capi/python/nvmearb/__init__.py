@@ -6,7 +6,7 @@ one's own firmware or emulator. Terms are those of the NVM Express Base Specific
 `Controller` is the front of a whole controller. The header nvmearb.h tells what each call does, and in which order
 calls come.
 """
-from .arbiter import Arbiter, Mechanism, Pick, Priority, Seen
+from .arbiter import NO_LIMIT, Arbiter, Mechanism, Pick, Priority, Seen
 from .controller import CarriedOut, Command, Config, Controller, Passed, Picked, Placement, Post, Step, Waits
 from .entries import Cqe, Sqe, Status
 from .judge import Differs, Judge, SpecJudge
@@ -14,6 +14,7 @@ from .library import VERSION, Refused
 
 __version__ = VERSION
 __all__ = [
-    "Arbiter", "CarriedOut", "Command", "Config", "Controller", "Cqe", "Differs", "Judge", "Mechanism", "Passed", "Pick",
-    "Picked", "Placement", "Post", "Priority", "Refused", "Seen", "SpecJudge", "Sqe", "Status", "Step", "Waits",
+    "Arbiter", "CarriedOut", "Command", "Config", "Controller", "Cqe", "Differs", "Judge", "Mechanism", "NO_LIMIT",
+    "Passed", "Pick", "Picked", "Placement", "Post", "Priority", "Refused", "Seen", "SpecJudge", "Sqe", "Status",
+    "Step", "Waits",
 ]

@@ -7,7 +7,9 @@ from collections.abc import Sequence
 from enum import IntEnum
 from typing import NamedTuple, Optional
 
-from .library import NONE, ArbiterState, PickFields, SeenFields, checked, in_range, library
+from .library import NONE, ArbiterState, PickFields, SeenFields, checked, in_range, library, u16
+
+NO_LIMIT = 65535
 
 
 class Mechanism(IntEnum):
@@ -83,9 +85,20 @@ class Arbiter:
         command waits."""
         return self._told(library().nvmearb_arbiter_pick, seen)
 
-    def _told(self, call: ctypes._FuncPointer, seen: Sequence[Seen]) -> Optional[Pick]:
+    def pick_up_to(self, seen: Sequence[Seen], limit: int) -> Optional[Pick]:
+        """Picks at most `limit` commands, at least 1: as `pick`, but n is the least of that n and `limit`. The rest
+        waits until the turn of its queue comes again.
+
+        >>> arbiter = Arbiter(Mechanism.WEIGHTED, 0x03000007)  # no burst limit; weight of high 4
+        >>> queues = [Seen(1, Priority.HIGH, 9)]
+        >>> print(arbiter.pick_up_to(queues, 3), arbiter.pick_up_to(queues, 3), sep=", ")
+        q1 3, q1 1
+        """
+        return self._told(library().nvmearb_arbiter_pick_up_to, seen, u16(limit=limit))
+
+    def _told(self, call: ctypes._FuncPointer, seen: Sequence[Seen], *limit: ctypes.c_uint16) -> Optional[Pick]:
         pick = PickFields()
-        code = call(ctypes.byref(self._state), fields_of(seen), ctypes.c_size_t(len(seen)), ctypes.byref(pick))
+        code = call(ctypes.byref(self._state), fields_of(seen), ctypes.c_size_t(len(seen)), *limit, ctypes.byref(pick))
         if code == NONE:
             return None
         checked(code)

@@ -7,7 +7,7 @@ from collections.abc import Iterator
 from ctypes import byref, c_size_t, c_uint8, c_uint16
 from typing import Any, NamedTuple, Optional, Union
 
-from .arbiter import Mechanism, Pick, Priority, Seen, pick_of
+from .arbiter import NO_LIMIT, Mechanism, Pick, Priority, Seen, pick_of
 from .entries import Sqe, Status, sized, sqe_of
 from .library import (
     BUSY, FULL, NONE, OK, CommandFields, ConfigFields, CtrlState, PickFields, PlacementFields, PostFields, RegionFields,
@@ -70,7 +70,8 @@ class Passed(NamedTuple):
 
 class Waits(NamedTuple):
     """Nothing was picked. `why` is idle: no command waits but in queues that are held; busy: commands are to be taken
-    first; or full: more than 256 commands would be picked and have no completion posted."""
+    first; or full: the device has room for none, or more than 256 commands would be picked and have no completion
+    posted."""
 
     why: str
 
@@ -161,22 +162,23 @@ class Controller:
         checked(self._call("fetched", u16(qid=qid), data, u32(cookie=cookie)))
 
     def peek(self) -> Optional[Pick]:
-        """The pick that arbitration makes next, whether or not it can be made already."""
+        """The pick that arbitration makes next with any room, whether or not it can be made already."""
         pick = PickFields()
         return pick_of(pick) if self._found("peek", byref(pick)) else None
 
-    def pick(self) -> Step:
-        """Makes the next pick of arbitration. An admin command that isn't the device's is carried out at once."""
+    def pick(self, room: int = NO_LIMIT) -> Step:
+        """Makes the next pick of arbitration, of at most `room` commands: as many as the device can take now. An admin
+        command that isn't the device's is carried out at once."""
         step = StepFields()
-        code = self._call("pick", byref(step))
+        code = self._call("pick", u16(room=room), byref(step))
         if code in (NONE, BUSY, FULL):
             return Waits({NONE: "idle", BUSY: "busy", FULL: "full"}[code])
         checked(code)
         return step_of(step)
 
-    def picks(self) -> Iterator[Step]:
-        """Picks as long as something can be picked."""
-        while not isinstance(step := self.pick(), Waits):
+    def picks(self, room: int = NO_LIMIT) -> Iterator[Step]:
+        """Picks as long as something can be picked, at most `room` commands at a time."""
+        while not isinstance(step := self.pick(room), Waits):
             yield step
 
     def take(self) -> Optional[Command]:

@@ -8,7 +8,7 @@ from collections.abc import Sequence
 from types import TracebackType
 from typing import IO, Any, Optional
 
-from .arbiter import Arbiter, Mechanism, Pick, Priority, Seen
+from .arbiter import NO_LIMIT, Arbiter, Mechanism, Pick, Priority, Seen
 
 CLASSES = {it: it.name.lower() for it in Priority}
 
@@ -22,10 +22,11 @@ class Differs(AssertionError):
         self.picked, self.lawful = picked, lawful
 
 
-def line(seen: Sequence[Seen], pick: Pick) -> str:
-    """A pick as a line of a trace."""
+def line(seen: Sequence[Seen], pick: Pick, room: int = NO_LIMIT) -> str:
+    """A pick as a line of a trace, with the room that there was for it, if that is a limit."""
     shown = [[it.qid, CLASSES[it.priority], it.count] for it in seen]
-    return json.dumps({"pick": pick.qid, "n": pick.n, "fresh": pick.fresh, "seen": shown})
+    limit = {"room": room} if room < 256 else {}
+    return json.dumps({"pick": pick.qid, "n": pick.n, **limit, "fresh": pick.fresh, "seen": shown})
 
 
 class Trace:
@@ -60,11 +61,12 @@ class Judge(Trace):
         self._arbiter.set(cdw11)
         self._write(json.dumps({"set": cdw11}))
 
-    def pick(self, seen: Sequence[Seen], pick: Optional[Pick]) -> None:
-        """The arbiter was shown these queues, in ascending order, and picked this, or nothing. Raises `Differs`."""
-        lawful = self._arbiter.pick(seen)
+    def pick(self, seen: Sequence[Seen], pick: Optional[Pick], room: int = NO_LIMIT) -> None:
+        """The arbiter was shown these queues, in ascending order, and picked this, or nothing. `room`: it had room for
+        so many commands, at least 1. Raises `Differs`."""
+        lawful = self._arbiter.pick_up_to(seen, room)
         if pick is not None:
-            self._write(line(seen, pick))
+            self._write(line(seen, pick, room))
         if pick != lawful:
             raise Differs(pick, lawful, seen)
 
@@ -82,9 +84,9 @@ class SpecJudge(Trace):
         """The Arbitration feature was set."""
         self._write(json.dumps({"set": cdw11}))
 
-    def pick(self, seen: Sequence[Seen], pick: Pick) -> None:
-        """The arbiter was shown these queues, in ascending order, and picked this."""
-        self._write(line(seen, pick))
+    def pick(self, seen: Sequence[Seen], pick: Pick, room: int = NO_LIMIT) -> None:
+        """The arbiter was shown these queues, in ascending order, and picked this, with room for so many commands."""
+        self._write(line(seen, pick, room))
 
     def _write(self, text: str) -> None:
         try:

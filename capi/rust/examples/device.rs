@@ -5,7 +5,7 @@ use nvmearb::{admin_opcode, io_opcode};
 use nvmearb::{
     Answer, Asked, Config, Controller, Cqe, DoorbellError, Error, Marks, Mechanism, Placement, Region, Slot,
 };
-use nvmearb::{Sqe, Status, Step, Verdict, CQE_BYTES, SQE_BYTES};
+use nvmearb::{Sqe, Status, Step, Verdict, CQE_BYTES, NO_LIMIT, SQE_BYTES};
 
 /// The slots of each ring.
 const RING: u16 = 8;
@@ -107,11 +107,12 @@ impl Device {
         status
     }
 
-    /// Executes what arbitration picks. A device may just as well complete a command later. This and `post` answer
-    /// whether they did anything.
+    /// Executes what arbitration picks. Each command ends before the next pick, so there is always room. A device may
+    /// just as well complete a command later, and then passes how many more it can take. This and `post` answer whether
+    /// they did anything.
     fn work(&mut self) -> bool {
         let mut did = false;
-        while let Some(step) = self.ctrl.pick().expect("nothing else wrote into the controller").made() {
+        while let Some(step) = self.ctrl.pick(NO_LIMIT).expect("nothing else wrote into the controller").made() {
             did = true;
             if let Step::CarriedOut(answer, asked) = step {
                 self.keep(answer, asked);

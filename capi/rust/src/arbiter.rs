@@ -158,6 +158,29 @@ impl Arbiter {
         let told = found(|pick| unsafe { sys::nvmearb_arbiter_pick(arbiter, seen.as_ptr().cast(), seen.len(), pick) });
         told.map(|pick| pick.as_ref().map(Pick::of))
     }
+
+    /// Picks at most `limit` commands: as [`Arbiter::pick`], but `n` is the least of that `n` and `limit`. It is for a
+    /// caller that has room for so many: the burst is the most that may be fetched at a time (Base Specification,
+    /// Command Arbitration). The rest waits until the turn of its queue comes again; what it would have used of the
+    /// weight of its class stays.
+    ///
+    /// [`Error::Argument`]: `limit` is 0, or as [`Arbiter::pick`].
+    ///
+    /// ```
+    /// use nvmearb::{Arbiter, Mechanism, Pick, Priority, Seen};
+    ///
+    /// let mut arbiter = Arbiter::new(Mechanism::Weighted, 0x0103_0007); // no burst limit; weight of Medium: 4
+    /// let seen = [Seen { qid: 1, priority: Priority::Medium, count: 9 }];
+    /// assert_eq!(arbiter.pick_up_to(&seen, 3)?, Some(Pick { qid: 1, n: 3, fresh: false }));
+    /// assert_eq!(arbiter.pick_up_to(&seen, 3)?, Some(Pick { qid: 1, n: 1, fresh: false })); // the rest of the weight
+    /// # Ok::<(), nvmearb::Error>(())
+    /// ```
+    pub fn pick_up_to(&mut self, seen: &[Seen], limit: u16) -> Result<Option<Pick>, Error> {
+        let (arbiter, queues, count) = (&mut self.0, seen.as_ptr().cast(), seen.len());
+        // SAFETY: references; `Seen` lies in memory as `nvmearb_seen`.
+        let told = found(|pick| unsafe { sys::nvmearb_arbiter_pick_up_to(arbiter, queues, count, limit, pick) });
+        told.map(|pick| pick.as_ref().map(Pick::of))
+    }
 }
 
 impl fmt::Debug for Arbiter {

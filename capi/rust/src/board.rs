@@ -91,6 +91,16 @@ impl Board {
         sure(found(|pick| unsafe { sys::nvmearb_board_pick(&mut self.0, pick) })).as_ref().map(Pick::of)
     }
 
+    /// Picks at most `limit` commands: as [`Board::pick`], but `n` is the least of that `n` and `limit`, as
+    /// [`Arbiter::pick_up_to`](crate::Arbiter::pick_up_to) tells. The rest of them still waits.
+    ///
+    /// [`Error::Argument`]: `limit` is 0.
+    pub fn pick_up_to(&mut self, limit: u16) -> Result<Option<Pick>, Error> {
+        // SAFETY: references.
+        let told = found(|pick| unsafe { sys::nvmearb_board_pick_up_to(&mut self.0, limit, pick) });
+        told.map(|pick| pick.as_ref().map(Pick::of))
+    }
+
     /// Takes new settings. They start a new round; which queues were served last is kept, and the queues stay.
     pub fn set(&mut self, cdw11: u32) {
         // SAFETY: references.

@@ -181,7 +181,7 @@ impl Post {
 /// It isn't `Clone`: two copies would post the same completions.
 ///
 /// ```
-/// use nvmearb::{admin_opcode, feature, Config, Controller, Cqe, Mechanism, Placement, Region, Slot, Sqe};
+/// use nvmearb::{admin_opcode, feature, Config, Controller, Cqe, Mechanism, Placement, Region, Slot, Sqe, NO_LIMIT};
 ///
 /// let mut ctrl = Controller::anywhere(
 ///     &Config {
@@ -202,7 +202,7 @@ impl Post {
 /// ctrl.sq_tail(0, 1).expect("the ring has room"); // the host submitted a command to the admin queue
 /// assert_eq!(ctrl.fetch(0), Some(0)); // its entry is in slot 0
 /// ctrl.fetched(0, &entry.to_bytes(), 0)?;
-/// ctrl.pick()?; // the controller carries it out
+/// ctrl.pick(NO_LIMIT)?; // the controller carries it out
 /// let post = ctrl.post(0).expect("its completion is ready");
 /// assert_eq!((post.slot, Cqe::from_bytes(&post.bytes)?.dw0), (0, 7));
 /// # Ok::<(), nvmearb::Error>(())
@@ -379,8 +379,8 @@ impl<S: Slots> Controller<S> {
         checked(unsafe { sys::nvmearb_ctrl_fetched(ctrl, slots, count, qid, bytes, cookie) })
     }
 
-    /// The pick that arbitration makes next of the commands that wait now, whether or not [`Controller::pick`] can make
-    /// it already. None if no command waits but in queues that are held.
+    /// The pick that arbitration makes next of the commands that wait now, where there is room for all of it, whether or
+    /// not [`Controller::pick`] can make it already. None if no command waits but in queues that are held.
     pub fn peek(&self) -> Option<Pick> {
         let (ctrl, slots, count) = self.shared_parts();
         // SAFETY: references, and the slots are those of the state.
@@ -388,16 +388,23 @@ impl<S: Slots> Controller<S> {
     }
 
     /// Makes the next pick of arbitration, or tells by [`Step::Idle`], [`Step::Busy`] or [`Step::Full`] why there is
-    /// none yet. An admin command that isn't the device's is carried out at once: queues are created, a deletion begins
+    /// none yet. `room` says how many commands the device can take now; a device without a bound passes
+    /// [`NO_LIMIT`](crate::NO_LIMIT).
+    /// The queue is the one that is picked with any room, and `n` the least of the burst, what its class has left of its
+    /// weight, what waits in the queue, and `room`. The rest of the burst waits until the turn of its queue comes again.
+    /// A device that holds commands for long, such as Asynchronous Event Requests, passes at most 256 less as many:
+    /// otherwise a pick without a burst limit may be [`Step::Full`] for ever.
+    ///
+    /// An admin command is picked alone, and wants a room of 1. One that isn't the device's is carried out at once: queues are created, a deletion begins
     /// and the waiting commands of its queue are answered with [`Status::ABORTED_BY_DELETION`], a waiting command is
     /// aborted with [`Status::ABORT_REQUESTED`], features are set and told.
     ///
     /// [`Error::State`]: something outside of Rust's rules wrote into the controller.
-    pub fn pick(&mut self) -> Result<Step, Error> {
+    pub fn pick(&mut self, room: u16) -> Result<Step, Error> {
         let mut step = sys::nvmearb_step::default();
         let (ctrl, slots, count) = self.parts();
         // SAFETY: references, and the slots are those of the state.
-        match unsafe { sys::nvmearb_ctrl_pick(ctrl, slots, count, &mut step) } {
+        match unsafe { sys::nvmearb_ctrl_pick(ctrl, slots, count, room, &mut step) } {
             sys::NVMEARB_NONE => Ok(Step::Idle),
             sys::NVMEARB_BUSY => Ok(Step::Busy),
             sys::NVMEARB_FULL => Ok(Step::Full),

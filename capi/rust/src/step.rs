@@ -42,8 +42,8 @@ pub enum Step {
     Idle,
     /// Nothing was picked: commands are to be taken first.
     Busy,
-    /// Nothing was picked: more than 256 commands would be picked, or aborted by an Abort, and have no completion
-    /// posted. Post completions first.
+    /// Nothing was picked: the device has room for none, or more than 256 commands would be picked, or aborted by an
+    /// Abort, and have no completion posted. Post completions first, or pass a smaller room above 0.
     Full,
 }
 
@@ -57,8 +57,8 @@ impl Step {
         }
     }
 
-    /// This step, or None where nothing was picked: `while let Some(step) = ctrl.pick()?.made()` goes on as long as
-    /// something is.
+    /// This step, or None where nothing was picked: `while let Some(step) = ctrl.pick(room)?.made()` goes on as
+    /// long as something is.
     pub fn made(self) -> Option<Step> {
         match self {
             Step::Idle | Step::Busy | Step::Full => None,

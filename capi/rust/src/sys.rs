@@ -161,6 +161,7 @@ pub const NVMEARB_LOW: u16 = 4;
 
 pub const NVMEARB_MAX_QUEUES: usize = 65;
 pub const NVMEARB_MAX_COUNT: u16 = 256;
+pub const NVMEARB_NO_LIMIT: u16 = 65535;
 
 #[repr(C)]
 #[derive(Clone, Copy, Debug, Default)]
@@ -433,6 +434,7 @@ extern "C" {
     pub fn nvmearb_arbiter_set(arbiter: *mut nvmearb_arbiter, cdw11: u32) -> u32;
     pub fn nvmearb_arbiter_peek(arbiter: *const nvmearb_arbiter, seen: *const nvmearb_seen, count: usize, pick: *mut nvmearb_pick) -> u32;
     pub fn nvmearb_arbiter_pick(arbiter: *mut nvmearb_arbiter, seen: *const nvmearb_seen, count: usize, pick: *mut nvmearb_pick) -> u32;
+    pub fn nvmearb_arbiter_pick_up_to(arbiter: *mut nvmearb_arbiter, seen: *const nvmearb_seen, count: usize, limit: u16, pick: *mut nvmearb_pick) -> u32;
 
     pub fn nvmearb_board_init(board: *mut nvmearb_board, mechanism: u32, cdw11: u32) -> u32;
     pub fn nvmearb_board_open(board: *mut nvmearb_board, qid: u16, priority: u16) -> u32;
@@ -442,6 +444,7 @@ extern "C" {
     pub fn nvmearb_board_went(board: *mut nvmearb_board, qid: u16) -> u32;
     pub fn nvmearb_board_peek(board: *const nvmearb_board, pick: *mut nvmearb_pick) -> u32;
     pub fn nvmearb_board_pick(board: *mut nvmearb_board, pick: *mut nvmearb_pick) -> u32;
+    pub fn nvmearb_board_pick_up_to(board: *mut nvmearb_board, limit: u16, pick: *mut nvmearb_pick) -> u32;
     pub fn nvmearb_board_set(board: *mut nvmearb_board, cdw11: u32) -> u32;
 
     pub fn nvmearb_table_init(table: *mut nvmearb_table, nsq: u16, ncq: u16, cdw11: u32) -> u32;
@@ -467,7 +470,7 @@ extern "C" {
     pub fn nvmearb_ctrl_fetch(ctrl: *const nvmearb_ctrl, qid: u16, slot: *mut u16) -> u32;
     pub fn nvmearb_ctrl_fetched(ctrl: *mut nvmearb_ctrl, slots: *mut nvmearb_slot, count: usize, qid: u16, bytes: *const SqeBytes, cookie: u32) -> u32;
     pub fn nvmearb_ctrl_peek(ctrl: *const nvmearb_ctrl, slots: *const nvmearb_slot, count: usize, pick: *mut nvmearb_pick) -> u32;
-    pub fn nvmearb_ctrl_pick(ctrl: *mut nvmearb_ctrl, slots: *mut nvmearb_slot, count: usize, step: *mut nvmearb_step) -> u32;
+    pub fn nvmearb_ctrl_pick(ctrl: *mut nvmearb_ctrl, slots: *mut nvmearb_slot, count: usize, room: u16, step: *mut nvmearb_step) -> u32;
     pub fn nvmearb_ctrl_take(ctrl: *mut nvmearb_ctrl, slots: *mut nvmearb_slot, count: usize, command: *mut nvmearb_command) -> u32;
     pub fn nvmearb_ctrl_complete(ctrl: *mut nvmearb_ctrl, slots: *mut nvmearb_slot, count: usize, tag: u16, status: *const nvmearb_status, dw0: u32) -> u32;
     pub fn nvmearb_ctrl_complete_with(ctrl: *mut nvmearb_ctrl, slots: *mut nvmearb_slot, count: usize, tag: u16, status: *const nvmearb_status, dw0: u32, marks: u8) -> u32;

@@ -3,7 +3,7 @@
 use nvmearb::admin_opcode::{CREATE_CQ, CREATE_SQ, DELETE_CQ, DELETE_SQ};
 use nvmearb::{
     boxed_slots, io_opcode, Answer, Asked, Config, Cqe, Error, Marks, Mechanism, Placement, Region, Slot, Sqe, Status,
-    Step, Verdict,
+    Step, Verdict, NO_LIMIT,
 };
 
 type Controller = nvmearb::Controller<Box<[Slot]>>;
@@ -38,7 +38,7 @@ impl Host {
         let entry = Sqe { opcode, cid: slot, prp1, cdw10, cdw11, ..Sqe::default() };
         assert_eq!((self.ctrl.sq_tail(0, self.next), self.ctrl.fetch(0)), (Ok(()), Some(slot)));
         assert_eq!(self.ctrl.fetched(0, &entry.to_bytes(), 0), Ok(()));
-        let Ok(Step::CarriedOut(answer, asked)) = self.ctrl.pick() else { panic!("it is the controller's") };
+        let Ok(Step::CarriedOut(answer, asked)) = self.ctrl.pick(NO_LIMIT) else { panic!("it is the controller's") };
         if opcode == DELETE_SQ {
             self.ctrl.finish().expect("none of its commands is held");
         }
@@ -67,7 +67,7 @@ impl Host {
         let entry = Sqe { opcode: io_opcode::READ, cid, nsid: 1, ..Sqe::default() };
         assert_eq!((self.ctrl.sq_tail(1, 1), self.ctrl.fetch(1)), (Ok(()), Some(0)));
         assert_eq!(self.ctrl.fetched(1, &entry.to_bytes(), 0), Ok(()));
-        assert!(matches!(self.ctrl.pick(), Ok(Step::Picked(_))));
+        assert!(matches!(self.ctrl.pick(NO_LIMIT), Ok(Step::Picked(_))));
         let tag = self.ctrl.take().expect("it was picked").tag;
         assert_eq!(self.ctrl.complete(tag, Status::SUCCESS, 0), Ok(()));
         let post = self.ctrl.post(1).expect("it was answered");

@@ -94,6 +94,26 @@ fn board_keeps_what_waits() {
 }
 
 #[test]
+fn limits_cut_picks() {
+    let mut arbiter = Arbiter::new(Mechanism::Weighted, 0x0301_0003);
+    let mut board = Board::new(Mechanism::Weighted, 0x0301_0003);
+    let queues = seen([(1, High, 9), (2, Medium, 9)]);
+    for queue in queues {
+        assert_eq!((board.open(queue.qid, queue.priority), board.came_n(queue.qid, queue.count)), (Ok(()), Ok(())));
+    }
+    assert_eq!(arbiter.pick_up_to(&queues, 0), Err(Error::Argument));
+    assert_eq!(board.pick_up_to(0), Err(Error::Argument));
+    for want in [(1, 1, false), (1, 2, false)].map(pick) {
+        assert_eq!(arbiter.pick_up_to(&queues, want.n), Ok(Some(want)));
+        assert_eq!(board.pick_up_to(want.n), Ok(Some(want)));
+    }
+    assert_eq!(arbiter.pick_up_to(&queues, 9), Ok(Some(pick((1, 1, false))))); // the rest of its weight
+    assert_eq!(arbiter.pick_up_to(&queues, 9), Ok(Some(pick((2, 2, false)))));
+    assert_eq!(arbiter.pick_up_to(&[], 1), Ok(None));
+    assert_eq!(board.close(1).and(board.close(2)).and(board.pick_up_to(1)), Ok(None));
+}
+
+#[test]
 fn board_refuses() {
     let mut board = Board::new(Mechanism::RoundRobin, 0);
     for (qid, priority) in [(0, High), (1, Admin), (65, High)] {

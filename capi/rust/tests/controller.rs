@@ -1,7 +1,7 @@
 // SPDX-License-Identifier: MIT
 //! A controller: each call, and each refusal. Values are the specification's.
 use nvmearb::admin_opcode::{ABORT, CREATE_CQ, CREATE_SQ, DELETE_SQ, GET_FEATURES, SET_FEATURES};
-use nvmearb::{boxed_slots, Slot, Step, Tag, Verdict, MAX_REGIONS, MAX_SLOTS};
+use nvmearb::{boxed_slots, Slot, Step, Tag, Verdict, MAX_REGIONS, MAX_SLOTS, NO_LIMIT};
 use nvmearb::{
     feature, io_opcode, Config, Cqe, DoorbellError, Error, Marks, Mechanism, Pick, Priority, Region, Seen, Sqe, Status,
 };
@@ -40,7 +40,7 @@ fn read(cid: u16) -> Sqe {
 
 /// A command of the admin queue is carried out.
 fn carried_out(ctrl: &mut Controller) -> Verdict {
-    match ctrl.pick() {
+    match ctrl.pick(NO_LIMIT) {
         Ok(Step::CarriedOut(answer, _)) => answer.verdict,
         other => panic!("{other:?}"),
     }
@@ -50,7 +50,7 @@ fn carried_out(ctrl: &mut Controller) -> Verdict {
 fn picked(ctrl: &mut Controller, n: u16) {
     let pick = Pick { qid: 1, n, fresh: false };
     assert_eq!(ctrl.peek(), Some(pick));
-    assert_eq!(ctrl.pick(), Ok(Step::Picked(pick)));
+    assert_eq!(ctrl.pick(NO_LIMIT), Ok(Step::Picked(pick)));
 }
 
 /// The device takes a command. The answer is its tag.
@@ -68,8 +68,8 @@ fn taken(ctrl: &mut Controller, cid: u16) -> Tag {
 
 /// A command of the admin queue is passed on to the device, which takes it.
 fn passed_on(ctrl: &mut Controller, entry: Sqe) -> Tag {
-    assert_eq!(ctrl.pick(), Ok(Step::Passed(Pick { qid: 0, n: 1, fresh: false })));
-    assert_eq!(ctrl.pick(), Ok(Step::Busy));
+    assert_eq!(ctrl.pick(NO_LIMIT), Ok(Step::Passed(Pick { qid: 0, n: 1, fresh: false })));
+    assert_eq!(ctrl.pick(NO_LIMIT), Ok(Step::Busy));
     taken_entry(ctrl, entry)
 }
 
@@ -101,7 +101,7 @@ fn prepared(mechanism: Mechanism) -> Controller {
     assert_eq!(ctrl.fetch(0), None);
     assert_eq!(carried_out(&mut ctrl), Verdict::OpenCq { qid: 1, region: 1 });
     assert!(matches!(carried_out(&mut ctrl), Verdict::OpenSq { qid: 1, region: 1, cqid: 1, .. }));
-    assert_eq!((ctrl.pick(), ctrl.peek()), (Ok(Step::Idle), None));
+    assert_eq!((ctrl.pick(NO_LIMIT), ctrl.peek()), (Ok(Step::Idle), None));
     posted(&mut ctrl, 0, (0, 2, 10, true, Status::SUCCESS, 0));
     posted(&mut ctrl, 0, (1, 2, 11, true, Status::SUCCESS, 0));
     assert_eq!(ctrl.post(0), None);
@@ -156,9 +156,9 @@ fn commands_go_through_and_rings_go_round() {
     assert_eq!((ctrl.fetch(1), ctrl.fetched(1, &[0; 64], 0)), (None, Err(Error::Missing)));
     assert_eq!(ctrl.take(), None);
     picked(&mut ctrl, 3);
-    assert_eq!(ctrl.pick(), Ok(Step::Busy));
+    assert_eq!(ctrl.pick(NO_LIMIT), Ok(Step::Busy));
     let tags = [20, 21, 22].map(|cid| taken(&mut ctrl, cid));
-    assert_eq!((ctrl.take(), ctrl.pick()), (None, Ok(Step::Idle)));
+    assert_eq!((ctrl.take(), ctrl.pick(NO_LIMIT)), (None, Ok(Step::Idle)));
     // the device answers in another order
     assert_eq!(ctrl.complete(tags[2], Status::SUCCESS, 0), Ok(()));
     assert_eq!(ctrl.complete(tags[2], Status::SUCCESS, 0), Err(Error::Missing));
@@ -235,7 +235,7 @@ fn held_queue_waits_and_classes_are_set() {
     assert_eq!(ctrl.sq_tail(1, 1), Ok(()));
     fetched(&mut ctrl, 1, 0, read(40));
     assert_eq!(ctrl.seen(1), Some(Seen { qid: 1, priority: Priority::Urgent, count: 1 }));
-    assert_eq!((ctrl.hold(1, true), ctrl.pick(), ctrl.waiting(1)), (Ok(()), Ok(Step::Idle), Some(1)));
+    assert_eq!((ctrl.hold(1, true), ctrl.pick(NO_LIMIT), ctrl.waiting(1)), (Ok(()), Ok(Step::Idle), Some(1)));
     assert_eq!((ctrl.waits(1, 0), ctrl.waits(1, 1), ctrl.waits(2, 0)), (Some((read(40), 1040)), None, None));
     assert_eq!((ctrl.hold(1, false), ctrl.set_class(1, Priority::Low)), (Ok(()), Ok(())));
     assert_eq!(ctrl.seen(1), Some(Seen { qid: 1, priority: Priority::Low, count: 1 }));
@@ -256,7 +256,7 @@ fn deletion_waits_for_its_commands() {
     fetched(&mut ctrl, 0, 2, admin(DELETE_SQ, 13, 0, 1, 0));
     assert_eq!(ctrl.finish(), None);
     assert_eq!(carried_out(&mut ctrl), Verdict::BeginDelete { qid: 1 });
-    assert_eq!((ctrl.pick(), ctrl.sq_tail(1, 0)), (Ok(Step::Idle), Err(DoorbellError::Register)));
+    assert_eq!((ctrl.pick(NO_LIMIT), ctrl.sq_tail(1, 0)), (Ok(Step::Idle), Err(DoorbellError::Register)));
     assert_eq!((ctrl.fetch(0), ctrl.fetch(1), ctrl.sq(1), ctrl.waiting(1)), (None, None, None, None));
     posted(&mut ctrl, 1, (0, 2, 41, true, Status::ABORTED_BY_DELETION, 0));
     assert_eq!((ctrl.finish(), ctrl.complete(tag, Status::SUCCESS, 0), ctrl.finish()), (None, Ok(()), None));
@@ -370,11 +370,23 @@ fn at_most_256_commands_have_no_completion_posted() {
     picked(&mut ctrl, 256);
     let tags: Vec<Tag> = (0..256).map(|cid| taken(&mut ctrl, cid)).collect();
     fetched(&mut ctrl, 1, 256, read(256));
-    assert_eq!(ctrl.pick(), Ok(Step::Full));
+    assert_eq!(ctrl.pick(NO_LIMIT), Ok(Step::Full));
     assert_eq!(ctrl.complete(tags[7], Status::SUCCESS, 0), Ok(()));
-    assert_eq!(ctrl.pick(), Ok(Step::Full)); // until its completion is posted
+    assert_eq!(ctrl.pick(NO_LIMIT), Ok(Step::Full)); // until its completion is posted
     posted(&mut ctrl, 1, (0, 257, 7, true, Status::SUCCESS, 0));
     picked(&mut ctrl, 1);
+}
+
+#[test]
+fn picks_take_what_there_is_room_for() {
+    let mut ctrl = prepared(Mechanism::RoundRobin);
+    assert_eq!((ctrl.pick(0), ctrl.sq_tail(1, 3)), (Ok(Step::Idle), Ok(())));
+    (0..3).for_each(|slot| fetched(&mut ctrl, 1, slot, read(slot)));
+    assert_eq!(ctrl.pick(0), Ok(Step::Full));
+    assert_eq!(ctrl.pick(1), Ok(Step::Picked(Pick { qid: 1, n: 1, fresh: false })));
+    assert_eq!((ctrl.pick(0), ctrl.waiting(1)), (Ok(Step::Busy), Some(2)));
+    taken(&mut ctrl, 0);
+    assert_eq!(ctrl.pick(3), Ok(Step::Picked(Pick { qid: 1, n: 2, fresh: false })));
 }
 
 // A state can be sent to another thread. It isn't Sync: else which of the two `nothing` is meant couldn't be inferred.

@@ -1,6 +1,6 @@
 // SPDX-License-Identifier: MIT
 //! Random calls, with random arguments: none panics, and each command gets one completion, its own.
-use nvmearb::{boxed_slots, Slot, Tag, Verdict};
+use nvmearb::{boxed_slots, Pick, Slot, Tag, Verdict, NO_LIMIT};
 use nvmearb::{Admin, Board, Config, Cqe, Marks, Mechanism, Priority, Region, Sqe, Status, Step, Table};
 use std::collections::HashMap;
 
@@ -69,7 +69,7 @@ impl Driven {
         ctrl.sq_tail(0, 2).unwrap();
         ctrl.fetched(0, &create(5, 0x3800, 1).to_bytes(), 0).unwrap();
         ctrl.fetched(0, &create(1, 0x3000, 0x0001_0001).to_bytes(), 0).unwrap();
-        while ctrl.pick().unwrap().made().is_some() {}
+        while ctrl.pick(NO_LIMIT).unwrap().made().is_some() {}
         while ctrl.post(0).is_some() {}
         assert_eq!((ctrl.sq(1), ctrl.cq(1)), (Some(1), Some(1)));
         Driven { ctrl, open: HashMap::new(), cookie: 0, posts: [0; 2], passed: 0 }
@@ -107,8 +107,8 @@ impl Driven {
             3 | 4 => self.fetched(a, drawn),
             5 => {
                 let peeked = self.ctrl.peek().is_some();
-                assert!(peeked || self.ctrl.pick().unwrap().made().is_none());
-                self.passed += u32::from(matches!(self.ctrl.pick(), Ok(Step::Passed(_))));
+                assert!(peeked || self.ctrl.pick(NO_LIMIT).unwrap().made().is_none());
+                self.passed += u32::from(matches!(self.ctrl.pick(b), Ok(Step::Passed(_))));
             }
             6 => {
                 if let Some(command) = self.ctrl.take() {
@@ -179,7 +179,12 @@ fn tables_and_boards_take_any_arguments() {
             _ = (table.finish_delete(qid), table.sq(qid), table.cq(qid), table.allotted(), table.settings());
             let priority = [Priority::Admin, Priority::Urgent, Priority::High, Priority::Low][usize::from(n) % 4];
             _ = (board.open(qid, priority), board.came_n(qid, n), board.came(qid), board.went(qid));
-            assert_eq!(board.peek(), board.pick());
+            if n % 2 == 0 {
+                assert_eq!(board.peek(), board.pick());
+            } else {
+                let cut = board.peek().map(|pick| Pick { n: pick.n.min(n), ..pick });
+                assert_eq!(board.pick_up_to(n), Ok(cut));
+            }
             if n == 7 {
                 board.set(drawn.word() as u32);
                 _ = board.close(qid);

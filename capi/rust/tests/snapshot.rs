@@ -2,7 +2,7 @@
 //! Snapshots of a controller, and the iterators over its queues.
 use nvmearb::admin_opcode::{CREATE_CQ, CREATE_SQ};
 use nvmearb::{boxed_slots, io_opcode, sys, Config, Cqe, Error, Mechanism, Placement, Priority, Region, Seen};
-use nvmearb::{Slot, SnapshotError, Sqe, Status, Step, Tag};
+use nvmearb::{Slot, SnapshotError, Sqe, Status, Step, Tag, NO_LIMIT};
 
 type Controller = nvmearb::Controller<Box<[Slot]>>;
 
@@ -28,7 +28,7 @@ fn busy() -> (Controller, Tag) {
     ctrl.sq_tail(0, 2).unwrap();
     ctrl.fetched(0, &create(CREATE_CQ, 0x3000, 1).to_bytes(), 0).unwrap();
     ctrl.fetched(0, &create(CREATE_SQ, 0x4000, 0x0001_0001).to_bytes(), 0).unwrap();
-    while ctrl.pick().unwrap().made().is_some() {}
+    while ctrl.pick(NO_LIMIT).unwrap().made().is_some() {}
     assert_eq!(ctrl.posts().map(|(cqid, post)| (cqid, post.slot)).collect::<Vec<_>>(), [(0, 0), (0, 1)]);
     ctrl.sq_tail(1, 4).unwrap();
     assert_eq!(ctrl.to_fetch().collect::<Vec<_>>(), [(1, 0)]);
@@ -36,7 +36,7 @@ fn busy() -> (Controller, Tag) {
         let read = Sqe { opcode: io_opcode::READ, cid, nsid: 1, ..Sqe::default() };
         ctrl.fetched(1, &read.to_bytes(), u32::from(cid)).unwrap();
     }
-    let mut take = || match ctrl.pick().unwrap() {
+    let mut take = || match ctrl.pick(NO_LIMIT).unwrap() {
         Step::Picked(_) => ctrl.take().unwrap().tag,
         other => panic!("{other:?}"),
     };
@@ -54,7 +54,7 @@ fn ends(ctrl: &mut Controller, first: Tag) {
     ctrl.complete(first, Status::LBA_OUT_OF_RANGE, 6).unwrap();
     let posts: Vec<_> = ctrl.posts().map(|(cqid, post)| (cqid, Cqe::from_bytes(&post.bytes).unwrap())).collect();
     assert_eq!(posts.iter().map(|(cqid, cqe)| (*cqid, cqe.cid, cqe.dw0)).collect::<Vec<_>>(), [(1, 21, 5), (1, 20, 6)]);
-    assert!(matches!(ctrl.pick(), Ok(Step::Picked(_))));
+    assert!(matches!(ctrl.pick(NO_LIMIT), Ok(Step::Picked(_))));
     assert_eq!(ctrl.take().unwrap().entry.cid, 22);
     assert_eq!(ctrl.verify(), Ok(()));
 }

@@ -1,9 +1,9 @@
 // The arbiter, over a state that the caller owns.
-ghost use Rattle.std.specs.Prelude.{◌≡◌, ◌≢◌, ◌≤◌, ◌⊎◌, ◌↔◌, [], ◌∷◌, length, Some, None, IsTrue, IsFalse, IsNone, IfSome};
+ghost use Rattle.std.specs.Prelude.{◌≡◌, ◌≢◌, ◌≤◌, ◌⊎◌, ◌↔◌, [], ◌∷◌, length, Some, None, IsTrue, IsFalse, IsNone, IfSome, option_map};
 ghost use Rattle.nvme_arbiter.specs.Settings.{ArbitrationFields, settings_of};
 ghost use Rattle.nvme_arbiter.specs.Observation.{IsIdle, class_in};
 ghost use Rattle.nvme_arbiter.specs.History.{History, Picked, Changed};
-ghost use Rattle.nvme_arbiter.specs.Lawful.{IsLawfulPick};
+ghost use Rattle.nvme_arbiter.specs.Lawful.{IsLawfulPick, limited_pick, cut};
 ghost use Rattle.nvme_arbiter.specs.Standing.{StandsAt, pick_of, first_kept, kept_after, nothing_used};
 ghost use Rattle.nvme_arbiter.specs.declared.settings.Mechanism.{Mechanism};
 ghost use Rattle.nvme_arbiter.specs.Layout.{is_arbiter, kept_of, mechanism_of};
@@ -81,6 +81,47 @@ pub extern "C" fn nvmearb_arbiter_pick(
     match state.peek(&shown) {
         Some(it) => {
             state.keep(&shown, it);
+            *pick = fields_of_pick(it);
+            OK
+        }
+        None => NOTHING,
+    }
+}
+
+/// Picks at most `limit` commands: as `nvmearb_arbiter_pick`, but where the pick has more, the first `limit` of them.
+#[unsafe(no_mangle)]
+pub extern "C" fn nvmearb_arbiter_pick_up_to(
+    state: &mut ArbiterFields,
+    queues: &[SeenFields],
+    limit: u16,
+    pick: &mut PickFields,
+) -> u32
+    ensures bad_state { (result ≡ BAD_STATE) ↔ IsFalse (is_arbiter state.old) }
+    ensures answer { (result ≡ OK) ⊎ ((result ≡ NOTHING) ⊎ ((result ≡ BAD_ARGUMENT) ⊎ (result ≡ BAD_STATE))) }
+    ensures bad_argument { result ≡ BAD_ARGUMENT → IsShown queues.now → limit ≡ 0 }
+    ensures limit { (result ≡ OK) ⊎ (result ≡ NOTHING) → 1 ≤ limit }
+    ensures nothing { result ≡ NOTHING → IsShown queues.now × (pick_of (kept_of state.old) (seen_in queues.now) ≡ None) }
+    ensures idle { result ≡ NOTHING → IsIdle (seen_in queues.now) }
+    ensures waits { result ≡ OK → IsIdle (seen_in queues.now) → ⊥ }
+    ensures picked { result ≡ OK → IsShown queues.now × (option_map (cut limit) (pick_of (kept_of state.old) (seen_in queues.now)) ≡ Some (pick_of_fields pick.new)) }
+    ensures fits { result ≡ OK → pick.new.fresh ≤ 1 }
+    ensures lawful { result ≡ OK → (mechanism : Mechanism) (first : ArbitrationFields) (past : History) → StandsAt mechanism first past (kept_of state.old) → limited_pick limit mechanism first past (seen_in queues.now) ≡ Some (pick_of_fields pick.new) }
+    ensures stands { result ≡ OK → (mechanism : Mechanism) (first : ArbitrationFields) (past : History) → StandsAt mechanism first past (kept_of state.old) → StandsAt mechanism first (Picked (seen_in queues.now) (pick_of_fields pick.new) ∷ past) (kept_of state.new) }
+    ensures keeps { result ≡ OK → kept_of state.new ≡ kept_after (kept_of state.old).mechanism (kept_of state.old) (class_in (seen_in queues.now) pick.new.qid) (pick_of_fields pick.new) }
+    ensures kept { result ≡ OK → IsTrue (is_arbiter state.new) }
+    ensures unchanged { result ≢ OK → (state.new ≡ state.old) × (pick.new ≡ pick.old) }
+{
+    if !state.is_arbiter() {
+        return BAD_STATE;
+    }
+    if limit == 0 {
+        return BAD_ARGUMENT;
+    }
+    if !are_shown(queues) {
+        return BAD_ARGUMENT;
+    }
+    match state.pick_up_to(&Shown { queues }, limit) {
+        Some(it) => {
             *pick = fields_of_pick(it);
             OK
         }

@@ -1,10 +1,10 @@
 // The board, over a state that the caller owns.
-ghost use Rattle.std.specs.Prelude.{◌≡◌, ◌≢◌, ◌+◌, ◌-◌, ◌<◌, ◌≤◌, ◌⊎◌, ◌↔◌, [], ◌∷◌, Some, None, IsTrue, IsFalse, IsSome, IfSome, slice_set, replicate};
+ghost use Rattle.std.specs.Prelude.{◌≡◌, ◌≢◌, ◌+◌, ◌-◌, ◌<◌, ◌≤◌, ◌⊎◌, ◌↔◌, [], ◌∷◌, Some, None, IsTrue, IsFalse, IsSome, IfSome, option_map, slice_set, replicate};
 ghost use Rattle.nvme_arbiter.specs.Limits.{highest_count, queue_limit};
 ghost use Rattle.nvme_arbiter.specs.Settings.{ArbitrationFields, settings_of, class_of_number};
 ghost use Rattle.nvme_arbiter.specs.Observation.{IsIdle, IsSeen, class_in};
 ghost use Rattle.nvme_arbiter.specs.History.{History, Picked, Changed};
-ghost use Rattle.nvme_arbiter.specs.Lawful.{IsLawfulPick};
+ghost use Rattle.nvme_arbiter.specs.Lawful.{IsLawfulPick, limited_pick, cut};
 ghost use Rattle.nvme_arbiter.specs.Standing.{pick_of, first_kept, kept_after, nothing_used};
 ghost use Rattle.nvme_arbiter.specs.Queues.{seen_of, queue_at, seen_as};
 ghost use Rattle.nvme_arbiter.specs.Board.{BoardStandsAt, queues_after};
@@ -235,6 +235,44 @@ pub extern "C" fn nvmearb_board_pick(state: &mut BoardState, pick: &mut PickFiel
         return BAD_STATE;
     }
     match state.board.pick() {
+        Some(it) => {
+            *pick = fields_of_pick(it);
+            OK
+        }
+        None => NOTHING,
+    }
+}
+
+/// Picks at most `limit` commands: as `nvmearb_board_pick`, but where the pick has more, the first `limit` of them. The
+/// count of the queue falls by as many as are taken.
+#[unsafe(no_mangle)]
+pub extern "C" fn nvmearb_board_pick_up_to(
+    state: &mut BoardState,
+    limit: u16,
+    pick: &mut PickFields,
+) -> u32
+    ensures bad_state { (result ≡ BAD_STATE) ↔ IsFalse (is_board state.old) }
+    ensures bad_argument { (result ≡ BAD_ARGUMENT) ↔ (IsTrue (is_board state.old) × (limit ≡ 0)) }
+    ensures answer { (result ≡ OK) ⊎ ((result ≡ NOTHING) ⊎ ((result ≡ BAD_ARGUMENT) ⊎ (result ≡ BAD_STATE))) }
+    ensures nothing { result ≡ NOTHING → pick_of (kept_of state.old.board.arbiter) (seen_of (slots_in state.old.board.queues)) ≡ None }
+    ensures idle { result ≡ NOTHING → IsIdle (seen_of (slots_in state.old.board.queues)) }
+    ensures waits { result ≡ OK → IsIdle (seen_of (slots_in state.old.board.queues)) → ⊥ }
+    ensures picked { result ≡ OK → option_map (cut limit) (pick_of (kept_of state.old.board.arbiter) (seen_of (slots_in state.old.board.queues))) ≡ Some (pick_of_fields pick.new) }
+    ensures fits { result ≡ OK → pick.new.fresh ≤ 1 }
+    ensures lawful { result ≡ OK → (mechanism : Mechanism) (first : ArbitrationFields) (past : History) → BoardStandsAt mechanism first past (board_of state.old.board) → limited_pick limit mechanism first past (seen_of (slots_in state.old.board.queues)) ≡ Some (pick_of_fields pick.new) }
+    ensures stands { result ≡ OK → (mechanism : Mechanism) (first : ArbitrationFields) (past : History) → BoardStandsAt mechanism first past (board_of state.old.board) → BoardStandsAt mechanism first (Picked (seen_of (slots_in state.old.board.queues)) (pick_of_fields pick.new) ∷ past) (board_of state.new.board) }
+    ensures keeps { result ≡ OK → kept_of state.new.board.arbiter ≡ kept_after (kept_of state.old.board.arbiter).mechanism (kept_of state.old.board.arbiter) (class_in (seen_of (slots_in state.old.board.queues)) pick.new.qid) (pick_of_fields pick.new) }
+    ensures queues { result ≡ OK → slots_in state.new.board.queues ≡ queues_after (slots_in state.old.board.queues) (pick_of_fields pick.new) }
+    ensures board { result ≡ OK → IsTrue (is_board state.new) }
+    ensures unchanged { result ≢ OK → (state.new ≡ state.old) × (pick.new ≡ pick.old) }
+{
+    if !is_board(state) {
+        return BAD_STATE;
+    }
+    if limit == 0 {
+        return BAD_ARGUMENT;
+    }
+    match state.board.pick_up_to(limit) {
         Some(it) => {
             *pick = fields_of_pick(it);
             OK

@@ -111,12 +111,13 @@ fn asked_by(effect: &Effect, entry: &Sqe) -> AskedFields
     }
 }
 
-/// Makes the next pick of arbitration, and writes what it did. An admin command that is picked is carried out, or passed
-/// on to the device.
+/// Makes the next pick of arbitration, of at most `room` commands, and writes what it did. An admin command that is picked
+/// is carried out, or passed on to the device.
 #[unsafe(no_mangle)]
 pub extern "C" fn nvmearb_ctrl_pick(
     state: &mut CtrlState,
     slots: &mut [Slot],
+    room: u16,
     step: &mut StepFields,
 ) -> u32
     requires kept { IsKept state.old slots.old }
@@ -125,12 +126,12 @@ pub extern "C" fn nvmearb_ctrl_pick(
     ensures window { window_limit state.new.ctrl ≡ window_limit state.old.ctrl }
     ensures bad_state { (result ≡ BAD_STATE) ↔ IsFalse (is_ctrl state.old) }
     ensures bad_argument { (result ≡ BAD_ARGUMENT) ↔ (IsTrue (is_ctrl state.old) × IsFalse (has_slots state.old slots.old)) }
-    ensures idle { (rules : FrontRules) (late : Bool) (notes : Notes) → Stands rules late notes state.old.ctrl slots.old → result ≡ NOTHING → HasStepped rules late notes made.Idle state.new.ctrl slots.new }
-    ensures busy { (rules : FrontRules) (late : Bool) (notes : Notes) → Stands rules late notes state.old.ctrl slots.old → result ≡ BUSY → HasStepped rules late notes made.Busy state.new.ctrl slots.new }
-    ensures full { (rules : FrontRules) (late : Bool) (notes : Notes) → Stands rules late notes state.old.ctrl slots.old → result ≡ FULL → HasStepped rules late notes made.Full state.new.ctrl slots.new }
-    ensures picked { (rules : FrontRules) (late : Bool) (notes : Notes) → Stands rules late notes state.old.ctrl slots.old → result ≡ OK → step.new.kind ≡ PICKED → HasStepped rules late notes (made.Picked (pick_of_fields step.new.pick)) state.new.ctrl slots.new }
+    ensures idle { (rules : FrontRules) (late : Bool) (notes : Notes) → Stands rules late notes state.old.ctrl slots.old → result ≡ NOTHING → HasStepped rules late notes room made.Idle state.new.ctrl slots.new }
+    ensures busy { (rules : FrontRules) (late : Bool) (notes : Notes) → Stands rules late notes state.old.ctrl slots.old → result ≡ BUSY → HasStepped rules late notes room made.Busy state.new.ctrl slots.new }
+    ensures full { (rules : FrontRules) (late : Bool) (notes : Notes) → Stands rules late notes state.old.ctrl slots.old → result ≡ FULL → HasStepped rules late notes room made.Full state.new.ctrl slots.new }
+    ensures picked { (rules : FrontRules) (late : Bool) (notes : Notes) → Stands rules late notes state.old.ctrl slots.old → result ≡ OK → step.new.kind ≡ PICKED → HasStepped rules late notes room (made.Picked (pick_of_fields step.new.pick)) state.new.ctrl slots.new }
     ensures carried_out { (rules : FrontRules) (late : Bool) (notes : Notes) → Stands rules late notes state.old.ctrl slots.old → result ≡ OK → step.new.kind ≡ CARRIED_OUT → HasToldWhat rules late notes step.new.answer step.new.asked state.new.ctrl slots.new }
-    ensures passed { (rules : FrontRules) (late : Bool) (notes : Notes) → Stands rules late notes state.old.ctrl slots.old → result ≡ OK → step.new.kind ≡ PASSED → HasStepped rules late notes (made.Passed (pick_of_fields step.new.pick)) state.new.ctrl slots.new }
+    ensures passed { (rules : FrontRules) (late : Bool) (notes : Notes) → Stands rules late notes state.old.ctrl slots.old → result ≡ OK → step.new.kind ≡ PASSED → HasStepped rules late notes room (made.Passed (pick_of_fields step.new.pick)) state.new.ctrl slots.new }
     ensures own { (rules : FrontRules) (late : Bool) (notes : Notes) → Stands rules late notes state.old.ctrl slots.old → result ≡ OK → step.new.kind ≡ PASSED → oldest_is_own (own_of state.old.ctrl) notes ≡ Some true }
     ensures not_own { (rules : FrontRules) (late : Bool) (notes : Notes) → Stands rules late notes state.old.ctrl slots.old → result ≡ OK → step.new.kind ≡ CARRIED_OUT → oldest_is_own (own_of state.old.ctrl) notes ≡ Some false }
     ensures no_pick { result ≡ OK → step.new.kind ≡ CARRIED_OUT → step.new.pick ≡ no_pick }
@@ -146,7 +147,7 @@ pub extern "C" fn nvmearb_ctrl_pick(
     if !has_slots(state, slots) {
         return BAD_ARGUMENT;
     }
-    match state.ctrl.pick(slots) {
+    match state.ctrl.pick(slots, room) {
         Step::Idle => NOTHING,
         Step::Busy => BUSY,
         Step::Full => FULL,

@@ -10,23 +10,23 @@ pub pick-requires : goal.pick-requires
 pick-requires c = record { front = c.requires.kept.front (sym c.is_ctrl.ensures ∙ c.if-not-is_ctrl.false) (sym c.has_slots.ensures ∙ c.if-not-has_slots.false) }
 
 pub returns-in-Idle-clause-idle : goal.returns-in-Idle-clause-idle
-returns-in-Idle-clause-idle c = λ rules late notes s _. subst (λ (it : Step). HasStepped rules late notes it c.pick.new.self c.pick.new.slots) c.in-Idle.is (c.pick.ensures.stands rules late notes s)
+returns-in-Idle-clause-idle c = λ rules late notes s _. subst (λ (it : Step). HasStepped rules late notes c.args.room it c.pick.new.self c.pick.new.slots) c.in-Idle.is (c.pick.ensures.stands rules late notes s)
 
 pub returns-in-Busy-clause-busy : goal.returns-in-Busy-clause-busy
-returns-in-Busy-clause-busy c = λ rules late notes s _. subst (λ (it : Step). HasStepped rules late notes it c.pick.new.self c.pick.new.slots) c.in-Busy.is (c.pick.ensures.stands rules late notes s)
+returns-in-Busy-clause-busy c = λ rules late notes s _. subst (λ (it : Step). HasStepped rules late notes c.args.room it c.pick.new.self c.pick.new.slots) c.in-Busy.is (c.pick.ensures.stands rules late notes s)
 
 pub returns-in-Full-clause-full : goal.returns-in-Full-clause-full
-returns-in-Full-clause-full c = λ rules late notes s _. subst (λ (it : Step). HasStepped rules late notes it c.pick.new.self c.pick.new.slots) c.in-Full.is (c.pick.ensures.stands rules late notes s)
+returns-in-Full-clause-full c = λ rules late notes s _. subst (λ (it : Step). HasStepped rules late notes c.args.room it c.pick.new.self c.pick.new.slots) c.in-Full.is (c.pick.ensures.stands rules late notes s)
 
 pub returns-in-Picked-clause-picked : goal.returns-in-Picked-clause-picked
 returns-in-Picked-clause-picked c = λ rules late notes s _ _.
-    subst (λ (pick : Pick). HasStepped rules late notes (made.Picked pick) c.pick.new.self c.pick.new.slots) (sym c.fields_of_pick.ensures.same)
-    (subst (λ (it : Step). HasStepped rules late notes it c.pick.new.self c.pick.new.slots) c.in-Picked.is (c.pick.ensures.stands rules late notes s))
+    subst (λ (pick : Pick). HasStepped rules late notes c.args.room (made.Picked pick) c.pick.new.self c.pick.new.slots) (sym c.fields_of_pick.ensures.same)
+    (subst (λ (it : Step). HasStepped rules late notes c.args.room it c.pick.new.self c.pick.new.slots) c.in-Picked.is (c.pick.ensures.stands rules late notes s))
 
 pub returns-in-Passed-clause-passed : goal.returns-in-Passed-clause-passed
 returns-in-Passed-clause-passed c = λ rules late notes s _ _.
-    subst (λ (pick : Pick). HasStepped rules late notes (made.Passed pick) c.pick.new.self c.pick.new.slots) (sym c.fields_of_pick-in-Passed.ensures.same)
-    (subst (λ (it : Step). HasStepped rules late notes it c.pick.new.self c.pick.new.slots) c.in-Passed.is (c.pick.ensures.stands rules late notes s))
+    subst (λ (pick : Pick). HasStepped rules late notes c.args.room (made.Passed pick) c.pick.new.self c.pick.new.slots) (sym c.fields_of_pick-in-Passed.ensures.same)
+    (subst (λ (it : Step). HasStepped rules late notes c.args.room it c.pick.new.self c.pick.new.slots) c.in-Passed.is (c.pick.ensures.stands rules late notes s))
 
 pub returns-in-Done-clause-carried_out : goal.returns-in-Done-clause-carried_out
 returns-in-Done-clause-carried_out c = λ rules late notes s _ _. record {
@@ -34,7 +34,7 @@ returns-in-Done-clause-carried_out c = λ rules late notes s _ _. record {
   entry = c.in-Done.entry;
   told_is = c.answer_of.ensures ∙ ap answer_of c.verdict.ensures;
   asked_is = c.asked_by.ensures;
-  done = subst (λ (it : Step). HasStepped rules late notes it c.pick.new.self c.pick.new.slots) c.in-Done.is (c.pick.ensures.stands rules late notes s);
+  done = subst (λ (it : Step). HasStepped rules late notes c.args.room it c.pick.new.self c.pick.new.slots) c.in-Done.is (c.pick.ensures.stands rules late notes s);
 }
 
 pub returns-in-Idle-clause-unchanged : goal.returns-in-Idle-clause-unchanged
