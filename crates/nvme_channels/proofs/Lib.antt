@@ -1,0 +1,5 @@
+pub mod Begun
+pub mod Idle
+pub mod OneByOne
+pub mod Order
+pub mod Steady

@@ -1,0 +1,49 @@
+// Latencies as they come.
+ghost use Rattle.std.specs.Prelude.{◌≡◌, [], ◌∷◌, ◌++◌, IsPermutation, OnErr, OnOk, length};
+
+use crate::ranked::Ranked;
+use std::alloc::{AllocError, Global};
+
+/// Latencies in picoseconds, in the order in which they came.
+#[derive(Drop)]
+pub struct Latencies {
+    times: Vec<u64>,
+}
+
+impl Latencies {
+    ghost use Rattle.nvme_latency.specs.Times.{ranked_times, times_of};
+
+    /// No latency.
+    pub fn new(alloc: Global) -> Latencies
+        ensures { times_of result ≡ [] }
+    {
+        Latencies {
+            times: Vec::new(alloc),
+        }
+    }
+
+    /// Adds a latency. Where there is no memory for it, the others stay.
+    pub fn add(&mut self, time: u64) -> Result<(), AllocError>
+        ensures ok { OnOk result (times_of self.new ≡ times_of self.old ++ time ∷ []) }
+        ensures err { OnErr result (times_of self.new ≡ times_of self.old) }
+    {
+        self.times.push(time)?;
+        Ok(())
+    }
+
+    /// How many there are.
+    pub fn count(&self) -> usize
+        ensures { result ≡ length (times_of self.now) }
+    {
+        self.times.len()
+    }
+
+    /// The same latencies, from the shortest to the longest.
+    pub fn ranked(self) -> Ranked
+        ensures { IsPermutation (times_of self) (ranked_times result) }
+    {
+        let mut times = self.times;
+        times.sort_unstable();
+        Ranked::of_sorted(times)
+    }
+}
