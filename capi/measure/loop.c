@@ -2,7 +2,7 @@
 /*
  * The loop of a device that has nothing to execute. In each round hosts ring the doorbells of all queues, the entries are
  * read, and all that is picked is taken, completed and posted. This file is compiled twice: over the calls of the library,
- * and with BY_HAND over those of hand.c.
+ * and with BY_HAND over those of hand.c. The same loop over Rattle's calls is crates/nvme_bench/src/loops/rounds.rt.
  */
 #include "hand.h"
 #include "loop.h"
@@ -89,7 +89,18 @@ static void loop_open(uint16_t qid, uint8_t priority)
 }
 #endif
 
-/* What the calls return where there is nothing to do, and for arguments that aren't valid: each is refused. */
+/* Each of these calls is refused. */
+static void loop_add_refusals(const uint32_t *results, size_t count)
+{
+    for (size_t k = 0; k < count; k++) {
+        if (results[k] == NVMEARB_OK) {
+            loop_fail(NAME, "a call wasn't refused");
+        }
+        loop_add(results[k]);
+    }
+}
+
+/* What the calls return where there is nothing to do, and for arguments that aren't valid. */
 static void loop_refuse(uint16_t closed)
 {
     const nvmearb_status success = {0, 0}, invalid = {8, 0};
@@ -105,29 +116,39 @@ static void loop_refuse(uint16_t closed)
         CALL(cq_head)(&it.ctrl, 1, 1),
         CALL(fetch)(&it.ctrl, closed, &slot),
         CALL(fetch)(&it.ctrl, 1, &slot),
-        CALL(fetched)(&it.ctrl, it.slots, POOL - 1, 1, it.entry, 0),
         CALL(fetched)(&it.ctrl, it.slots, POOL, 1, it.entry, 0),
-        CALL(pick)(&it.ctrl, it.slots, POOL - 1, 0, &step),
         CALL(pick)(&it.ctrl, it.slots, POOL, 0, &step),
-        CALL(take)(&it.ctrl, it.slots, POOL - 1, &command),
         CALL(take)(&it.ctrl, it.slots, POOL, &command),
-        CALL(complete)(&it.ctrl, it.slots, POOL - 1, 0, &success, 0),
         CALL(complete)(&it.ctrl, it.slots, POOL, 0, &invalid, 0),
         CALL(complete)(&it.ctrl, it.slots, POOL, 0, &success, 0),
         CALL(complete)(&it.ctrl, it.slots, POOL, POOL, &success, 0),
-        CALL(post)(&it.ctrl, it.slots, POOL - 1, 1, &post),
         CALL(post)(&it.ctrl, it.slots, POOL, closed, &post),
         CALL(post)(&it.ctrl, it.slots, POOL, 1, &post),
     };
-    for (size_t k = 0; k < sizeof results / sizeof *results; k++) {
-        if (results[k] == NVMEARB_OK) {
-            loop_fail(NAME, "a call wasn't refused");
-        }
-        loop_add(results[k]);
-    }
+    loop_add_refusals(results, sizeof results / sizeof *results);
 }
 
-/* Makes a controller whose I/O queues have the four classes in turn. */
+/* What they return for slots that aren't the whole pool. */
+static void loop_refuse_slots(void)
+{
+    const nvmearb_status success = {0, 0};
+    nvmearb_step step;
+    nvmearb_command command;
+    nvmearb_post post;
+    const uint32_t results[] = {
+        CALL(fetched)(&it.ctrl, it.slots, POOL - 1, 1, it.entry, 0),
+        CALL(pick)(&it.ctrl, it.slots, POOL - 1, 0, &step),
+        CALL(take)(&it.ctrl, it.slots, POOL - 1, &command),
+        CALL(complete)(&it.ctrl, it.slots, POOL - 1, 0, &success, 0),
+        CALL(post)(&it.ctrl, it.slots, POOL - 1, 1, &post),
+    };
+    loop_add_refusals(results, sizeof results / sizeof *results);
+}
+
+/*
+ * Makes a controller whose I/O queues have the four classes in turn. The checksum of what comes out begins with the calls
+ * that are refused, but for those that can't be made in Rattle, with other slots or over a controller that no call made.
+ */
 static uint64_t loop_make(const loop_case *of)
 {
     nvmearb_config config = {{SQS, RING}, {CQS, RING}, of->mechanism, CDW11, 64, 64, NVMEARB_MAX_COUNT};
@@ -146,12 +167,14 @@ static uint64_t loop_make(const loop_case *of)
 #endif
     }
     memset(it.entry, 0, sizeof it.entry);
-    loop_refuse(of->queues + 1);
+    loop_refuse_slots();
     it.ctrl.mark ^= 1;
+    loop_refuse_slots();
     loop_refuse(of->queues + 1);
     it.ctrl.mark ^= 1;
     uint64_t refusals = it.sum;
     it.sum = 0;
+    loop_refuse(of->queues + 1);
     return refusals;
 }
 

@@ -13,9 +13,9 @@ typedef struct loop_case {
 /* The loop over the calls of one implementation (loop.c). */
 typedef struct loop {
     const char *name;
-    /* Makes a controller. Returns the checksum of what it answers to calls that aren't valid. */
+    /* Makes a controller. Returns the checksum of what calls answer that can't be made in Rattle. Each is refused. */
     uint64_t (*make)(const loop_case *of);
-    /* Goes round so many times. Returns the checksum of all that came out since the controller was made. */
+    /* Goes round so many times. Returns the checksum of what came out of all other calls since the controller was made. */
     uint64_t (*run)(const loop_case *of, unsigned long rounds);
 } loop;
 

@@ -76,7 +76,7 @@ static void compare(const loop_case *of, unsigned long count, int is_counted)
     if (is_counted) {
         printf("%s|%s|%.0f\n%s|%s|%.0f\n", name, both[0]->name, commands, name, both[1]->name, commands);
     } else {
-        printf("%s: %s %.0f ns, %s %.0f ns, %.2f times, checksum %016" PRIx64 "\n", name, both[0]->name,
+        printf("%s: %s %.1f ns, %s %.1f ns, %.2f times, checksum %016" PRIx64 "\n", name, both[0]->name,
                r[0].least / commands, both[1]->name, r[1].least / commands, r[1].least / r[0].least, r[0].sum);
     }
 }

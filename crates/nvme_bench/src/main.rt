@@ -1,10 +1,11 @@
 //! Measurements of the crates of this repository. The first word names a measurement and the second a count; the
-//! figures go to standard error, and `ok` to standard output.
+//! figures go to standard error, and the checksums of `loop`, and `ok`, to standard output.
 #![tactic(auto)]
 
 mod boards;
 mod checks;
 mod jobs;
+mod loops;
 mod picks;
 mod rates;
 mod rings;
@@ -19,14 +20,15 @@ use std::env;
 use std::rt::Clock;
 use std::sync::Wait;
 use std::thread::Threads;
+use std::time::CpuClock;
 
 // The measurements by their names.
-const NAMES: [&str; 7] = [
-    "picks", "boards", "checks", "tables", "rings", "jobs", "runs",
+const NAMES: [&str; 8] = [
+    "picks", "boards", "checks", "tables", "rings", "jobs", "runs", "loop",
 ];
 
 // Makes a measurement by its name.
-fn measure_one<R: Clock + Eprint + Alloc<A = Global> + Threads + Wait + Sync>(
+fn measure_one<R: Clock + CpuClock + Print + Eprint + Alloc<A = Global> + Threads + Wait + Sync>(
     rt: &R,
     yardstick: Yardstick,
     name: &str,
@@ -40,13 +42,15 @@ fn measure_one<R: Clock + Eprint + Alloc<A = Global> + Threads + Wait + Sync>(
         "rings" => rings::measure(rt, yardstick, count)?,
         "jobs" => jobs::measure(rt, yardstick, count)?,
         "runs" => runs::measure(rt, yardstick, count)?,
+        "loop" => loops::measure(rt, count)?,
+        "counted" => loops::count(rt, count)?,
         _ => bail!("no measurement of this name"),
     }
     Ok(())
 }
 
 // Makes a measurement by its name, or all of them, with a yardstick that is taken first.
-fn measure<R: Clock + Eprint + Alloc<A = Global> + Threads + Wait + Sync>(
+fn measure<R: Clock + CpuClock + Print + Eprint + Alloc<A = Global> + Threads + Wait + Sync>(
     rt: &R,
     name: &str,
     count: u32,

@@ -6,7 +6,7 @@ use std::alloc::{AllocError, Global};
 fn measurement_arg<'a>(alloc: Global) -> Arg<'a> {
     Arg::new(alloc, "measurement")
         .value_name("MEASUREMENT")
-        .help("picks, boards, checks, tables, rings, jobs, runs or all")
+        .help("picks, boards, checks, tables, rings, jobs, runs, loop, all or counted")
         .required(true)
         .action(ArgAction::Set)
 }

@@ -1,0 +1,5 @@
+use Rattle.nvme_ctrl.specs.Standing.{IsController}
+use Rattle.nvme_bench.proofs.loops.rounds.counted.Given as goal
+
+abbrev pub invariant-loop : goal.invariant-loop
+invariant-loop l = IsController l.ctrl l.slots
