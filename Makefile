@@ -8,7 +8,7 @@ TO = $(DESTDIR)$(abspath $(PREFIX))
 PROGRAM =
 LIBRARY =
 # What lies below share/nvmearb in the order of this repository, so that the documents' links hold.
-SHARED = README.md CHANGELOG.md LICENSE docs examples capi/examples capi/rust capi/python
+SHARED = README.md CHANGELOG.md SECURITY.md LICENSE docs examples capi/examples capi/rust capi/python
 
 all: ## prove and build the program, crates/nvmearb/out/nvmearb
 	$(if $(PROGRAM),,./build nvmearb)
