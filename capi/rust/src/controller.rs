@@ -395,9 +395,10 @@ impl<S: Slots> Controller<S> {
     /// A device that holds commands for long, such as Asynchronous Event Requests, passes at most 256 less as many:
     /// otherwise a pick without a burst limit may be [`Step::Full`] for ever.
     ///
-    /// An admin command is picked alone, and wants a room of 1. One that isn't the device's is carried out at once: queues are created, a deletion begins
-    /// and the waiting commands of its queue are answered with [`Status::ABORTED_BY_DELETION`], a waiting command is
-    /// aborted with [`Status::ABORT_REQUESTED`], features are set and told.
+    /// An admin command is picked alone, and wants a room of 1. One that isn't the device's is carried out at once:
+    /// queues are created, a deletion begins and the waiting commands of its queue are answered with
+    /// [`Status::ABORTED_BY_DELETION`], a waiting command is aborted with [`Status::ABORT_REQUESTED`], features are set
+    /// and told.
     ///
     /// [`Error::State`]: something outside of Rust's rules wrote into the controller.
     pub fn pick(&mut self, room: u16) -> Result<Step, Error> {

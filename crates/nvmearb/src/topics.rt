@@ -52,6 +52,7 @@ cdw11      0 to 4294967295: the settings, as nvmearb settings tells them        
 A pick:
 pick       0 to 65535: the queue                                                 "pick":1
 n          0 to 65535: how many commands were taken                              "n":2
+room       1 to 65535: how many commands the device had room for, if limited     "room":4
 fresh      true where a new round starts, false else; check --spec needs none    "fresh":false
 seen       for each open queue, by number: [queue, class, commands that wait]    "seen":[[1,"high",5],[4,"low",5]]
            queue 0 to 64; "admin" (queue 0), "urgent", "high", "medium", "low";
