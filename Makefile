@@ -16,7 +16,7 @@ all: ## prove and build the program, crates/nvmearb/out/nvmearb
 check: ## prove every crate, or with CRATE=nvme_lane that one
 	cd $(if $(CRATE),crates/$(CRATE) && rt check,. && rt all check)
 
-test: ## test what is built, or NAME=words by tests/words alone; with CRATE=nvme_sim_tests that crate's tests, or NAME=one
+test: ## test what is built, or NAME=words by tests/words alone; with CRATE=nvme_program_tests that crate's tests, or NAME=one
 	$(if $(CRATE),cd crates/$(CRATE) && rt test $(if $(NAME),-- $(NAME)),tests/run $(NAME))
 
 bench: ## measure, COUNT=1000000 steps each, or with COUNT=worst count the instructions of the worst single calls

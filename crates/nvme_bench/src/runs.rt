@@ -1,7 +1,7 @@
 // Whole runs: front, workers and rings, with a thread for each host. Reports are measured apart.
 use crate::rates::{Yardstick, tell};
 use anyhow::{Result, bail};
-use nvme_sim::{Mode, run};
+use nvme_program::{Mode, run};
 use std::alloc::Global;
 use std::fmt::Write as _;
 use std::io::{self, BufWriter, Write};

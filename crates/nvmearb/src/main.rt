@@ -1,5 +1,5 @@
-//! The program `nvmearb`: it calls `nvme_sim::command` with its command line and the three standard streams, and tells
-//! what its streams met.
+//! The program `nvmearb`: it calls `nvme_program::command` with its command line and the three standard streams, and
+//! tells what its streams met.
 #![tactic(auto)]
 
 ghost use Rattle.std.specs.Prelude.{◌≡◌, ◌≤◌};
@@ -14,7 +14,7 @@ mod topics;
 use checks::{Checks, Form, Judged, asked, put_json, put_junit, put_named};
 use kept::Kept;
 use noted::{Noted, Notes};
-use nvme_sim::{Errors, Output, Request, asked_of, command, file_named, flushed, output_named};
+use nvme_program::{Errors, Output, Request, asked_of, command, file_named, flushed, output_named};
 use std::alloc::{AllocError, Global};
 use std::cell::Cell;
 use std::io::{BufWriter, ErrorKind, Write};

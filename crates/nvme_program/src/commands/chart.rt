@@ -1,0 +1,44 @@
+// Draws a trace.
+ghost use Rattle.std.specs.Prelude.{◌≡◌, ◌⊎◌, Ok, IfErr, IfSome, OnOk};
+ghost use Rattle.nvme_program.specs.Inputs.{IsFaultyShown, IsTrace};
+ghost use Rattle.nvme_program.specs.Statuses.{status_of};
+ghost use Rattle.nvme_program.specs.declared.faults.Fault.TheVariants as fault;
+ghost use Rattle.nvme_program.specs.declared.commands.Answer.TheVariants as answer;
+
+use super::Answer;
+use crate::faults::Fault;
+use nvme_chart::chart;
+use nvme_stats::Selection;
+use nvme_words::Range;
+use std::alloc::Global;
+use std::io::{Read, Write};
+
+/// Writes a picture of the picks of a trace in a range, as SVG.
+#[tactic(auto, using(crate::proofs::Inputs::faulty_shown, crate::proofs::Inputs::is_trace))]
+#[inline(never)]
+pub(super) fn charted<R: Read + Drop, W: Write>(
+    alloc: Global,
+    range: Range,
+    input: R,
+    output: &mut W,
+) -> Result<Answer, Fault>
+    ensures no_other { (result ≡ Ok answer.Warned) ⊎ (result ≡ Ok answer.Refused) → ⊥ }
+    ensures input { IfErr result (λ e. status_of e ≡ 1 → IfSome (R.remaining input) IsFaultyShown) }
+    ensures done { OnOk result (IfSome (R.remaining input) IsTrace) }
+    ensures untouched { IfErr result (λ e. (e ≡ fault.Write) ⊎ (output.new ≡ output.old)) }
+    ensures failed { IfErr result (λ e. (output.new ≡ output.old) ⊎ IfSome (R.remaining input) IsTrace) }
+{
+    let selection = Selection {
+        first: range.first,
+        last: range.last,
+        backlogged: false,
+    };
+    let picture = match chart(alloc, input, selection) {
+        Ok(picture) => picture,
+        Err(error) => return Err(Fault::Shown(error)),
+    };
+    match picture.write_svg(output) {
+        Ok(()) => Ok(Answer::Done),
+        Err(_) => Err(Fault::Write),
+    }
+}

@@ -1,0 +1,121 @@
+// Files of either form.
+ghost use Rattle.std.specs.Prelude.{◌≡◌, ◌⊎◌, Ok, IfErr, IfOk, IfSome, OnOk};
+ghost use Rattle.nvme_short.specs.Expansion.{StandsFor};
+ghost use Rattle.nvme_program.specs.Answers.{Appended, AppendedPart, HasReport, HasTrace, HasWorkload};
+ghost use Rattle.nvme_program.specs.Files.{IsBadFile, OfFile};
+ghost use Rattle.nvme_program.specs.Inputs.{HasNoWarning, HasWarnings};
+ghost use Rattle.nvme_program.specs.Statuses.{status_of};
+ghost use Rattle.nvme_program.specs.declared.faults.Fault.TheVariants as fault;
+ghost use Rattle.nvme_program.specs.declared.commands.Answer.TheVariants as answer;
+ghost use Rattle.nvme_runs.specs.declared.runs.RunError.TheVariants as run_fault;
+
+use super::Answer;
+use super::explanation::explained;
+use super::lint::{linted, warnings_of};
+use super::run::ran;
+use super::trace::traced;
+use crate::faults::Fault;
+use nvme_lane::Mode;
+use nvme_output::{WriteFault, put};
+use nvme_short::{ExpandError, stood_for};
+use nvme_words::take_input;
+use std::alloc::{AllocError, Global};
+use std::io::{Read, Write};
+use std::sync::Wait;
+use std::thread::Threads;
+
+// The text of the workload file that an input stands for.
+fn text_of<R: Read + Drop>(alloc: Global, input: R) -> Result<Vec<u8>, Fault>
+    ensures stands { IfOk result (λ text. IfSome (R.remaining input) (λ bytes. StandsFor bytes text.items)) }
+    ensures input { IfErr result (λ e. status_of e ≡ 1 → IfSome (R.remaining input) IsBadFile) }
+{
+    let bytes = take_input(alloc, input).map_err(Fault::Input)?;
+    match stood_for(alloc, bytes) {
+        Ok(text) => Ok(text),
+        Err(ExpandError::Fault(fault)) => Err(Fault::Short(fault)),
+        Err(ExpandError::NoMemory) => Err(Fault::NoMemory(AllocError)),
+    }
+}
+
+/// Runs the workload of a file as `ran` does. Some faults have a second line.
+#[inline(never)]
+pub(super) fn ran_file<R: Read + Drop, W: Write, T: Threads + Wait + Sync>(
+    rt: &T,
+    alloc: Global,
+    mode: Mode,
+    workers: u8,
+    input: R,
+    output: &mut W,
+) -> Result<Answer, Fault>
+    ensures no_other { (result ≡ Ok answer.Warned) ⊎ (result ≡ Ok answer.Refused) → ⊥ }
+    ensures done { OnOk result (IfSome (R.remaining input) (OfFile (HasReport (Appended W.contents output.old output.new) mode))) }
+    ensures input { IfErr result (λ e. status_of e ≡ 1 → IfSome (R.remaining input) IsBadFile) }
+    ensures untouched { IfErr result (λ e. (e ≡ fault.Run run_fault.Write) ⊎ (output.new ≡ output.old)) }
+    ensures failed { IfErr result (λ e. (output.new ≡ output.old) ⊎ IfSome (R.remaining input) (OfFile (HasReport (AppendedPart W.contents output.old output.new) mode))) }
+{
+    let text = text_of(alloc, input)?;
+    let answer = ran(rt, alloc, mode, workers, text.as_slice(), output);
+    explained(alloc, text.as_slice(), answer)
+}
+
+/// Runs the workload of a file and writes its trace, as `traced` does. Some faults have a second line.
+#[inline(never)]
+pub(super) fn traced_file<R: Read + Drop, W: Write, T: Threads + Wait + Sync>(
+    rt: &T,
+    alloc: Global,
+    mode: Mode,
+    workers: u8,
+    input: R,
+    output: &mut W,
+) -> Result<Answer, Fault>
+    ensures no_other { (result ≡ Ok answer.Warned) ⊎ (result ≡ Ok answer.Refused) → ⊥ }
+    ensures done { OnOk result (IfSome (R.remaining input) (OfFile (HasTrace (Appended W.contents output.old output.new) mode))) }
+    ensures input { IfErr result (λ e. status_of e ≡ 1 → IfSome (R.remaining input) IsBadFile) }
+    ensures untouched { IfErr result (λ e. (e ≡ fault.Write) ⊎ (output.new ≡ output.old)) }
+    ensures failed { IfErr result (λ e. (output.new ≡ output.old) ⊎ IfSome (R.remaining input) (OfFile (HasTrace (AppendedPart W.contents output.old output.new) mode))) }
+{
+    let text = text_of(alloc, input)?;
+    let answer = traced(rt, alloc, mode, workers, text.as_slice(), output);
+    explained(alloc, text.as_slice(), answer)
+}
+
+/// Checks the workload of a file for its writer, as `linted` does.
+#[inline(never)]
+pub(super) fn linted_file<R: Read + Drop, W: Write>(
+    alloc: Global,
+    input: R,
+    output: &mut W,
+) -> Result<Answer, Fault>
+    ensures no_pick { result ≡ Ok answer.Refused → ⊥ }
+    ensures warned { result ≡ Ok answer.Warned → IfSome (R.remaining input) (OfFile HasWarnings) }
+    ensures none { result ≡ Ok answer.Done → IfSome (R.remaining input) (OfFile HasNoWarning) }
+    ensures input { IfErr result (λ e. status_of e ≡ 1 → IfSome (R.remaining input) IsBadFile) }
+    ensures quiet { result ≡ Ok answer.Done → output.new ≡ output.old }
+    ensures untouched { IfErr result (λ e. (e ≡ fault.Write) ⊎ (output.new ≡ output.old)) }
+    ensures failed { IfErr result (λ e. (output.new ≡ output.old) ⊎ IfSome (R.remaining input) (OfFile HasWarnings)) }
+{
+    let text = text_of(alloc, input)?;
+    linted(alloc, text.as_slice(), output)
+}
+
+/// Writes the text of the workload file that a file stands for. A text that is no workload is refused as `linted` does.
+#[tactic(auto, using(crate::proofs::Inputs::no_workload_of_file, crate::proofs::Inputs::written_of_file, crate::proofs::Inputs::written_in_part))]
+#[inline(never)]
+pub(super) fn expanded<R: Read + Drop, W: Write>(
+    alloc: Global,
+    input: R,
+    output: &mut W,
+) -> Result<Answer, Fault>
+    ensures no_other { (result ≡ Ok answer.Warned) ⊎ (result ≡ Ok answer.Refused) → ⊥ }
+    ensures done { OnOk result (IfSome (R.remaining input) (OfFile (HasWorkload (Appended W.contents output.old output.new)))) }
+    ensures input { IfErr result (λ e. status_of e ≡ 1 → IfSome (R.remaining input) IsBadFile) }
+    ensures untouched { IfErr result (λ e. (e ≡ fault.Write) ⊎ (output.new ≡ output.old)) }
+    ensures failed { IfErr result (λ e. (output.new ≡ output.old) ⊎ IfSome (R.remaining input) (OfFile (HasWorkload (AppendedPart W.contents output.old output.new)))) }
+{
+    let text = text_of(alloc, input)?;
+    let _warnings = warnings_of(alloc, text.as_slice())?;
+    match put(text.as_slice(), output) {
+        Ok(()) => Ok(Answer::Done),
+        Err(WriteFault) => Err(Fault::Write),
+    }
+}

@@ -1,0 +1,156 @@
+ghost use Rattle.std.specs.Prelude.{◌≡◌, ◌≢◌, ◌≤◌, ◌⊎◌};
+ghost use Rattle.nvme_program.specs.Statuses.{fault_of_words, status_of};
+ghost use Rattle.nvme_program.specs.declared.faults.Fault.TheVariants as fault;
+ghost use Rattle.nvme_runs.specs.declared.runs.RunError.TheVariants as run_fault;
+
+use crate::second_line::SecondLine;
+use nvme_front::FrontError;
+use nvme_runs::RunError;
+use nvme_settings::SettingsFault;
+use nvme_trace::{Field, LineFault, TraceError};
+use nvme_words::{InputError, MAX_INPUT, OnceError, OptionsFault, WordsError, reads_input_alone};
+use nvme_workload::WorkloadError;
+use std::alloc::{AllocError, Global};
+use std::io::Write;
+use thiserror::Error;
+
+/// Why the program doesn't answer. Each fault is told in one line, except one of the command line, whose text may have
+/// several, and those that have a second line: of a workload, and with the words `run` and `trace` others too.
+#[derive(Debug, Drop, Error)]
+pub(crate) enum Fault {
+    #[error("{0}")]
+    CommandLine(clap::Error),
+    #[error("nvmearb: command line")]
+    Words,
+    #[error("nvmearb: {0}")]
+    Entry(OnceError),
+    #[error("nvmearb: {0}")]
+    Input(InputError),
+    #[error("nvmearb: out of memory")]
+    NoMemory(AllocError),
+    #[error("nvmearb: write failed")]
+    Write,
+    #[error("nvmearb: {0}")]
+    Run(RunError),
+    #[error("nvmearb: workload: {0}")]
+    Workload(nvme_workload::Fault),
+    #[error("nvmearb: workload: {0}")]
+    Short(nvme_short::ShortFault),
+    #[error("nvmearb: {0}")]
+    Trace(TraceError),
+    // Of a trace that is shown and not judged.
+    #[error("nvmearb: {0}")]
+    Shown(TraceError),
+    #[error("nvmearb: settings: {0}")]
+    Settings(SettingsFault),
+    #[error("nvmearb: {0}")]
+    Options(OptionsFault),
+    // The second line tells the place of the fault, what stands there, and what was expected.
+    #[error("nvmearb: workload: {0}")]
+    Placed(WorkloadError, nvme_workload::Fault),
+    // The second line tells how many commands the script of the region has, and how many its ring holds.
+    #[error("nvmearb: script too long for ring {region}")]
+    TooLong {
+        region: u8,
+        commands: usize,
+        slots: u16,
+    },
+    #[error("nvmearb: front\nnvmearb: {0}")]
+    Front(FrontError),
+    // With the patience of the workload, which the second line tells.
+    #[error("nvmearb: gave up")]
+    GaveUp(u32),
+}
+
+impl Fault {
+    /// The fault of words that ask for nothing.
+    pub(crate) fn of_words(error: WordsError) -> Fault
+        ensures fault { result ≡ fault_of_words error }
+        ensures no_input { status_of result ≢ 1 }
+    {
+        match error {
+            WordsError::CommandLine(error) => Fault::CommandLine(error),
+            WordsError::OtherWord => Fault::Words,
+            WordsError::NoMemory(error) => Fault::NoMemory(error),
+        }
+    }
+
+    /// The program's exit status: 1 for a fault of the input, 2 for one of the command line, 3 for one at run time.
+    pub(crate) fn status(&self) -> u8
+        ensures table { result ≡ status_of self.now }
+        ensures range { result ≤ 3 }
+        ensures write { (self.now ≡ fault.Write) ⊎ (self.now ≡ fault.Run run_fault.Write) → result ≡ 3 }
+    {
+        match self {
+            Fault::Entry(_) | Fault::Input(InputError::TooLong) => 1,
+            Fault::Run(RunError::Workload(_)) => 1,
+            Fault::Workload(_) | Fault::Placed(..) | Fault::Short(_) => 1,
+            Fault::Trace(TraceError::Line { .. }) | Fault::Shown(TraceError::Line { .. }) => 1,
+            Fault::CommandLine(_) | Fault::Words | Fault::Settings(_) | Fault::Options(_) => 2,
+            Fault::Run(RunError::Workers) => 2,
+            Fault::Input(_) | Fault::NoMemory(_) | Fault::Write => 3,
+            Fault::Run(_) | Fault::Front(_) | Fault::GaveUp(_) | Fault::TooLong { .. } => 3,
+            Fault::Trace(_) | Fault::Shown(_) => 3,
+        }
+    }
+
+    /// Writes the text, with a newline at its end. A fault of a workload names the file that the words name.
+    pub(crate) fn tell<E: Write>(
+        &self,
+        alloc: Global,
+        words: &[String],
+        errors: &mut E,
+    ) -> std::io::Result<()> {
+        match self {
+            Fault::CommandLine(error) => write!(errors, "{error}"),
+            Fault::Placed(_, fault) => {
+                writeln!(errors, "{self}")?;
+                SecondLine::of_placed(alloc, words, fault).write(errors)
+            }
+            Fault::Workload(fault) => {
+                writeln!(errors, "{self}")?;
+                SecondLine::of_workload(alloc, words, fault).write(errors)
+            }
+            Fault::Short(_) => {
+                writeln!(errors, "{self}")?;
+                SecondLine::of_file(alloc, words).write(errors)
+            }
+            Fault::TooLong {
+                commands,
+                slots,
+                ..
+            } => {
+                let held = slots.saturating_sub(1);
+                writeln!(
+                    errors,
+                    "{self}\nnvmearb: its script has {commands} commands, and its ring of {slots} slots holds {held}: take --live"
+                )
+            }
+            Fault::Shown(
+                TraceError::Line {
+                    line,
+                    fault: LineFault::Missing(Field::Fresh),
+                    ..
+                },
+            ) => {
+                let fault = LineFault::Missing(Field::Fresh);
+                writeln!(
+                    errors,
+                    "nvmearb: trace: line {line}: {fault}: wanted true or false"
+                )
+            }
+            Fault::Input(InputError::TooLong) if !reads_input_alone(words) => {
+                writeln!(errors, "{self}: above {MAX_INPUT} bytes")
+            }
+            Fault::GaveUp(patience) => {
+                let turns = if *patience == 1 { "turn" } else { "turns" };
+                let why = "in a row (patience), and not all was done";
+                writeln!(
+                    errors,
+                    "{self}\nnvmearb: the front found nothing to do for {patience} {turns} {why}"
+                )
+            }
+            fault => writeln!(errors, "{fault}"),
+        }
+    }
+}
