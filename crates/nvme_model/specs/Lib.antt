@@ -1,0 +1,5 @@
+pub mod Devices
+pub mod Laws
+pub mod Models
+pub mod Queues
+pub mod Times
