@@ -1,0 +1,4 @@
+pub mod Balances
+pub mod Examples
+pub mod Occupancies
+pub mod Stays
