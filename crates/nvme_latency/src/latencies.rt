@@ -31,6 +31,14 @@ impl Latencies {
         Ok(())
     }
 
+    /// Adds latencies that are ranked. Where there is no memory for them, those that were there stay.
+    pub fn append(&mut self, others: &Ranked) -> Result<(), AllocError>
+        ensures ok { OnOk result (times_of self.new ≡ times_of self.old ++ ranked_times others.now) }
+        ensures err { OnErr result (times_of self.new ≡ times_of self.old) }
+    {
+        self.times.extend_from_slice(others.times())
+    }
+
     /// How many there are.
     pub fn count(&self) -> usize
         ensures { result ≡ length (times_of self.now) }

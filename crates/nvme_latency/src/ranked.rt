@@ -35,6 +35,13 @@ impl Ranked {
         Ranked { times }
     }
 
+    // All of them.
+    pub(crate) fn times(&self) -> &[u64]
+        ensures { result.now ≡ ranked_times self.now }
+    {
+        self.times.as_slice()
+    }
+
     /// How many there are.
     pub fn count(&self) -> usize
         ensures { result ≡ length (ranked_times self.now) }

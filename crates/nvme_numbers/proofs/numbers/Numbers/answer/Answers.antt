@@ -1,0 +1,22 @@
+use Rattle.std.proofs.Common.{◌≡◌, All, List, None, subst, rules}
+use Rattle.nvme_numbers.specs.Told.{span_of}
+use Rattle.nvme_numbers.specs.inside.Unions.{AreRows, IsClassRow, IsUnionRow}
+use Rattle.nvme_numbers.specs.declared.answer.RankedQueue.{RankedQueue}
+use Rattle.nvme_numbers.proofs.Ranks.{told}
+use Rattle.nvme_numbers.proofs.numbers.Numbers.answer.Goals as goal
+
+pub returns-clause-told : goal.returns-clause-told
+returns-clause-told c =
+    let span = c.saturating_sub-span.result in
+    let all = c.in_ok-all.all in
+    let ranked = c.in_ok-ranked.ranked.items in
+    let rows = c.in_ok-rows.rows.items in
+    let classes = c.in_ok-class_rows.field-0.items in
+    let time : span ≡ span_of c.args.self c.args.end = search rules in
+    let one : IsUnionRow span all.commands None c.deref.result.now all = c.in_ok-all.ensures in
+    let each : AreRows span all.commands c.deref-2.result.now rows = c.in_ok-rows.ensures in
+    let some : All (IsClassRow span all.commands c.deref-3.result.now) classes = c.in_ok-class_rows.ensures in
+    told c.args.self c.args.end span ranked rows classes all time c.in_ok-ranked.ensures
+    (subst (λ (v : List RankedQueue). IsUnionRow span all.commands None v all) c.deref.ensures.value one)
+    (subst (λ (v : List RankedQueue). AreRows span all.commands v rows) c.deref-2.ensures.value each)
+    (subst (λ (v : List RankedQueue). All (IsClassRow span all.commands v) classes) c.deref-3.ensures.value some)

@@ -1,0 +1,19 @@
+-- Shares, rates and Jain's index of fairness. (profile)
+use Rattle.std.specs.Prelude.{◌≡◌, ◌≤◌, ℕ, ◌+◌, ◌*◌, ◌/◌, ◌^◌, ◌⊎◌, List, Option, MatchOption, length, sum}
+use Rattle.std.specs.List.{sum_by}
+
+-- a quotient, rounded to the nearest whole number, and half a unit up
+abbrev pub rounded : ℕ → ℕ → ℕ
+rounded above below = (above + below / 2) / below
+
+-- a part of a whole in so many units: none of nothing, or where the numbers have more than 128 bits
+abbrev pub IsQuotient : (part units whole : ℕ) → Option ℕ → Type 0
+IsQuotient part units whole q =
+    MatchOption q ((whole ≡ 0) ⊎ (2 ^ 128 ≤ part * units + whole / 2)) (λ v. v ≡ rounded (part * units) whole)
+
+abbrev pub squares_of : List ℕ → ℕ
+squares_of parts = sum_by (λ p. p * p) parts
+
+-- Jain's index in ten thousandths, cut off: the square of the sum of parts, divided by their number times the sum of their squares
+abbrev pub jain_of : List ℕ → ℕ
+jain_of parts = (sum parts * sum parts * 10_000) / (squares_of parts * length parts)

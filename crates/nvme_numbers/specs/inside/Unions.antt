@@ -1,0 +1,63 @@
+-- The commands of queues together. (profile)
+use Rattle.std.specs.Prelude.{◌≡◌, ◌<◌, ℕ, if◌then◌else◌, IsPermutation, List, [], Option, Some, length, slice_index_or}
+use Rattle.std.specs.List.{flat_map, fold}
+use Rattle.nvme_arbiter.specs.declared.settings.Class.{Class}
+use Rattle.nvme_latency.specs.Times.{ranked_times, times_of}
+use Rattle.nvme_numbers.specs.Sums.{no_sums, sums_plus}
+use Rattle.nvme_numbers.specs.Told.{is_of}
+use Rattle.nvme_numbers.specs.Rows.{IsRow}
+use Rattle.nvme_numbers.specs.declared.answer.Member.{Member}
+use Rattle.nvme_numbers.specs.declared.answer.RankedQueue.{RankedQueue}
+use Rattle.nvme_numbers.specs.declared.numbers.QueueTally.{QueueTally}
+use Rattle.nvme_numbers.specs.declared.row.Row.{Row}
+use Rattle.nvme_numbers.specs.declared.sums.Sums.{Sums}
+use Rattle.nvme_numbers.specs.declared.tally.RankedTally.{RankedTally}
+
+-- what a queue has of a class, or of any
+abbrev pub times_in : Option Class → RankedQueue → List ℕ
+times_in class q = if is_of class q.class then ranked_times q.tally.latencies else []
+
+abbrev pub sums_in : Option Class → RankedQueue → Sums
+sums_in class q = if is_of class q.class then q.tally.sums else no_sums
+
+-- all of a class, or of any
+abbrev pub all_times : Option Class → List RankedQueue → List ℕ
+all_times class queues = flat_map (times_in class) queues
+
+abbrev pub all_sums : Option Class → List RankedQueue → Sums
+all_sums class queues = fold (λ s q. sums_plus s (sums_in class q)) no_sums queues
+
+-- exactly these, from the shortest latency to the longest
+pub record IsUnion (class : Option Class) (queues : List RankedQueue) (union : RankedTally) : Type 0 where
+  pub times : IsPermutation (all_times class queues) (ranked_times union.latencies)
+  pub sums : union.sums ≡ all_sums class queues
+
+-- the row of a class, or of any
+abbrev pub IsUnionRow : (span whole : ℕ) → Option Class → List RankedQueue → Row → Type 0
+IsUnionRow span whole class queues row = IsRow span whole (all_times class queues) (all_sums class queues) row
+
+abbrev pub IsClassRow : (span whole : ℕ) → List RankedQueue → Member → Type 0
+IsClassRow span whole queues m = IsUnionRow span whole (Some m.class) queues m.row
+
+-- queues whose latencies are ranked
+pub record IsRanked (q : QueueTally) (r : RankedQueue) : Type 0 where
+  pub priority : r.class ≡ q.class
+  pub times : IsPermutation (times_of q.tally.latencies) (ranked_times r.tally.latencies)
+  pub sums : r.tally.sums ≡ q.tally.sums
+
+pub record AreRanked (queues : List QueueTally) (ranked : List RankedQueue) : Type 0 where
+  pub count : length ranked ≡ length queues
+  pub each : (k : ℕ) (q : QueueTally) (r : RankedQueue) → k < length ranked → IsRanked (slice_index_or queues k q) (slice_index_or ranked k r)
+
+-- rows are those of the queues at their places
+abbrev pub IsRowOf : (span whole : ℕ) → RankedQueue → Member → Type 0
+IsRowOf span whole q m = IsRow span whole (ranked_times q.tally.latencies) q.tally.sums m.row × (m.class ≡ q.class)
+
+pub record RowsAgree (span whole : ℕ) (queues : List RankedQueue) (rows : List Member) : Type 0 where
+  pub each : (k : ℕ) (q : RankedQueue) (m : Member) → k < length rows
+      → IsRowOf span whole (slice_index_or queues k q) (slice_index_or rows k m)
+
+-- a row for each queue
+pub record AreRows (span whole : ℕ) (queues : List RankedQueue) (rows : List Member) : Type 0 where
+  pub count : length rows ≡ length queues
+  pub agree : RowsAgree span whole queues rows

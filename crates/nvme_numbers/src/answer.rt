@@ -1,0 +1,328 @@
+// What is told of a simulation.
+ghost use Rattle.std.specs.Prelude.{◌≡◌, ◌++◌, All, IfOk, OnOk, option_to_list};
+ghost use Rattle.nvme_latency.specs.Times.{times_of};
+ghost use Rattle.nvme_numbers.specs.Fairness.{IsJain, commands_of_each, level_part, level_parts};
+ghost use Rattle.nvme_numbers.specs.Sums.{sums_plus};
+ghost use Rattle.nvme_numbers.specs.inside.Unions.{AreRanked, AreRows, IsClassRow, IsRanked, IsUnion, IsUnionRow, sums_in, times_in};
+
+mod object;
+mod sheet;
+mod table;
+mod wording;
+
+use crate::numbers::{Asked, Numbers, QueueTally};
+use crate::quotient::{jain, quotient};
+use crate::row::{Row, row_of};
+use crate::tally::{RankedTally, Tally};
+use nvme_arbiter::{Class, Mechanism, Settings};
+use nvme_channels::Channel;
+use nvme_output::WriteFault;
+use object::put_object;
+use sheet::put_sheet;
+use std::alloc::{AllocError, Global};
+use std::io::Write;
+use table::put_table;
+
+// All classes, in the order of their rows.
+const CLASSES: [Class; 5] = [
+    Class::Admin,
+    Class::Urgent,
+    Class::High,
+    Class::Medium,
+    Class::Low,
+];
+
+// Utilization is told in thousandths of a percent.
+const THOUSANDTHS: u128 = 100_000;
+
+/// Which program simulated what. Both texts are written as they are, so they have no quote, backslash, comma or line end.
+#[derive(Clone, Copy, Debug)]
+pub struct About<'a> {
+    /// The version of the program.
+    pub version: &'a str,
+    /// The digest of the file that tells the model.
+    pub digest: &'a str,
+}
+
+/// A queue or a class, and its numbers.
+#[derive(Clone, Copy, Debug, PartialEq, Eq)]
+pub struct Member {
+    pub class: Class,
+    pub row: Row,
+}
+
+/// What is told of a simulation. Numbers of time begin where the first command that counts came, and end where the simulation
+/// ended; utilization is that of all the time that was simulated.
+#[derive(Drop)]
+pub struct Answer<'a> {
+    about: About<'a>,
+    asked: Asked,
+    /// When the first command that counts came, in picoseconds. `None` where none counts.
+    pub began: Option<u64>,
+    /// When the simulation ended, in picoseconds.
+    pub end: u64,
+    /// The queues, of the identifiers 1, 2 and so on.
+    pub queues: Vec<Member>,
+    /// The classes that have a queue, from the admin class and the urgent one down.
+    pub classes: Vec<Member>,
+    /// All queues together.
+    pub all: Row,
+    /// The channels of the device.
+    pub channels: &'a [Channel],
+    /// Jain's index of the commands a second of the queues, in ten thousandths. `None` where no command counts.
+    pub jain: Option<u128>,
+    /// Jain's index of the commands a second of the queues of levels, each divided by the weight of its level, in ten
+    /// thousandths. `None` under round robin, and where no such command counts.
+    pub jain_by_weight: Option<u128>,
+}
+
+// A queue whose latencies are ranked.
+#[derive(Drop)]
+struct RankedQueue {
+    class: Class,
+    tally: RankedTally,
+}
+
+// Ranks the latencies of a queue.
+fn ranked_queue(queue: QueueTally) -> RankedQueue
+    ensures { IsRanked queue result }
+{
+    let QueueTally { class, tally } = queue;
+    RankedQueue {
+        class,
+        tally: tally.ranked(),
+    }
+}
+
+// Ranks the latencies of queues.
+fn ranked_queues(alloc: Global, queues: Vec<QueueTally>) -> Result<Vec<RankedQueue>, AllocError>
+    ensures { IfOk result (λ ranked. AreRanked queues.items ranked.items) }
+{
+    let mut ranked = Vec::with_capacity(alloc, queues.len())?;
+    for queue in queues {
+        ranked.push(ranked_queue(queue))?;
+    }
+    Ok(ranked)
+}
+
+// Adds the commands of a queue, where it is of a class, or of any.
+fn join(union: &mut Tally, queue: &RankedQueue, class: Option<Class>) -> Result<(), AllocError>
+    ensures times { OnOk result (times_of union.new.latencies ≡ times_of union.old.latencies ++ times_in class queue.now) }
+    ensures sums { OnOk result (union.new.sums ≡ sums_plus union.old.sums (sums_in class queue.now)) }
+{
+    match class {
+        Some(class) if class.number() != queue.class.number() => Ok(()),
+        _ => union.append(&queue.tally),
+    }
+}
+
+// The commands of the queues of a class, or of all queues.
+fn union_of(
+    alloc: Global,
+    queues: &[RankedQueue],
+    class: Option<Class>,
+) -> Result<RankedTally, AllocError>
+    ensures { IfOk result (λ union. IsUnion class queues.now union) }
+{
+    let mut union = Tally::new(alloc);
+    for queue in queues {
+        join(&mut union, queue, class)?;
+    }
+    Ok(union.ranked())
+}
+
+// The rows of queues.
+fn queue_rows(
+    alloc: Global,
+    queues: &[RankedQueue],
+    span: u64,
+    whole: usize,
+) -> Result<Vec<Member>, AllocError>
+    ensures { IfOk result (λ rows. AreRows span whole queues.now rows.items) }
+{
+    let mut rows = Vec::with_capacity(alloc, queues.len())?;
+    for queue in queues {
+        rows.push(Member {
+            class: queue.class,
+            row: row_of(&queue.tally, span, whole),
+        })?;
+    }
+    Ok(rows)
+}
+
+// The row of a class.
+fn class_row(
+    alloc: Global,
+    queues: &[RankedQueue],
+    class: Class,
+    span: u64,
+    whole: usize,
+) -> Result<Row, AllocError>
+    ensures { IfOk result (IsUnionRow span whole (Some class) queues.now) }
+{
+    let union = union_of(alloc, queues, Some(class))?;
+    Ok(row_of(&union, span, whole))
+}
+
+// The row of all queues.
+fn all_row(alloc: Global, queues: &[RankedQueue], span: u64) -> Result<Row, AllocError>
+    ensures { IfOk result (λ row. IsUnionRow span row.commands None queues.now row) }
+{
+    let union = union_of(alloc, queues, None)?;
+    Ok(row_of(&union, span, union.latencies.count()))
+}
+
+// The rows of the classes that have a queue.
+fn class_rows(
+    alloc: Global,
+    queues: &[RankedQueue],
+    span: u64,
+    whole: usize,
+) -> Result<Vec<Member>, AllocError>
+    ensures { IfOk result (λ rows. All (IsClassRow span whole queues.now) rows.items) }
+{
+    let mut rows = Vec::new(alloc);
+    for class in CLASSES {
+        if queues.iter().any(|queue| queue.class == class) {
+            let row = class_row(alloc, queues, class, span, whole)?;
+            rows.push(Member { class, row })?;
+        }
+    }
+    Ok(rows)
+}
+
+// Commands of a queue of a level, divided by its weight, times the weights of all levels. `None` of the other classes.
+fn weighted(settings: &Settings, member: &Member) -> Option<u128>
+    ensures { level_part settings.now member.now ≡ option_to_list result }
+{
+    let (high, medium) = (settings.weight(Class::High), settings.weight(Class::Medium));
+    let low = settings.weight(Class::Low);
+    let others = match member.class {
+        Class::Admin | Class::Urgent => return None,
+        Class::High => u64::from(medium) * u64::from(low),
+        Class::Medium => u64::from(high) * u64::from(low),
+        Class::Low => u64::from(high) * u64::from(medium),
+    };
+    Some(member.row.commands as u128 * u128::from(others))
+}
+
+// Jain's index of the commands of queues: the time is the same for all, so it is that of their commands a second.
+fn jain_of_queues(alloc: Global, queues: &[Member]) -> Result<Option<u128>, AllocError>
+    ensures { IfOk result (IsJain (commands_of_each queues.now)) }
+{
+    let mut parts = Vec::new(alloc);
+    for member in queues {
+        parts.push(member.row.commands as u128)?;
+    }
+    Ok(jain(&parts))
+}
+
+// Jain's index of the commands of the queues of levels, each divided by its weight.
+fn jain_of_levels(
+    alloc: Global,
+    asked: &Asked,
+    queues: &[Member],
+) -> Result<Option<u128>, AllocError>
+    ensures { IfOk result (IsJain (level_parts asked.now.settings queues.now)) }
+{
+    if asked.mechanism == Mechanism::RoundRobin {
+        return Ok(None);
+    }
+    let mut parts = Vec::new(alloc);
+    for member in queues {
+        if let Some(part) = weighted(&asked.settings, member) {
+            parts.push(part)?;
+        }
+    }
+    Ok(jain(&parts))
+}
+
+impl Numbers {
+    ghost use Rattle.nvme_numbers.specs.Collected.{settings_of};
+    ghost use Rattle.nvme_numbers.specs.Told.{Tells};
+
+    /// What is told of the simulation, which ended at this time and left the channels like this. The latencies of the commands
+    /// are ranked, and those of a class and of all once more, one after another.
+    pub fn answer<'a>(
+        self,
+        end: u64,
+        channels: &'a [Channel],
+        about: About<'a>,
+    ) -> Result<Answer<'a>, AllocError>
+        ensures told { IfOk result (λ a. Tells self end a.queues.items a.classes.items a.all) }
+        ensures jain { IfOk result (λ a. IsJain (commands_of_each a.queues.items) a.jain) }
+        ensures jain_by_weight { IfOk result (λ a. IsJain (level_parts (settings_of self) a.queues.items) a.jain_by_weight) }
+    {
+        let Numbers {
+            asked,
+            queues,
+            began,
+            alloc,
+        } = self;
+        let span = end.saturating_sub(began.unwrap_or(end));
+        let ranked = ranked_queues(alloc, queues)?;
+        let all = all_row(alloc, &ranked, span)?;
+        let whole = all.commands;
+        let rows = queue_rows(alloc, &ranked, span, whole)?;
+        Ok(Answer {
+            about,
+            asked,
+            began,
+            end,
+            classes: class_rows(alloc, &ranked, span, whole)?,
+            all,
+            channels,
+            jain: jain_of_queues(alloc, &rows)?,
+            jain_by_weight: jain_of_levels(alloc, &asked, &rows)?,
+            queues: rows,
+        })
+    }
+}
+
+impl Answer<'_> {
+    ghost use Rattle.nvme_numbers.specs.Quotients.{IsQuotient};
+
+    /// The part of the simulated time in which a channel ran commands, in thousandths of a percent, rounded. `None` where no
+    /// time passed.
+    pub fn utilization_of(&self, channel: &Channel) -> Option<u128>
+        ensures { IsQuotient channel.now.busy THOUSANDTHS self.now.end result }
+    {
+        quotient(u128::from(channel.busy), THOUSANDTHS, u128::from(self.end))
+    }
+
+    /// The same of all channels together.
+    pub fn utilization(&self) -> Option<u128> {
+        let mut busy = 0u128;
+        for channel in self.channels {
+            busy = busy.checked_add(u128::from(channel.busy))?;
+        }
+        let whole = u128::from(self.end).checked_mul(self.channels.len() as u128)?;
+        quotient(busy, THOUSANDTHS, whole)
+    }
+
+    /// Writes tables for people: the rates of each queue, each class and all, then their latencies and then the means of the
+    /// parts of these, in microseconds. `WriteFault` where a write failed.
+    pub fn write_text<W: Write>(&self, writer: &mut W) -> Result<(), WriteFault> {
+        match put_table(self, writer) {
+            Ok(()) => Ok(()),
+            Err(_) => Err(WriteFault),
+        }
+    }
+
+    /// Writes the same as one JSON object and a newline. Times are in picoseconds. `WriteFault` where a write failed.
+    pub fn write_json<W: Write>(&self, writer: &mut W) -> Result<(), WriteFault> {
+        match put_object(self, writer) {
+            Ok(()) => Ok(()),
+            Err(_) => Err(WriteFault),
+        }
+    }
+
+    /// Writes a line of comma-separated values for each queue, each class and all. The first line has the names. Times are in
+    /// picoseconds. `WriteFault` where a write failed.
+    pub fn write_csv<W: Write>(&self, writer: &mut W) -> Result<(), WriteFault> {
+        match put_sheet(self, writer) {
+            Ok(()) => Ok(()),
+            Err(_) => Err(WriteFault),
+        }
+    }
+}
