@@ -12,6 +12,8 @@ mod texts;
 mod told;
 
 pub use expansion::{ExpandError, expand, read_short, short_in, stood_for};
+pub use near::nearest;
 pub use nvme_short_form::{Fault, Form, Item, Key, Place, Queue, Run, ShortError, Step};
-pub use spot::Spot;
-pub use told::{Note, ShortFault, is_short_key};
+pub use scan::{Step as PathStep, offset_of};
+pub use spot::{Spot, spot_behind};
+pub use told::{Note, ShortDetails, ShortFault, fault_in, found_in, is_short_key, start_of};

@@ -6,7 +6,7 @@ use strsim::osa_distance;
 const MOST_EDITS: usize = 2;
 
 /// The first of the names that the fewest edits lead to, where they are at most two, and fewer than it has letters.
-pub(crate) fn nearest(
+pub fn nearest(
     alloc: Global,
     name: &str,
     names: &[&'static str],

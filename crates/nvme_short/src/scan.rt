@@ -4,7 +4,7 @@ use std::alloc::{AllocError, Global};
 
 /// A step of the path to what is looked for.
 #[derive(Clone, Copy, Debug, PartialEq, Eq)]
-pub(crate) enum Step<'a> {
+pub enum Step<'a> {
     /// The value at a key of a table.
     At(&'a str),
     /// An item of an array, from 0.
@@ -326,7 +326,7 @@ fn is_escape(quote: u8, byte: u8) -> bool {
 
 /// Where in the text the longest part of the path leads that leads somewhere: to a key, to its value where that is
 /// wanted and the whole path leads there, or to an item. `None` where no step does.
-pub(crate) fn offset_of(
+pub fn offset_of(
     alloc: Global,
     text: &[u8],
     path: &[Step],

@@ -21,8 +21,8 @@ impl fmt::Display for Spot {
     }
 }
 
-// The place behind so many bytes of a text.
-fn spot_behind(text: &[u8], bytes: usize) -> Spot {
+/// The place behind so many bytes of a text.
+pub fn spot_behind(text: &[u8], bytes: usize) -> Spot {
     let mut spot = Spot { line: 1, column: 1 };
     for byte in text.iter().take(bytes) {
         spot = match *byte {

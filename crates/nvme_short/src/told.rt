@@ -54,8 +54,8 @@ pub struct ShortFault {
     pub meant: Option<&'static str>,
 }
 
-// The first characters of a text.
-fn start_of(alloc: Global, text: &str, characters: usize) -> Result<String, AllocError> {
+/// The first characters of a text.
+pub fn start_of(alloc: Global, text: &str, characters: usize) -> Result<String, AllocError> {
     let mut start = String::new(alloc);
     for character in text.chars().take(characters) {
         start.push(character)?;
@@ -63,8 +63,8 @@ fn start_of(alloc: Global, text: &str, characters: usize) -> Result<String, Allo
     Ok(start)
 }
 
-// What a value is.
-fn found_in(alloc: Global, value: Option<&Value>) -> Result<Found, AllocError> {
+/// What a value is.
+pub fn found_in(alloc: Global, value: Option<&Value>) -> Result<Found, AllocError> {
     let found = match value {
         None => Found::Untold,
         Some(Value::Integer(number)) => Found::Integer(*number),
@@ -206,7 +206,7 @@ fn told_at(
 }
 
 /// A fault of a short table, which was read from the text, with what is told of it. `None` where memory was refused.
-pub(crate) fn fault_in(
+pub fn fault_in(
     alloc: Global,
     text: &[u8],
     document: &Table,
@@ -269,11 +269,22 @@ impl fmt::Display for ShortFault {
             write!(f, "{spot}: ")?;
         }
         write!(f, "{place}: ")?;
-        match (self.note, fault) {
+        ShortDetails(self).fmt(f)
+    }
+}
+
+/// Of a fault of a short workload file: what stands there, and what was expected.
+#[derive(Debug, Drop)]
+pub struct ShortDetails<'a>(pub &'a ShortFault);
+
+impl fmt::Display for ShortDetails<'_> {
+    fn fmt<W: fmt::Write>(&self, f: &mut fmt::Formatter<W>) -> fmt::Result {
+        let told = self.0;
+        match (told.note, told.fault) {
             (Some(note), _) => write!(f, "{note}"),
-            (None, Fault::Unknown) => self.write_known(f),
-            (None, Fault::Missing(Key::Mechanism)) => f.write_str(without_mechanism(place)),
-            (None, _) => self.write_expected(f),
+            (None, Fault::Unknown) => told.write_known(f),
+            (None, Fault::Missing(Key::Mechanism)) => f.write_str(without_mechanism(told.place)),
+            (None, _) => told.write_expected(f),
         }
     }
 }

@@ -86,9 +86,9 @@ fn weights_in(place: Place, table: &Table) -> Result<u32, ShortError>
     }
 }
 
-// Command Dword 11 of the Arbitration feature.
+/// Command Dword 11 of the Arbitration feature, by `burst` and `weights` of a table at this place, or its fault.
 #[tactic(auto, unfolding(crate::specs::Admin::arbitration_in))]
-pub(crate) fn arbitration_in(place: Place, table: &Table) -> Result<u32, ShortError>
+pub fn arbitration_in(place: Place, table: &Table) -> Result<u32, ShortError>
     ensures { result ≡ arbitration_in place (table_view table.now) }
 {
     let burst = burst_in(place, table)?;

@@ -104,8 +104,9 @@ fn unsaid_mechanism(table: &Table) -> Result<Mechanism, ShortError>
     Ok(Mechanism::RoundRobin)
 }
 
-// The mechanism.
-fn mechanism_in(table: &Table) -> Result<Mechanism, ShortError>
+/// The mechanism that the table of a file says, or its fault. Where it says none, it is round robin, and neither `weights`
+/// nor the `class` of a queue may stand there.
+pub fn mechanism_in(table: &Table) -> Result<Mechanism, ShortError>
     ensures { result ≡ optional_mechanism (table_view table.now) (value_in key.Mechanism (table_view table.now)) }
 {
     let Some(value) = value_in(Key::Mechanism, table) else {

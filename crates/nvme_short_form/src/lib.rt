@@ -12,13 +12,13 @@ mod script;
 mod tables;
 mod values;
 
-pub use admin::Step;
+pub use admin::{Step, arbitration_in};
 pub use command::{Item, Run, command_of};
 pub use error::{Fault, ShortError};
-pub use form::{Form, form_of, is_short};
+pub use form::{Form, form_of, is_short, mechanism_in};
 pub use key::Key;
 pub use place::Place;
-pub use queue::Queue;
+pub use queue::{Queue, qprio_in};
 pub use tables::{
     ABORT_KEYS, ACCESS_KEYS, FILE_KEYS, FLUSH_KEYS, GET_KEYS, QUEUE_KEYS, QUEUE_OP_KEYS, RAW_KEYS,
     REPEAT_KEYS, SET_KEYS, SHARED_KEYS, WEIGHT_KEYS,

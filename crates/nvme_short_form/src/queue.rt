@@ -51,8 +51,8 @@ pub(crate) fn slots_in(place: Place, key: Key, table: &Table) -> Result<u16, Sho
     Ok(slots as u16)
 }
 
-// QPRIO, by the name of the class.
-fn qprio_in(place: Place, table: &Table) -> Result<u8, ShortError>
+/// QPRIO, by `class` of the table of a queue at this place, or its fault: 0 urgent, 1 high, 2 medium, 3 low.
+pub fn qprio_in(place: Place, table: &Table) -> Result<u8, ShortError>
     ensures { result ≡ qprio_in place (table_view table.now) }
 {
     let Some(value) = value_in(Key::Class, table) else {

@@ -1,0 +1,15 @@
+//! The simulation file: what its bytes say of a model, and how its first fault is told.
+#![tactic(auto)]
+
+mod fault;
+mod file;
+mod told;
+
+pub use fault::{Flaw, ModelFault, Told};
+pub use file::{model_in, simulation_in};
+pub use nvme_model_form::{
+    Fault, Key, Kind, ModelError, Owner, Place, Refusal, Target, is_simulation, model_of,
+};
+
+#[cfg(test)]
+mod tests;

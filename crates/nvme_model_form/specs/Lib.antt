@@ -1,0 +1,10 @@
+pub mod Arrivals
+pub mod Devices
+pub mod Keys
+pub mod Models
+pub mod Queues
+pub mod Readings
+pub mod Services
+pub mod Simulations
+pub mod Times
+pub mod Views

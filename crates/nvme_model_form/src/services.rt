@@ -1,0 +1,137 @@
+// How long the device takes.
+ghost use Rattle.std.specs.Prelude.{◌≡◌, Some, IfOk};
+ghost use Rattle.toml.specs.View.{view, table_view};
+ghost use Rattle.nvme_model_form.specs.Readings.{Means, only_keys};
+ghost use Rattle.nvme_model_form.specs.Views.{spread_of, taking_of};
+ghost use Rattle.nvme_model_form.specs.Services.{keys_of, service_in, service_of, service_for, flush_for};
+ghost use Rattle.nvme_load.specs.declared.mix.Operation.TheVariants as operation;
+
+use crate::error::{Fault, Kind, ModelError};
+use crate::key::Key;
+use crate::place::{Owner, Place, Target, key_of};
+use crate::spread::spread_in;
+use crate::tables::{FLUSH_KEYS, SERVICE_KEYS};
+use crate::times::{duration_of, duration_or_none};
+use crate::values::{only_keys, value_in};
+use nvme_load::{Distribution, Mix, Operation, Service, Services};
+use std::alloc::Global;
+use toml::{Table, Value};
+
+// The table in which the service of an operation stands.
+fn outer(owner: Owner) -> Place {
+    match owner {
+        Owner::Device => Place::Device,
+        Owner::Queue(number) => Place::Queue(number),
+    }
+}
+
+// That a service's table has keys of the operation alone.
+fn only_service_keys(place: Place, operation: Operation, table: &Table) -> Result<(), ModelError>
+    ensures { Means result (only_keys (keys_of operation) (table_view table.now)) }
+{
+    match operation {
+        Operation::Flush => only_keys(place, &FLUSH_KEYS, table),
+        _ => only_keys(place, &SERVICE_KEYS, table),
+    }
+}
+
+// The service that a table says.
+#[tactic(auto, unfolding(crate::specs::Services::service_in))]
+fn service_in(
+    alloc: Global,
+    owner: Owner,
+    operation: Operation,
+    table: &Table,
+) -> Result<Service, ModelError>
+    ensures { IfOk result (λ s. service_in operation (table_view table.now) ≡ Some (taking_of s)) }
+{
+    let place = Place::Service(owner, operation);
+    only_service_keys(place, operation, table)?;
+    let time = spread_in(alloc, place, table)?;
+    let per_block = duration_or_none(place, Key::PerBlock, table)?;
+    Ok(Service { time, per_block })
+}
+
+/// The service of an operation: a duration, or a table.
+pub(crate) fn service_of(
+    alloc: Global,
+    owner: Owner,
+    operation: Operation,
+    value: &Value,
+) -> Result<Service, ModelError>
+    ensures { IfOk result (λ s. service_of operation (view value.now) ≡ Some (taking_of s)) }
+{
+    if let Some(table) = value.as_table() {
+        return service_in(alloc, owner, operation, table);
+    }
+    let (place, target) = (outer(owner), Target::Key(key_of(operation)));
+    if value.as_str().is_none() {
+        return Err(ModelError::At(place, target, Fault::Bad(Kind::Service)));
+    }
+    Ok(Service {
+        time: Distribution::Fixed(duration_of(place, target, value)?),
+        per_block: 0,
+    })
+}
+
+/// That what a device has of services has no fault.
+pub(crate) fn check_service(
+    alloc: Global,
+    operation: Operation,
+    device: &Table,
+) -> Result<(), ModelError> {
+    if let Some(value) = value_in(key_of(operation), device) {
+        let _service = service_of(alloc, Owner::Device, operation, value)?;
+    }
+    Ok(())
+}
+
+// The service of an operation that has so large a share of a queue's commands: the queue's own, or else the device's. An
+// operation without a share may have none, and takes no time then.
+fn service_for(
+    alloc: Global,
+    number: usize,
+    operation: Operation,
+    share: u32,
+    queue: &Table,
+    device: &Table,
+) -> Result<Service, ModelError>
+    ensures { IfOk result (λ s. service_for operation share (table_view queue.now) (table_view device.now) ≡ Some (taking_of s)) }
+{
+    let key = key_of(operation);
+    match (value_in(key, queue), value_in(key, device)) {
+        (Some(value), _) => service_of(alloc, Owner::Queue(number), operation, value),
+        (None, Some(value)) => service_of(alloc, Owner::Device, operation, value),
+        (None, None) if share == 0 => Ok(Service {
+            time: Distribution::Fixed(0),
+            per_block: 0,
+        }),
+        (None, None) => Err(ModelError::At(
+            Place::Queue(number),
+            Target::Table,
+            Fault::Missing(key),
+        )),
+    }
+}
+
+/// The services of a queue.
+pub(crate) fn services_for(
+    alloc: Global,
+    number: usize,
+    mix: Mix,
+    queue: &Table,
+    device: &Table,
+) -> Result<Services, ModelError>
+    ensures read { IfOk result (λ s. service_for operation.Read mix.read (table_view queue.now) (table_view device.now) ≡ Some (taking_of s.read)) }
+    ensures write { IfOk result (λ s. service_for operation.Write mix.write (table_view queue.now) (table_view device.now) ≡ Some (taking_of s.write)) }
+    ensures flush { IfOk result (λ s. flush_for mix.flush (table_view queue.now) (table_view device.now) ≡ Some (spread_of s.flush)) }
+{
+    let read = service_for(alloc, number, Operation::Read, mix.read, queue, device)?;
+    let write = service_for(alloc, number, Operation::Write, mix.write, queue, device)?;
+    let flush = service_for(alloc, number, Operation::Flush, mix.flush, queue, device)?;
+    Ok(Services {
+        read,
+        write,
+        flush: flush.time,
+    })
+}
