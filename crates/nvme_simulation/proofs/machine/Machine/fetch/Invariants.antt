@@ -1,0 +1,10 @@
+use Rattle.std.proofs.Common.{◌≡◌}
+use Rattle.nvme_simulation.specs.Fronts.{IsFront}
+use Rattle.nvme_simulation.specs.Times.{now_of}
+use Rattle.nvme_simulation.proofs.machine.Machine.fetch.Given as goal
+
+abbrev pub invariant-loop-turn : goal.invariant-loop-turn
+invariant-loop-turn l = record {
+  front : IsFront l.self.front;
+  time : now_of l.self.agenda ≡ now_of l.fn.self.agenda;
+}

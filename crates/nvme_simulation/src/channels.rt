@@ -1,0 +1,140 @@
+// The device, and which command runs on each of its channels.
+
+use crate::fault::{Broken, SimulationFault};
+use crate::front::Taken;
+use nvme_channels::{Channel, Channels, ChannelsFault, Start, StepFault};
+use nvme_model::Device;
+use std::alloc::Global;
+
+// A command that starts on a channel, and when it ends.
+#[derive(Clone, Copy)]
+pub(crate) struct Started {
+    pub(crate) command: Taken,
+    pub(crate) channel: usize,
+    pub(crate) ends: u64,
+}
+
+#[derive(Drop)]
+pub(crate) struct Runs {
+    channels: Channels,
+    // The command that runs on each channel.
+    running: Vec<Option<Taken>>,
+}
+
+// What a refusal of the device means.
+fn fault_of(fault: StepFault) -> SimulationFault {
+    match fault {
+        StepFault::TooLate => SimulationFault::TooLong,
+        _ => SimulationFault::Broken(Broken::Device),
+    }
+}
+
+// The number of a command in the device: its tag, its queue and its number there.
+fn number_of(taken: Taken) -> u64 {
+    u64::from(taken.tag) * 0x1_0000_0000_0000
+        + u64::from(taken.qid) * 0x1_0000_0000
+        + u64::from(taken.number)
+}
+
+// The command of a number.
+fn taken_of(number: u64) -> Taken {
+    Taken {
+        tag: (number / 0x1_0000_0000_0000) as u16,
+        qid: (number / 0x1_0000_0000 % 65_536) as u16,
+        number: (number % 0x1_0000_0000) as u32,
+    }
+}
+
+impl Runs {
+    ghost use Rattle.std.specs.Prelude.{◌≡◌};
+    ghost use Rattle.nvme_simulation.specs.Devices.{room_in};
+
+    // A device whose channels are idle.
+    pub(crate) fn new(alloc: Global, device: &Device) -> Result<Runs, SimulationFault> {
+        let channels = match Channels::new(alloc, device.channels, device.placement, device.depth) {
+            Ok(channels) => channels,
+            Err(ChannelsFault::Memory) => return Err(SimulationFault::Memory),
+            Err(_) => return Err(SimulationFault::Broken(Broken::Device)),
+        };
+        let mut running = Vec::new(alloc);
+        if running.resize(device.channels, None).is_err() {
+            return Err(SimulationFault::Memory);
+        }
+        Ok(Runs { channels, running })
+    }
+
+    // How many commands more it takes now.
+    pub(crate) fn room(&self) -> u16
+        ensures { result ≡ room_in self.now }
+    {
+        self.channels.room()
+    }
+
+    // Its channels.
+    pub(crate) fn channels(&self) -> &[Channel] {
+        self.channels.channels()
+    }
+
+    // A command starts, if one does.
+    fn note(&mut self, start: Option<Start>) -> Option<Started> {
+        let start = start?;
+        let taken = taken_of(start.number);
+        if start.channel < self.running.len() {
+            self.running[start.channel] = Some(taken);
+        }
+        Some(Started {
+            command: taken,
+            channel: start.channel,
+            ends: start.ends,
+        })
+    }
+
+    // Takes a command, which starts at once or later.
+    pub(crate) fn take(
+        &mut self,
+        now: u64,
+        taken: Taken,
+        block: u64,
+        service: u64,
+    ) -> Result<Option<Started>, SimulationFault> {
+        match self.channels.take(now, number_of(taken), block, service) {
+            Ok(start) => Ok(self.note(start)),
+            Err(fault) => Err(fault_of(fault)),
+        }
+    }
+
+    // The command of a channel ends, and another one may start there.
+    pub(crate) fn finish(
+        &mut self,
+        now: u64,
+        channel: usize,
+    ) -> Result<(Taken, Option<Started>), SimulationFault> {
+        let Some(Some(taken)) = self.running.get(channel).copied() else {
+            return Err(SimulationFault::Broken(Broken::Command));
+        };
+        match self.channels.finish(now, channel) {
+            Ok(start) => Ok((taken, self.note(start))),
+            Err(fault) => Err(fault_of(fault)),
+        }
+    }
+
+    // No command starts on a channel until it is resumed.
+    pub(crate) fn pause(&mut self, channel: usize) -> Result<(), SimulationFault> {
+        match self.channels.pause(channel) {
+            Ok(()) => Ok(()),
+            Err(fault) => Err(fault_of(fault)),
+        }
+    }
+
+    // Commands may start on a channel again, and one may start now.
+    pub(crate) fn resume(
+        &mut self,
+        now: u64,
+        channel: usize,
+    ) -> Result<Option<Started>, SimulationFault> {
+        match self.channels.resume(now, channel) {
+            Ok(start) => Ok(self.note(start)),
+            Err(fault) => Err(fault_of(fault)),
+        }
+    }
+}

@@ -1,0 +1,146 @@
+// The Creates of the queues. (Base Specification, Create I/O Completion Queue, Create I/O Submission Queue)
+ghost use Rattle.std.specs.Prelude.{◌≤◌, ◌<◌, ◌^◌};
+ghost use Rattle.nvme_simulation.specs.Fronts.{IsFront};
+
+use crate::fault::{Broken, SimulationFault};
+use crate::front::{ADMIN_SLOTS, Front};
+use nvme_arbiter::Class;
+use nvme_ctrl::Step;
+use nvme_entry::{Sqe, Status};
+
+// An entry of zeros but for these fields.
+pub(crate) fn entry(opcode: u8, cid: u16, nsid: u32, prp1: u64, cdws: [u32; 3]) -> Sqe {
+    Sqe {
+        opcode,
+        flags: 0,
+        cid,
+        nsid,
+        cdw2: 0,
+        cdw3: 0,
+        mptr: 0,
+        prp1,
+        prp2: 0,
+        cdw10: cdws[0],
+        cdw11: cdws[1],
+        cdw12: cdws[2],
+        cdw13: 0,
+        cdw14: 0,
+        cdw15: 0,
+    }
+}
+
+// QPRIO of a class.
+fn qprio(class: Class) -> u32
+    ensures { result ≤ 3 }
+{
+    match class {
+        Class::High => 1,
+        Class::Medium => 2,
+        Class::Low => 3,
+        _ => 0,
+    }
+}
+
+// QSIZE and QID, of a queue of so many slots.
+fn size_and_id(qid: u16, slots: u16) -> u32 {
+    u32::from(slots.saturating_sub(1)) * 0x1_0000 + u32::from(qid)
+}
+
+// The entry that creates the completion queue of an identifier, where PC is set.
+fn completion_queue(qid: u16, slots: u16) -> Sqe {
+    let address = 2 * u64::from(qid) * 4_096;
+    entry(0x05, qid, 0, address, [size_and_id(qid, slots), 1, 0])
+}
+
+// The entry that creates the submission queue of an identifier, whose completion queue has the same one.
+fn submission_queue(qid: u16, slots: u16, class: Class) -> Sqe {
+    let address = (2 * u64::from(qid) + 1) * 4_096;
+    let attached = u32::from(qid) * 0x1_0000 + qprio(class) * 2 + 1;
+    entry(
+        0x01,
+        qid,
+        0,
+        address,
+        [size_and_id(qid, slots), attached, 0],
+    )
+}
+
+// The host of the admin queue.
+#[derive(Drop)]
+pub(crate) struct AdminHost {
+    // How many commands it has submitted. Their slots are reused: each is completed before the next one.
+    slot: u16,
+}
+
+impl AdminHost {
+    pub(crate) fn new() -> AdminHost {
+        AdminHost { slot: 0 }
+    }
+
+    // The admin queue has a command: the controller reads it.
+    fn submit(&mut self, front: &mut Front, command: &Sqe) -> Result<(), SimulationFault>
+        requires front { IsFront front.old }
+        ensures front { IsFront front.new }
+    {
+        let next = if self.slot >= ADMIN_SLOTS - 1 {
+            0
+        } else {
+            self.slot + 1
+        };
+        if !front.submit(0, next) {
+            return Err(SimulationFault::Broken(Broken::Doorbell));
+        }
+        if front.next_slot(0) != Some(self.slot) {
+            return Err(SimulationFault::Broken(Broken::Slot));
+        }
+        if !front.fetched(0, command, 0) {
+            return Err(SimulationFault::Broken(Broken::Slot));
+        }
+        self.slot = next;
+        Ok(())
+    }
+
+    // Its completion comes, which tells success.
+    fn collect(&mut self, front: &mut Front) -> Result<(), SimulationFault>
+        requires front { IsFront front.old }
+        ensures front { IsFront front.new }
+    {
+        let Some(post) = front.post(0) else {
+            return Err(SimulationFault::Broken(Broken::Completion));
+        };
+        if post.cqe.status != Status::SUCCESS {
+            return Err(SimulationFault::Broken(Broken::Create));
+        }
+        if !front.read(0, self.slot) {
+            return Err(SimulationFault::Broken(Broken::Doorbell));
+        }
+        Ok(())
+    }
+
+    // A command is carried out.
+    fn carry_out(&mut self, front: &mut Front, command: &Sqe) -> Result<(), SimulationFault>
+        requires front { IsFront front.old }
+        ensures front { IsFront front.new }
+    {
+        self.submit(front, command)?;
+        match front.pick(1) {
+            Step::Done(_, _) => self.collect(front),
+            _ => Err(SimulationFault::Broken(Broken::Create)),
+        }
+    }
+
+    // Creates a completion queue and a submission queue of one identifier.
+    pub(crate) fn create(
+        &mut self,
+        front: &mut Front,
+        qid: u16,
+        slots: u16,
+        class: Class,
+    ) -> Result<(), SimulationFault>
+        requires front { IsFront front.old }
+        ensures front { IsFront front.new }
+    {
+        self.carry_out(front, &completion_queue(qid, slots))?;
+        self.carry_out(front, &submission_queue(qid, slots, class))
+    }
+}

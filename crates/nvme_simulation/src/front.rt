@@ -1,0 +1,148 @@
+// The controller with the slots of its commands.
+use crate::fault::{Broken, SimulationFault};
+use nvme_admin::{Limits, Region};
+use nvme_arbiter::{Mechanism, Seen, Settings};
+use nvme_ctrl::{Answer, Controller, Marks, Post, Slot, Step};
+use nvme_entry::{Sqe, Status};
+use nvme_placing::Placement;
+use std::alloc::Global;
+
+// How many commands of a queue may wait: as many as arbitration counts.
+const WINDOW: u16 = 256;
+
+// As many slots as commands may wait and be picked: those of the windows of 64 I/O queues and the admin queue, and 256.
+const POOL: usize = 66 * 256;
+
+/// The slots of each admin ring, which the Creates of all queues fit into.
+pub(crate) const ADMIN_SLOTS: u16 = 256;
+
+// How the device answers.
+const DONE: Answer = Answer {
+    status: Status::SUCCESS,
+    dw0: 0,
+    marks: Marks::NONE,
+};
+
+// A command that the device took.
+#[derive(Clone, Copy)]
+pub(crate) struct Taken {
+    pub(crate) tag: u16,
+    pub(crate) qid: u16,
+    pub(crate) number: u32,
+}
+
+#[derive(Drop)]
+pub(crate) struct Front {
+    controller: Controller,
+    pool: Vec<Slot>,
+}
+
+impl Front {
+    ghost use Rattle.std.specs.Prelude.{◌≡◌, Bool, IfOk, None, Some};
+    ghost use Rattle.nvme_arbiter.specs.declared.pick.Pick.{Pick};
+    ghost use Rattle.nvme_log.specs.Rules.{FrontRules};
+    ghost use Rattle.nvme_ctrl.specs.Notes.{Notes};
+    ghost use Rattle.nvme_ctrl.specs.Steps.{IsNextPick, IsNextWithin};
+    ghost use Rattle.nvme_ctrl.specs.declared.picks.Step.TheVariants as step;
+    ghost use Rattle.nvme_simulation.specs.Fronts.{IsFront, StandsBy};
+
+    // A controller with its admin queues alone.
+    pub(crate) fn new(
+        alloc: Global,
+        mechanism: Mechanism,
+        settings: Settings,
+    ) -> Result<Front, SimulationFault>
+        ensures front { IfOk result IsFront }
+    {
+        let mut pool = Vec::new(alloc);
+        if pool.resize(POOL, Slot::free()).is_err() {
+            return Err(SimulationFault::Memory);
+        }
+        let limits = Limits { nsq: 64, ncq: 64 };
+        let placement = Placement {
+            page: 4_096,
+            mqes: 4_095,
+            vectors: 1,
+        };
+        let ring = Region {
+            address: 0,
+            slots: ADMIN_SLOTS,
+        };
+        match Controller::anywhere(
+            mechanism, settings, limits, placement, WINDOW, ring, ring, &mut pool,
+        ) {
+            Ok(controller) => Ok(Front { controller, pool }),
+            Err(_) => Err(SimulationFault::Broken(Broken::Create)),
+        }
+    }
+
+    // The host rings a submission doorbell. False where the controller refuses it.
+    pub(crate) fn submit(&mut self, qid: u16, tail: u16) -> bool
+        requires front { IsFront self.old }
+        ensures front { IsFront self.new }
+    {
+        self.controller.sq_tail(qid, tail)
+    }
+
+    // The slot of a ring that is read next.
+    pub(crate) fn next_slot(&self, qid: u16) -> Option<u16> {
+        self.controller.fetch(qid)
+    }
+
+    // That slot was read.
+    pub(crate) fn fetched(&mut self, qid: u16, entry: &Sqe, cookie: u32) -> bool
+        requires front { IsFront self.old }
+        ensures front { IsFront self.new }
+    {
+        self.controller.fetched(&mut self.pool, qid, entry, cookie)
+    }
+
+    // What the next pick is shown of a queue.
+    pub(crate) fn seen(&self, qid: u16) -> Option<Seen> {
+        self.controller.seen(qid)
+    }
+
+    // The next pick, where the device has room for so many commands.
+    pub(crate) fn pick(&mut self, room: u16) -> Step
+        requires front { IsFront self.old }
+        ensures front { IsFront self.new }
+        ensures idle { result ≡ step.Idle → (rules : FrontRules) (late : Bool) (notes : Notes) → StandsBy rules late notes self.old → IsNextPick rules notes None }
+        ensures picked { (pick : Pick) → result ≡ step.Picked pick → (rules : FrontRules) (late : Bool) (notes : Notes) → StandsBy rules late notes self.old → IsNextWithin rules notes room (Some pick) }
+    {
+        self.controller.pick(&mut self.pool, room)
+    }
+
+    // The device takes the next command that is picked, which is of this queue.
+    pub(crate) fn take(&mut self, qid: u16) -> Option<Taken>
+        requires front { IsFront self.old }
+        ensures front { IsFront self.new }
+    {
+        let tag = self.controller.take(&mut self.pool)?;
+        let number = self.controller.cookie(&self.pool, tag);
+        Some(Taken { tag, qid, number })
+    }
+
+    // The device answers a command. False where it has no such command.
+    pub(crate) fn complete(&mut self, tag: u16) -> bool
+        requires front { IsFront self.old }
+        ensures front { IsFront self.new }
+    {
+        self.controller.complete(&mut self.pool, tag, DONE)
+    }
+
+    // The next completion of a completion queue is posted.
+    pub(crate) fn post(&mut self, cqid: u16) -> Option<Post>
+        requires front { IsFront self.old }
+        ensures front { IsFront self.new }
+    {
+        self.controller.post(&mut self.pool, cqid)
+    }
+
+    // The host rings a completion doorbell. False where the controller refuses it.
+    pub(crate) fn read(&mut self, cqid: u16, head: u16) -> bool
+        requires front { IsFront self.old }
+        ensures front { IsFront self.new }
+    {
+        self.controller.cq_head(cqid, head)
+    }
+}

@@ -1,0 +1,162 @@
+// The hosts of all queues, by the identifiers of their queues.
+ghost use Rattle.std.specs.Prelude.{◌<◌, IfSome, vec_len};
+ghost use Rattle.nvme_simulation.specs.Fronts.{IsFront};
+
+use crate::creates::AdminHost;
+use crate::fault::{Broken, SimulationFault};
+use crate::flight::{Flight, Request};
+use crate::front::Front;
+use crate::host::Host;
+use nvme_entry::Sqe;
+use nvme_model::Queue;
+use std::alloc::Global;
+
+#[derive(Drop)]
+pub(crate) struct Hosts {
+    all: Vec<Host>,
+}
+
+// What is told where there is no such command, or it isn't at the stage before.
+const NO_COMMAND: SimulationFault = SimulationFault::Broken(Broken::Command);
+
+impl Hosts {
+    // The hosts of queues, of the identifiers 1, 2 and so on, which are created.
+    pub(crate) fn new(
+        alloc: Global,
+        front: &mut Front,
+        seed: u64,
+        queues: Vec<Queue>,
+    ) -> Result<Hosts, SimulationFault>
+        requires front { IsFront front.old }
+        ensures front { IsFront front.new }
+    {
+        let mut all = Vec::new(alloc);
+        let mut admin = AdminHost::new();
+        for queue in queues {
+            let qid = (all.len() % 65_535) as u16 + 1;
+            admin.create(front, qid, queue.slots, queue.class)?;
+            let host = Host::new(alloc, seed, qid, queue)?;
+            if all.push(host).is_err() {
+                return Err(SimulationFault::Memory);
+            }
+        }
+        Ok(Hosts { all })
+    }
+
+    // How many there are.
+    pub(crate) fn count(&self) -> u16 {
+        (self.all.len() % 65_536) as u16
+    }
+
+    // The place of the host of a queue.
+    fn place(&self, qid: u16) -> Option<usize>
+        ensures within { IfSome result (λ place. place < vec_len self.now.all) }
+    {
+        let place = usize::from(qid).checked_sub(1)?;
+        if place < self.all.len() {
+            Some(place)
+        } else {
+            None
+        }
+    }
+
+    // The host of a queue.
+    pub(crate) fn host(&self, qid: u16) -> Option<&Host> {
+        let place = self.place(qid)?;
+        Some(&self.all[place])
+    }
+
+    // Whether all commands that came are done.
+    pub(crate) fn are_done(&self) -> bool {
+        self.all.iter().all(|host| host.is_done())
+    }
+
+    // Whether the next command of a queue waits for a completion.
+    pub(crate) fn is_closed(&self, qid: u16) -> bool {
+        match self.host(qid) {
+            Some(host) => host.is_closed(),
+            None => false,
+        }
+    }
+
+    // How many commands of a queue come at time 0.
+    pub(crate) fn at_start(&self, qid: u16) -> u32 {
+        match self.host(qid) {
+            Some(host) => host.at_start(),
+            None => 0,
+        }
+    }
+
+    // When a command of a queue comes behind this time.
+    pub(crate) fn next_after(&mut self, qid: u16, time: u64) -> Option<u64> {
+        let place = self.place(qid)?;
+        self.all[place].next_after(time)
+    }
+
+    // A command of a queue comes.
+    pub(crate) fn come(&mut self, now: u64, qid: u16, counts: bool) -> Result<(), SimulationFault> {
+        let Some(place) = self.place(qid) else {
+            return Err(NO_COMMAND);
+        };
+        self.all[place].come(now, counts)
+    }
+
+    // The host of a queue submits what its ring has room for. The answer is the new tail, if it moved.
+    pub(crate) fn submit(&mut self, now: u64, qid: u16) -> Option<u16> {
+        let place = self.place(qid)?;
+        self.all[place].submit(now)
+    }
+
+    // The controller reads the command in a slot of the ring of a queue: its number and its entry.
+    pub(crate) fn fetch(&mut self, qid: u16, slot: u16) -> Result<(u32, Sqe), SimulationFault> {
+        let Some(place) = self.place(qid) else {
+            return Err(NO_COMMAND);
+        };
+        self.all[place].fetch(slot)
+    }
+
+    // A command is picked: what it asks for.
+    pub(crate) fn pick(
+        &mut self,
+        now: u64,
+        qid: u16,
+        number: u32,
+    ) -> Result<Request, SimulationFault> {
+        let Some(place) = self.place(qid) else {
+            return Err(NO_COMMAND);
+        };
+        match self.all[place].pick(now, number) {
+            Some(request) => Ok(request),
+            None => Err(NO_COMMAND),
+        }
+    }
+
+    // A command starts.
+    pub(crate) fn start(&mut self, now: u64, qid: u16, number: u32) -> Result<(), SimulationFault> {
+        let Some(place) = self.place(qid) else {
+            return Err(NO_COMMAND);
+        };
+        if self.all[place].start(now, number) {
+            Ok(())
+        } else {
+            Err(NO_COMMAND)
+        }
+    }
+
+    // A command is done.
+    pub(crate) fn finish(&mut self, qid: u16, number: u32) -> Result<Flight, SimulationFault> {
+        let Some(place) = self.place(qid) else {
+            return Err(NO_COMMAND);
+        };
+        match self.all[place].finish(number) {
+            Some(flight) => Ok(flight),
+            None => Err(NO_COMMAND),
+        }
+    }
+
+    // A completion of a queue comes, which tells how far the controller has read. The answer is the new head of its ring.
+    pub(crate) fn completed(&mut self, qid: u16, sqhd: u16) -> Option<u16> {
+        let place = self.place(qid)?;
+        Some(self.all[place].completed(sqhd))
+    }
+}

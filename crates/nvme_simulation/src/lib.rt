@@ -1,0 +1,23 @@
+//! A controller in virtual time: hosts whose commands come at random times, the proved controller, and a device of
+//! channels. No clock is read: all that happens is a function of the model, whose seed is that of all that is drawn.
+#![tactic(auto)]
+
+mod agenda;
+mod beginning;
+mod channels;
+mod creates;
+mod fault;
+mod flight;
+mod front;
+mod happening;
+mod host;
+mod hosts;
+mod machine;
+mod simulation;
+
+pub use fault::{Broken, SimulationFault};
+pub use happening::{Happening, Picked};
+pub use simulation::Simulation;
+
+#[cfg(test)]
+mod tests;

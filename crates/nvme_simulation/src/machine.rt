@@ -1,0 +1,257 @@
+// The controller, its hosts and its device.
+use crate::agenda::{Agenda, Event};
+use crate::channels::{Runs, Started};
+use crate::fault::{Broken, SimulationFault};
+use crate::flight::Flight;
+use crate::front::{Front, Taken};
+use crate::happening::{Happening, Picked};
+use crate::hosts::Hosts;
+use nvme_arbiter::Pick;
+use nvme_ctrl::{Post, Step};
+
+// The controller, its hosts and its device, and the events to come.
+#[derive(Drop)]
+pub(crate) struct Machine {
+    pub(crate) front: Front,
+    pub(crate) device: Runs,
+    pub(crate) hosts: Hosts,
+    pub(crate) agenda: Agenda,
+}
+
+// What is told where the controller, a host or the device has no such command.
+const NO_COMMAND: SimulationFault = SimulationFault::Broken(Broken::Command);
+
+impl Machine {
+    ghost use Rattle.std.specs.Prelude.{◌≡◌, ℕ, Bool, IfOk};
+    ghost use Rattle.nvme_log.specs.Rules.{FrontRules};
+    ghost use Rattle.nvme_ctrl.specs.Notes.{Notes};
+    ghost use Rattle.nvme_simulation.specs.Picks.{IsLawful, IsTimed};
+    ghost use Rattle.nvme_occupancy.specs.declared.occupancy.Occupancy.{Occupancy};
+    ghost use Rattle.nvme_simulation.specs.Counts.{Counts};
+    ghost use Rattle.nvme_simulation.specs.Devices.{room_in};
+    ghost use Rattle.nvme_simulation.specs.Fronts.{IsFront, StandsBy};
+    ghost use Rattle.nvme_simulation.specs.Times.{now_of};
+
+    // A host submits all commands that its ring has room for, and the controller reads what it may.
+    pub(crate) fn submit(&mut self, qid: u16) -> Result<(), SimulationFault>
+        requires front { IsFront self.old.front }
+        ensures front { IsFront self.new.front }
+        ensures time { now_of self.new.agenda ≡ now_of self.old.agenda }
+    {
+        self.ring(qid)?;
+        self.fetch(qid)
+    }
+
+    // A host puts all commands into its ring that it has room for, and rings the doorbell where it did.
+    fn ring(&mut self, qid: u16) -> Result<(), SimulationFault>
+        requires front { IsFront self.old.front }
+        ensures front { IsFront self.new.front }
+        ensures time { now_of self.new.agenda ≡ now_of self.old.agenda }
+    {
+        let Some(tail) = self.hosts.submit(self.agenda.now(), qid) else {
+            return Ok(());
+        };
+        if self.front.submit(qid, tail) {
+            Ok(())
+        } else {
+            Err(SimulationFault::Broken(Broken::Doorbell))
+        }
+    }
+
+    // The controller reads a command of a queue, if it may. Whether it did.
+    fn fetch_one(&mut self, qid: u16) -> Result<bool, SimulationFault>
+        requires front { IsFront self.old.front }
+        ensures front { IsFront self.new.front }
+        ensures time { now_of self.new.agenda ≡ now_of self.old.agenda }
+    {
+        let Some(slot) = self.front.next_slot(qid) else {
+            return Ok(false);
+        };
+        let (number, entry) = self.hosts.fetch(qid, slot)?;
+        if self.front.fetched(qid, &entry, number) {
+            Ok(true)
+        } else {
+            Err(SimulationFault::Broken(Broken::Slot))
+        }
+    }
+
+    // The controller reads all commands of a queue that it may.
+    fn fetch(&mut self, qid: u16) -> Result<(), SimulationFault>
+        requires front { IsFront self.old.front }
+        ensures front { IsFront self.new.front }
+        ensures time { now_of self.new.agenda ≡ now_of self.old.agenda }
+    {
+        for _turn in 0..u16::MAX {
+            if !self.fetch_one(qid)? {
+                return Ok(());
+            }
+        }
+        Err(SimulationFault::Broken(Broken::Slot))
+    }
+
+    // A command starts on a channel, if one does.
+    fn start(&mut self, started: Option<Started>) -> Result<(), SimulationFault>
+        requires front { IsFront self.old.front }
+        ensures front { IsFront self.new.front }
+        ensures time { now_of self.new.agenda ≡ now_of self.old.agenda }
+    {
+        let Some(started) = started else {
+            return Ok(());
+        };
+        let now = self.agenda.now();
+        let command = started.command;
+        self.hosts.start(now, command.qid, command.number)?;
+        self.agenda
+            .plan(Some(started.ends), Event::End(started.channel))
+    }
+
+    // The device takes a command of a queue that is picked.
+    fn take(&mut self, qid: u16) -> Result<(), SimulationFault>
+        requires front { IsFront self.old.front }
+        ensures front { IsFront self.new.front }
+        ensures time { now_of self.new.agenda ≡ now_of self.old.agenda }
+    {
+        let now = self.agenda.now();
+        let Some(taken) = self.front.take(qid) else {
+            return Err(NO_COMMAND);
+        };
+        let request = self.hosts.pick(now, qid, taken.number)?;
+        let started = self
+            .device
+            .take(now, taken, request.block, request.service)?;
+        self.start(started)
+    }
+
+    // The device takes the commands of a pick.
+    fn take_all(&mut self, pick: &Pick) -> Result<(), SimulationFault>
+        requires front { IsFront self.old.front }
+        ensures front { IsFront self.new.front }
+        ensures time { now_of self.new.agenda ≡ now_of self.old.agenda }
+    {
+        for _turn in 0..pick.n {
+            self.take(pick.qid)?;
+        }
+        Ok(())
+    }
+
+    // The next pick, whose commands the device takes. Then the controller reads what its window has room for. Or that no
+    // command can be picked: none waits, or the device has no room.
+    pub(crate) fn pick(&mut self) -> Result<Happening, SimulationFault>
+        requires front { IsFront self.old.front }
+        ensures front { IsFront self.new.front }
+        ensures time { now_of self.new.agenda ≡ now_of self.old.agenda }
+        ensures timed { IfOk result (IsTimed (now_of self.old.agenda)) }
+        ensures counts { (now : ℕ) (occupancy : Occupancy) → IfOk result (Counts now occupancy occupancy) }
+        ensures lawful { (rules : FrontRules) (late : Bool) (notes : Notes) → StandsBy rules late notes self.old.front → IfOk result (IsLawful rules notes (room_in self.old.device)) }
+    {
+        let room = self.device.room();
+        match self.front.pick(room) {
+            Step::Picked(pick) => {
+                let at = self.agenda.now();
+                self.take_all(&pick)?;
+                self.fetch(pick.qid)?;
+                Ok(Happening::Picked(Picked { at, room, pick }))
+            }
+            Step::Idle => Ok(Happening::Settled),
+            Step::Full if room == 0 => Ok(Happening::Settled),
+            _ => Err(SimulationFault::Broken(Broken::Device)),
+        }
+    }
+
+    // Whether a completion is that of a command, in the slot where its host looks for the next one.
+    fn is_completion(&self, post: &Post, taken: Taken) -> bool {
+        match self.hosts.host(taken.qid) {
+            Some(host) => {
+                post.cookie == taken.number
+                    && post.tag == taken.tag
+                    && post.slot == host.next_completion()
+                    && post.cqe.sqid == taken.qid
+            }
+            None => false,
+        }
+    }
+
+    // The device answers a command, and its completion comes to its host, which reads it.
+    fn collect(&mut self, taken: Taken) -> Result<(), SimulationFault>
+        requires front { IsFront self.old.front }
+        ensures front { IsFront self.new.front }
+        ensures time { now_of self.new.agenda ≡ now_of self.old.agenda }
+    {
+        if !self.front.complete(taken.tag) {
+            return Err(NO_COMMAND);
+        }
+        let Some(post) = self.front.post(taken.qid) else {
+            return Err(SimulationFault::Broken(Broken::Completion));
+        };
+        if !self.is_completion(&post, taken) {
+            return Err(SimulationFault::Broken(Broken::Completion));
+        }
+        let Some(head) = self.hosts.completed(taken.qid, post.cqe.sqhd) else {
+            return Err(SimulationFault::Broken(Broken::Completion));
+        };
+        if self.front.read(taken.qid, head) {
+            Ok(())
+        } else {
+            Err(SimulationFault::Broken(Broken::Doorbell))
+        }
+    }
+
+    // The command that runs on a channel ends, and another one may start there.
+    pub(crate) fn finish(&mut self, channel: usize) -> Result<(Taken, Flight), SimulationFault>
+        requires front { IsFront self.old.front }
+        ensures front { IsFront self.new.front }
+        ensures time { now_of self.new.agenda ≡ now_of self.old.agenda }
+    {
+        let (taken, started) = self.device.finish(self.agenda.now(), channel)?;
+        self.start(started)?;
+        self.collect(taken)?;
+        let flight = self.hosts.finish(taken.qid, taken.number)?;
+        Ok((taken, flight))
+    }
+
+    // No command starts on a channel until it goes on, after this time.
+    pub(crate) fn pause(&mut self, channel: usize, length: u64) -> Result<(), SimulationFault>
+        requires front { IsFront self.old.front }
+        ensures front { IsFront self.new.front }
+        ensures time { now_of self.new.agenda ≡ now_of self.old.agenda }
+    {
+        self.device.pause(channel)?;
+        let end = self.agenda.now().checked_add(length);
+        self.agenda.plan(end, Event::Resume(channel))
+    }
+
+    // A channel goes on, and a command may start there.
+    pub(crate) fn resume(&mut self, channel: usize) -> Result<(), SimulationFault>
+        requires front { IsFront self.old.front }
+        ensures front { IsFront self.new.front }
+        ensures time { now_of self.new.agenda ≡ now_of self.old.agenda }
+    {
+        let started = self.device.resume(self.agenda.now(), channel)?;
+        self.start(started)
+    }
+
+    // The next command of a queue comes behind this time.
+    pub(crate) fn follow(&mut self, qid: u16, time: u64) -> Result<(), SimulationFault>
+        requires front { IsFront self.old.front }
+        ensures front { IsFront self.new.front }
+        ensures time { now_of self.new.agenda ≡ now_of self.old.agenda }
+    {
+        let next = self.hosts.next_after(qid, time);
+        self.agenda.plan(next, Event::Arrival(qid))
+    }
+
+    // A command of a queue comes, and the next one behind it, but where that waits for a completion.
+    pub(crate) fn come(&mut self, qid: u16, counts: bool) -> Result<(), SimulationFault>
+        requires front { IsFront self.old.front }
+        ensures front { IsFront self.new.front }
+        ensures time { now_of self.new.agenda ≡ now_of self.old.agenda }
+    {
+        let now = self.agenda.now();
+        self.hosts.come(now, qid, counts)?;
+        if self.hosts.is_closed(qid) {
+            return self.submit(qid);
+        }
+        self.follow(qid, now)?;
+        self.submit(qid)
+    }
+}

@@ -1,0 +1,314 @@
+// The steps of a simulation.
+use crate::agenda::{Agenda, Event};
+use crate::beginning::{begin_pauses, begin_queues};
+use crate::channels::Runs;
+use crate::fault::{Broken, SimulationFault};
+use crate::flight::Flight;
+use crate::front::{Front, Taken};
+use crate::happening::Happening;
+use crate::hosts::Hosts;
+use crate::machine::Machine;
+use nvme_arbiter::Seen;
+use nvme_channels::Channel;
+use nvme_model::{End, Finished, Model, Pauses};
+use nvme_occupancy::Occupancy;
+use std::alloc::Global;
+
+/// Hosts, a controller and a device in virtual time.
+#[derive(Drop)]
+pub struct Simulation {
+    machine: Machine,
+    occupancy: Occupancy,
+    end: End,
+    pauses: Option<Pauses>,
+    warm_up: u64,
+    // Whether commands may be to be picked.
+    picks: bool,
+}
+
+impl Simulation {
+    ghost use Rattle.std.specs.Prelude.{◌≡◌, ◌≤◌, ℕ, Bool, IfOk, OnOk};
+    ghost use Rattle.nvme_log.specs.Rules.{FrontRules};
+    ghost use Rattle.nvme_ctrl.specs.Notes.{Notes};
+    ghost use Rattle.nvme_occupancy.specs.Occupancies.{Comes, Leaves};
+    ghost use Rattle.nvme_simulation.specs.Counts.{Counts};
+    ghost use Rattle.nvme_simulation.specs.Picks.{IsLawful, IsTimed};
+    ghost use Rattle.nvme_simulation.specs.Simulations.{IsSimulation, StandsAt, occupancy_of, room_at, time_of};
+
+    /// A simulation of a model, at time 0. Its queues are created, and no command came.
+    pub fn new(alloc: Global, model: Model) -> Result<Simulation, SimulationFault>
+        ensures stands { IfOk result IsSimulation }
+    {
+        let mut front = Front::new(alloc, model.mechanism, model.settings)?;
+        let device = Runs::new(alloc, &model.device)?;
+        let mut hosts = Hosts::new(alloc, &mut front, model.seed, model.queues)?;
+        let mut agenda = Agenda::new(alloc);
+        begin_queues(&mut agenda, &mut hosts)?;
+        if let Some(pauses) = model.device.pauses {
+            begin_pauses(&mut agenda, &pauses, model.device.channels)?;
+        }
+        Ok(Simulation {
+            machine: Machine {
+                front,
+                device,
+                hosts,
+                agenda,
+            },
+            occupancy: Occupancy::new(),
+            end: model.end,
+            pauses: model.device.pauses,
+            warm_up: model.warm_up,
+            picks: false,
+        })
+    }
+
+    /// What the next pick is shown of a queue: its class, and how many of its commands wait. None where there is no such
+    /// queue. 0 is the admin queue.
+    pub fn seen(&self, qid: u16) -> Option<Seen> {
+        self.machine.front.seen(qid)
+    }
+
+    /// Whether the next step is a pick, or tells that there is none.
+    pub fn picks(&self) -> bool {
+        self.picks
+    }
+
+    /// The time of what happened last, in picoseconds.
+    pub fn time(&self) -> u64
+        ensures { result ≡ time_of self.now }
+    {
+        self.machine.agenda.now()
+    }
+
+    /// How many commands came, how many of them are done, and the area under the number between. Once all are done, it is
+    /// the sum of the times at which they were done, less that of the times at which they came: Little's law.
+    pub fn occupancy(&self) -> Occupancy
+        ensures { result ≡ occupancy_of self.now }
+    {
+        self.occupancy
+    }
+
+    /// The channels of the device.
+    pub fn channels(&self) -> &[Channel] {
+        self.machine.device.channels()
+    }
+
+    // Whether one more command may come now.
+    fn may_come(&self) -> bool {
+        let in_time = match self.end.time {
+            Some(end) => self.machine.agenda.now() < end,
+            None => true,
+        };
+        in_time && self.occupancy.came < self.end.commands
+    }
+
+    // A command more is in the system now.
+    fn count_one_more(&mut self) -> Result<(), SimulationFault>
+        ensures machine { self.new.machine ≡ self.old.machine }
+        ensures comes { OnOk result (Comes (time_of self.old) self.old.occupancy self.new.occupancy) }
+    {
+        match self.occupancy.comes(self.machine.agenda.now()) {
+            Ok(()) => Ok(()),
+            Err(_) => Err(SimulationFault::Broken(Broken::Time)),
+        }
+    }
+
+    // A command less is in the system now.
+    fn count_one_less(&mut self) -> Result<(), SimulationFault>
+        ensures machine { self.new.machine ≡ self.old.machine }
+        ensures leaves { OnOk result (Leaves (time_of self.old) self.old.occupancy self.new.occupancy) }
+    {
+        match self.occupancy.leaves(self.machine.agenda.now()) {
+            Ok(()) => Ok(()),
+            Err(_) => Err(SimulationFault::Broken(Broken::Time)),
+        }
+    }
+
+    // A command comes to a host, if one may.
+    fn arrive(&mut self, qid: u16) -> Result<Happening, SimulationFault>
+        requires stands { IsSimulation self.old }
+        ensures stands { IsSimulation self.new }
+        ensures time { time_of self.new ≡ time_of self.old }
+        ensures timed { IfOk result (IsTimed (time_of self.new)) }
+        ensures counts { IfOk result (Counts (time_of self.new) self.old.occupancy self.new.occupancy) }
+        ensures no_pick { (rules : FrontRules) (notes : Notes) (room : ℕ) → IfOk result (IsLawful rules notes room) }
+    {
+        if self.may_come() {
+            let counts = self.occupancy.came >= self.warm_up;
+            self.count_one_more()?;
+            self.machine.come(qid, counts)?;
+        }
+        Ok(Happening::Came { queue: qid })
+    }
+
+    // What is told of a command that is done.
+    fn tell(
+        &mut self,
+        taken: Taken,
+        channel: usize,
+        flight: &Flight,
+    ) -> Result<Finished, SimulationFault>
+        ensures machine { self.new.machine ≡ self.old.machine }
+        ensures done { IfOk result (λ f. f.times.done ≡ time_of self.old) }
+        ensures leaves { IfOk result (λ f. Leaves (time_of self.old) self.old.occupancy self.new.occupancy) }
+    {
+        let number = u64::from(taken.number);
+        match flight.told(taken.qid, number, channel, self.machine.agenda.now()) {
+            Some(finished) => {
+                self.count_one_less()?;
+                Ok(finished)
+            }
+            None => Err(SimulationFault::Broken(Broken::Time)),
+        }
+    }
+
+    // A closed host has a completion: its next command comes when it thought, if one may come.
+    fn think(&mut self, qid: u16) -> Result<(), SimulationFault>
+        requires stands { IsSimulation self.old }
+        ensures stands { IsSimulation self.new }
+        ensures time { time_of self.new ≡ time_of self.old }
+        ensures occupancy { self.new.occupancy ≡ self.old.occupancy }
+    {
+        if !self.machine.hosts.is_closed(qid) || !self.may_come() {
+            return Ok(());
+        }
+        let now = self.machine.agenda.now();
+        self.machine.follow(qid, now)
+    }
+
+    // The command that runs on a channel ends. Its host submits what waited for a slot, and where it is closed, its next
+    // command comes when it thought.
+    fn finish(&mut self, channel: usize) -> Result<Happening, SimulationFault>
+        requires stands { IsSimulation self.old }
+        ensures stands { IsSimulation self.new }
+        ensures time { time_of self.new ≡ time_of self.old }
+        ensures timed { IfOk result (IsTimed (time_of self.new)) }
+        ensures counts { IfOk result (Counts (time_of self.new) self.old.occupancy self.new.occupancy) }
+        ensures no_pick { (rules : FrontRules) (notes : Notes) (room : ℕ) → IfOk result (IsLawful rules notes room) }
+    {
+        let (taken, flight) = self.machine.finish(channel)?;
+        let command = self.tell(taken, channel, &flight)?;
+        self.think(taken.qid)?;
+        self.machine.submit(taken.qid)?;
+        Ok(Happening::Finished {
+            command,
+            counts: flight.request.counts,
+        })
+    }
+
+    // Whether all commands came and are done.
+    fn is_over(&self) -> bool {
+        self.occupancy.count() == 0 && !self.may_come()
+    }
+
+    // A channel pauses.
+    fn pause(&mut self, channel: usize) -> Result<Happening, SimulationFault>
+        requires stands { IsSimulation self.old }
+        ensures stands { IsSimulation self.new }
+        ensures time { time_of self.new ≡ time_of self.old }
+        ensures timed { IfOk result (IsTimed (time_of self.new)) }
+        ensures counts { IfOk result (Counts (time_of self.new) self.old.occupancy self.new.occupancy) }
+        ensures no_pick { (rules : FrontRules) (notes : Notes) (room : ℕ) → IfOk result (IsLawful rules notes room) }
+    {
+        if let Some(pauses) = self.pauses {
+            self.machine.pause(channel, pauses.length)?;
+        }
+        Ok(Happening::Paused { channel })
+    }
+
+    // A channel goes on. Its next pause comes, unless all is over.
+    fn resume(&mut self, channel: usize) -> Result<Happening, SimulationFault>
+        requires stands { IsSimulation self.old }
+        ensures stands { IsSimulation self.new }
+        ensures time { time_of self.new ≡ time_of self.old }
+        ensures timed { IfOk result (IsTimed (time_of self.new)) }
+        ensures counts { IfOk result (Counts (time_of self.new) self.old.occupancy self.new.occupancy) }
+        ensures no_pick { (rules : FrontRules) (notes : Notes) (room : ℕ) → IfOk result (IsLawful rules notes room) }
+    {
+        self.machine.resume(channel)?;
+        if let Some(pauses) = self.pauses {
+            if !self.is_over() {
+                let rest = pauses.every - pauses.length;
+                let next = self.machine.agenda.now().checked_add(rest);
+                self.machine.agenda.plan(next, Event::Pause(channel))?;
+            }
+        }
+        Ok(Happening::Resumed { channel })
+    }
+
+    // The end, where no event is to come: all that came is done.
+    fn over(&self) -> Result<Happening, SimulationFault>
+        ensures timed { IfOk result (IsTimed (time_of self.now)) }
+        ensures counts { IfOk result (Counts (time_of self.now) self.now.occupancy self.now.occupancy) }
+        ensures no_pick { (rules : FrontRules) (notes : Notes) (room : ℕ) → IfOk result (IsLawful rules notes room) }
+    {
+        if self.occupancy.count() == 0 && self.machine.hosts.are_done() {
+            Ok(Happening::Over)
+        } else {
+            Err(SimulationFault::Broken(Broken::Command))
+        }
+    }
+
+    // An event comes.
+    fn come(&mut self, event: Event) -> Result<Happening, SimulationFault>
+        requires stands { IsSimulation self.old }
+        ensures stands { IsSimulation self.new }
+        ensures time { time_of self.new ≡ time_of self.old }
+        ensures timed { IfOk result (IsTimed (time_of self.new)) }
+        ensures counts { IfOk result (Counts (time_of self.new) self.old.occupancy self.new.occupancy) }
+        ensures no_pick { (rules : FrontRules) (notes : Notes) (room : ℕ) → IfOk result (IsLawful rules notes room) }
+    {
+        match event {
+            Event::Arrival(qid) => self.arrive(qid),
+            Event::End(channel) => self.finish(channel),
+            Event::Pause(channel) => self.pause(channel),
+            Event::Resume(channel) => self.resume(channel),
+        }
+    }
+
+    // The next event comes.
+    fn advance(&mut self) -> Result<Happening, SimulationFault>
+        requires stands { IsSimulation self.old }
+        ensures stands { IsSimulation self.new }
+        ensures forward { time_of self.old ≤ time_of self.new }
+        ensures timed { IfOk result (IsTimed (time_of self.new)) }
+        ensures counts { IfOk result (Counts (time_of self.new) self.old.occupancy self.new.occupancy) }
+        ensures no_pick { (rules : FrontRules) (notes : Notes) (room : ℕ) → IfOk result (IsLawful rules notes room) }
+    {
+        let Some(event) = self.machine.agenda.pop() else {
+            return self.over();
+        };
+        self.picks = true;
+        self.come(event)
+    }
+
+    // The next pick, or none.
+    fn pick(&mut self) -> Result<Happening, SimulationFault>
+        requires stands { IsSimulation self.old }
+        ensures stands { IsSimulation self.new }
+        ensures time { time_of self.new ≡ time_of self.old }
+        ensures timed { IfOk result (IsTimed (time_of self.new)) }
+        ensures lawful { (rules : FrontRules) (late : Bool) (notes : Notes) → StandsAt rules late notes self.old → IfOk result (IsLawful rules notes (room_at self.old)) }
+        ensures counts { IfOk result (Counts (time_of self.new) self.old.occupancy self.new.occupancy) }
+    {
+        let happening = self.machine.pick()?;
+        self.picks = matches!(happening, Happening::Picked(_));
+        Ok(happening)
+    }
+
+    /// What happens next, in the order of time. After a fault the simulation is of no use.
+    pub fn step(&mut self) -> Result<Happening, SimulationFault>
+        requires stands { IsSimulation self.old }
+        ensures stands { IsSimulation self.new }
+        ensures forward { time_of self.old ≤ time_of self.new }
+        ensures timed { IfOk result (IsTimed (time_of self.new)) }
+        ensures lawful { (rules : FrontRules) (late : Bool) (notes : Notes) → StandsAt rules late notes self.old → IfOk result (IsLawful rules notes (room_at self.old)) }
+        ensures counts { IfOk result (Counts (time_of self.new) self.old.occupancy self.new.occupancy) }
+    {
+        if self.picks {
+            self.pick()
+        } else {
+            self.advance()
+        }
+    }
+}
