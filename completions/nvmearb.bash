@@ -5,18 +5,19 @@ _nvmearb() {
     local cur=${COMP_WORDS[COMP_CWORD]} prev=${COMP_WORDS[COMP_CWORD - 1]} words="" files=""
     COMPREPLY=()
     if [ "$COMP_CWORD" = 1 ]; then
-        words="demo run trace check stats chart lint expand settings once loaded live help --help --version"
+        words="demo run trace simulate check stats chart lint expand settings once loaded live help --help --version"
     else
         case $prev in
             --workers) words="1 2 3 4 5 6 7 8" ;;
             --format) words=$([ "${COMP_WORDS[1]}" = check ] && echo text json junit || echo text json csv) ;;
-            -o | --output) files=any ;;
+            -o | --output | --log | --trace) files=any ;;
             --burst) words="1 2 4 8 16 32 64 none" ;;
-            --blocks | --from | --to | --weights | --window) return ;;
+            --blocks | --from | --to | --weights | --window | --seed | --commands | --time | --warm-up) return ;;
             *)
                 case ${COMP_WORDS[1]} in
                     run) words="--live --workers --help" files=toml ;;
                     trace) words="--live --workers --output --help" files=toml ;;
+                    simulate) words="--seed --commands --time --warm-up --format --log --trace --output --help" files=toml ;;
                     lint | expand) words="--help" files=toml ;;
                     check) words="--spec --all --quiet --format --help" files=any ;;
                     chart) words="--from --to --output --help" files=any ;;
@@ -24,7 +25,7 @@ _nvmearb() {
                     loaded | live) words="--workers --help" ;;
                     once) words="--blocks --help" ;;
                     settings) words="--burst --weights --help" ;;
-                    help) words="workload run trace check stats chart lint expand settings once loaded live" ;;
+                    help) words="workload simulation run trace simulate check stats chart lint expand settings once loaded live" ;;
                 esac
                 ;;
         esac

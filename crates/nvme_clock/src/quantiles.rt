@@ -64,6 +64,14 @@ impl Quantiles {
         }
     }
 
+    /// Its values, which don't fall.
+    pub fn values(&self) -> &[u64]
+        ensures value { result.now ≡ values_of self.now }
+        ensures table { IsTable result.now }
+    {
+        self.values.as_slice()
+    }
+
     /// The quantile of a word, which counts 2^64ths: between its two neighbours in the table by equal steps, rounded down.
     pub fn draw<R: Rng>(&self, rng: &mut R) -> u64
         ensures value { (result, R.stream rng.new) ≡ drawn_from (values_of self.now) (R.stream rng.old) }

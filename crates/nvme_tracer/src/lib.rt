@@ -6,4 +6,4 @@ mod writer;
 
 pub use laws::written_traces_are_lawful;
 pub use nvme_output::WriteFault;
-pub use writer::write_trace;
+pub use writer::{put_head, put_seen, write_trace};

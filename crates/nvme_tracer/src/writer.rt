@@ -9,8 +9,8 @@ use nvme_output::{Piece, WriteFault, put, put_pieces};
 use nvme_trace::{class_name, mechanism_name};
 use std::io::Write;
 
-// Writes the head.
-fn put_head<W: Write>(
+/// Writes the head of a trace: the mechanism and the first settings. `WriteFault` as `write_trace`.
+pub fn put_head<W: Write>(
     mechanism: Mechanism,
     settings: Settings,
     writer: &mut W,
@@ -61,8 +61,8 @@ fn put_more<W: Write>(queues: &[Seen], writer: &mut W) -> Result<(), WriteFault>
     Ok(())
 }
 
-// Writes the open queues that a pick saw.
-fn put_seen<W: Write>(seen: &[Seen], writer: &mut W) -> Result<(), WriteFault>
+/// Writes the open queues that a pick saw, as they stand between the brackets of `seen`. `WriteFault` as `write_trace`.
+pub fn put_seen<W: Write>(seen: &[Seen], writer: &mut W) -> Result<(), WriteFault>
     ensures { Writes (W.contents writer.old) (W.contents writer.new) result (text_of_seen seen.now) }
 {
     let Some((first, more)) = seen.split_first() else {

@@ -89,7 +89,7 @@ lint = with_rule (new_app (codes "lint")) (required file)
 abbrev pub expand : App
 expand = with_rule (new_app (codes "expand")) (required file)
 
--- a subcommand that reads a trace
+-- a subcommand that reads a file, or standard input: a trace, or what is simulated
 abbrev pub trace : Text → App
 trace name = with_rule (new_app name) file
 
@@ -130,6 +130,19 @@ dword = record (new_rule (codes "dword")) { action = Some Set; value_names = 1 }
 abbrev pub settings : App
 settings = with_rule (with_rule (with_rule (new_app (codes "settings")) dword) (text_option (codes "burst"))) (text_option (codes "weights"))
 
+-- an option whose value is a number of at most 63 bits
+abbrev pub number : Text → Rule
+number name = option name (values.Unsigned 0 9223372036854775807)
+
+-- the subcommand that simulates, with what says when it ends and from where on it counts
+abbrev pub bounded : App
+bounded =
+    with_rule (with_rule (with_rule (with_rule (trace (codes "simulate")) (number (codes "seed"))) (number (codes "commands"))) (text_option (codes "time"))) (number (codes "warm-up"))
+
+abbrev pub simulate : Names → App
+simulate names =
+    with_rule (with_rule (with_rule (with_rule bounded (format names)) (text_option (codes "log"))) (text_option (codes "trace"))) output
+
 -- ---- the program
 
 -- it has a version, and asks for a subcommand
@@ -142,8 +155,8 @@ alone = record {
 abbrev pub with_input : App → App
 with_input app = with_subcommand (with_subcommand (with_subcommand app once.top) (mode (codes "loaded")).top) (mode (codes "live")).top
 
-abbrev pub with_run : App → App
-with_run app = with_subcommand (with_subcommand app (run (codes "run")).top) traced.top
+abbrev pub with_run : Names → App → App
+with_run names app = with_subcommand (with_subcommand (with_subcommand app (run (codes "run")).top) traced.top) (simulate names).top
 
 abbrev pub with_file : App → App
 with_file app = with_subcommand (with_subcommand app lint.top) expand.top
@@ -152,7 +165,7 @@ abbrev pub with_trace : Names → App → App
 with_trace names app = with_subcommand (with_subcommand (with_subcommand app check.top) (stats names).top) chart.top
 
 abbrev pub command_line : Names → App
-command_line names = with_input (with_subcommand (with_file (with_trace names (with_run alone))) settings.top)
+command_line names = with_input (with_subcommand (with_file (with_trace names (with_run names alone))) settings.top)
 
 -- P holds of the command line. Where the names of the formats lie is left open, and parsing doesn't ask for it
 abbrev pub OnCommandLine : (App → Type 0) → Type 0

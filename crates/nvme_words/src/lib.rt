@@ -7,6 +7,7 @@ mod input;
 mod laws;
 mod program;
 mod requests;
+mod simulations;
 mod words;
 
 pub use entries::{OnceError, once};
@@ -17,4 +18,5 @@ pub use laws::{
     one_request,
 };
 pub use requests::{Format, Numbers, OptionsFault, Range, Request, WordsError, asked_of};
+pub use simulations::{SimulationWords, simulation_asked};
 pub use words::reads_input_alone;

@@ -1,7 +1,7 @@
 // The command line of the program, by `clap`.
 ghost use Rattle.std.specs.Prelude.{◌≡◌, IfOk, codes};
 ghost use Rattle.clap.specs.Words.{App, app_of};
-ghost use Rattle.nvme_words.specs.CommandLine.{OnCommandLine, all, backlogged, blocks, chart, check, dword, expand, file, first, last, lint, mode, once, option, ranged, run, output, quiet, settings, stats, text_option, trace, traced, window, with_file, with_input, with_run, with_trace, workers};
+ghost use Rattle.nvme_words.specs.CommandLine.{OnCommandLine, all, backlogged, blocks, bounded, chart, check, dword, expand, file, first, format, last, lint, mode, number, once, option, ranged, run, output, quiet, settings, simulate, stats, text_option, trace, traced, window, with_file, with_input, with_run, with_trace, workers};
 ghost use Rattle.nvme_words.specs.inside.Built.{AddsIfMade, HasApp, HasRule};
 
 use clap::builder::ValueParser;
@@ -17,13 +17,15 @@ const AFTER_HELP: &str = "\
 First steps, without a file:
   nvmearb demo           a workload, what arbitration makes of it, and how to go on
   nvmearb help workload  the keys of a workload file: type, default, range, example
-  nvmearb help trace     the fields of a trace
+  nvmearb help simulation, nvmearb help trace
+                         the keys of a simulation file, the fields of a trace
 
 Input:
-  FILE            a file, or - for standard input; without FILE check, stats
-                  and chart read standard input
+  FILE            a file, or - for standard input; without FILE simulate, check,
+                  stats and chart read standard input
   run, trace, lint, expand
                   a workload file: TOML, at most 16777216 bytes
+  simulate, lint  a simulation file: TOML, with the tables simulation and device
   check, stats, chart
                   a trace: JSON, a line of at most 4096 bytes for each event
   settings        none
@@ -31,9 +33,10 @@ Input:
   loaded, live    a workload file as expand writes it, from standard input
 
 Ranges:
-  N               1 to 8 workers
+  N               of --workers 1 to 8; of --commands 1 to 100000000
   B               1 to 9223372036854775807 logical blocks
   FIRST, LAST     numbers of picks, counted from 1, both included, FIRST at most LAST
+  TIME            a number with a unit: ps, ns, us, ms, s, as 1.5ms
   DWORD           a number of 32 bits, in hexadecimal as 0x07030103 or in decimal
   BURST           1, 2, 4, 8, 16, 32, 64, or none for no limit
   WEIGHTS         of high, medium and low, each 1 to 256, as 8:4:2
@@ -44,13 +47,14 @@ Exit status:
   1  the input is at fault; with check also: a pick is another one
   2  the command line is at fault
   3  the run is: a file, a read or a write failed, memory was refused, or not all was done
-  4  with lint: the workload is lawful, and there are warnings
+  4  with lint: the file is lawful, and there are warnings
   141  nobody reads the output any more, as after | head; nothing is told
 
 Example:
   nvmearb lint examples/five-queues.toml
   nvmearb run examples/five-queues.toml --workers 2
   nvmearb trace examples/five-queues.toml | nvmearb check
+  nvmearb simulate examples/sim/three-classes.toml --time 1s
   nvmearb settings --burst 8 --weights 8:4:2
 
 Manual pages: nvmearb(1), and nvmearb(5) for files, traces and reports";
@@ -165,13 +169,18 @@ fn traced_command<'a>(alloc: Global) -> Result<Command<'a>, AllocError>
     run_command(alloc, "trace", about)?.arg(output_arg(alloc))
 }
 
-// The subcommand that looks at the workload of a file.
+// The subcommand that looks for faults of a file.
 fn lint_command<'a>(alloc: Global) -> Result<Command<'a>, AllocError>
     ensures { IfOk result (HasApp lint) }
 {
-    let file = file_arg(alloc, "The workload file, or - for standard input");
+    let file = file_arg(
+        alloc,
+        "The workload or simulation file, or - for standard input",
+    );
     Command::new(alloc, "lint")
-        .about("Tells where a workload file is at fault, or what of it comes to nothing")
+        .about(
+            "Tells where a workload or simulation file is at fault, or what of it comes to nothing",
+        )
         .arg(file.required(true))
 }
 
@@ -296,18 +305,63 @@ fn chart_command<'a>(alloc: Global) -> Result<Command<'a>, AllocError>
     ranged_command(alloc, "chart", about)?.arg(output_arg(alloc))
 }
 
+// How numbers are written.
+fn format_arg<'a>(alloc: Global, formats: &'a [&'a str]) -> Arg<'a>
+    ensures { HasRule (format formats.entry) result }
+{
+    let help = "Tables for people, one JSON object, or comma-separated values";
+    let names = ValueParser::Names(formats);
+    option_arg(alloc, "format", "FORMAT", help, names).default_value("text")
+}
+
 // The subcommand that tells what a trace shows in numbers.
 fn stats_command<'a>(alloc: Global, formats: &'a [&'a str]) -> Result<Command<'a>, AllocError>
     ensures { IfOk result (HasApp (stats formats.entry)) }
 {
-    let help = "Tables for people, one JSON object, or comma-separated values";
-    let names = ValueParser::Names(formats);
-    let format = option_arg(alloc, "format", "FORMAT", help, names).default_value("text");
     let about = "Prints picks, shares and waits of each queue of a trace";
     ranged_command(alloc, "stats", about)?
         .arg(backlogged_arg(alloc))?
         .arg(window_arg(alloc))?
-        .arg(format)
+        .arg(format_arg(alloc, formats))
+}
+
+// An option whose value is a number of at most 63 bits.
+fn number_arg<'a>(alloc: Global, name: &'a str, help: &'a str) -> Arg<'a>
+    ensures { HasRule (number name.now) result }
+{
+    let range = value_parser!(u64).range(0..=i64::MAX);
+    option_arg(alloc, name, "N", help, range)
+}
+
+// The subcommand that simulates, with the options that say when it ends, and from where on it counts.
+fn bounded_command<'a>(alloc: Global) -> Result<Command<'a>, AllocError>
+    ensures { IfOk result (HasApp bounded) }
+{
+    let help = "The simulation file; standard input where it is - or is left out";
+    let seed = "The seed of all that is drawn, in place of the file's";
+    let commands = "How many commands come, in place of the file's";
+    let time = "From when on none comes, in place of the file's; not with --commands";
+    let warm_up = "How many of the first commands no number counts, in place of the file's";
+    Command::new(alloc, "simulate")
+        .about("Simulates a device and its hosts, and prints latencies, throughput and shares")
+        .arg(file_arg(alloc, help))?
+        .arg(number_arg(alloc, "seed", seed))?
+        .arg(number_arg(alloc, "commands", commands))?
+        .arg(text_arg(alloc, "time", "TIME", time))?
+        .arg(number_arg(alloc, "warm-up", warm_up))
+}
+
+// The subcommand that simulates.
+fn simulate_command<'a>(alloc: Global, formats: &'a [&'a str]) -> Result<Command<'a>, AllocError>
+    ensures { IfOk result (HasApp (simulate formats.entry)) }
+{
+    let log = "A file that gets a line of comma-separated values for each finished command";
+    let trace = "A file that gets the trace of the picks";
+    bounded_command(alloc)?
+        .arg(format_arg(alloc, formats))?
+        .arg(text_arg(alloc, "log", "FILE", log))?
+        .arg(text_arg(alloc, "trace", "FILE", trace))?
+        .arg(output_arg(alloc))
 }
 
 // A program with one more subcommand. It takes and propagates `AllocError`, so that the caller has one exit.
@@ -331,13 +385,18 @@ fn with_input<'a>(alloc: Global, program: Command<'a>) -> Result<Command<'a>, Al
     with(program, mode_command(alloc, "live", live))
 }
 
-// The subcommands that run the workload of a file.
-fn with_run<'a>(alloc: Global, program: Command<'a>) -> Result<Command<'a>, AllocError>
-    ensures { (app : App) → HasApp app program.entry → IfOk result (HasApp (with_run app)) }
+// The subcommands that run the workload of a file, or simulate.
+fn with_run<'a>(
+    alloc: Global,
+    formats: &'a [&'a str],
+    program: Command<'a>,
+) -> Result<Command<'a>, AllocError>
+    ensures { (app : App) → HasApp app program.entry → IfOk result (HasApp (with_run formats.entry app)) }
 {
     let run = "Runs the workload of a file, and prints its report";
     let program = with(Ok(program), run_command(alloc, "run", run));
-    with(program, traced_command(alloc))
+    let program = with(program, traced_command(alloc));
+    with(program, simulate_command(alloc, formats))
 }
 
 // The other subcommands that read a workload file.
@@ -404,7 +463,8 @@ pub(crate) fn program<'a>(alloc: Global) -> Result<Command<'a>, AllocError>
         .about("The command-fetching and arbitration front of an NVMe controller")
         .after_help(AFTER_HELP)
         .subcommand_required(true);
-    let shown = with_trace(alloc, FORMATS, with_run(alloc, program)?)?;
+    let formats = FORMATS;
+    let shown = with_trace(alloc, formats, with_run(alloc, formats, program)?)?;
     let set = with(with_file(alloc, shown), settings_command(alloc))?;
     with_input(alloc, set)
 }

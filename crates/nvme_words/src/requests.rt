@@ -36,7 +36,7 @@ pub struct Numbers {
     pub format: Format,
 }
 
-/// How statistics are written.
+/// How statistics, or the numbers of a simulation, are written.
 #[derive(Clone, Copy, Debug, PartialEq, Eq)]
 pub enum Format {
     /// A table for people.
@@ -99,7 +99,7 @@ pub enum WordsError {
     /// They aren't a command line of the program. The text, which may have several lines, says why.
     #[error("{0}")]
     CommandLine(clap::Error),
-    /// The subcommand isn't the first word after the program's name.
+    /// The subcommand isn't the first word after the program's name, or it is `simulate`, of which `simulation_asked` tells.
     #[error("command line")]
     OtherWord,
     /// Out of memory. The same words may be asked again.
@@ -118,8 +118,8 @@ fn mode_of(matches: &ArgMatches) -> Mode
     }
 }
 
-// How statistics are to be written.
-fn format_of(matches: &ArgMatches) -> Format
+/// How statistics, or the numbers of a simulation, are to be written.
+pub(crate) fn format_of(matches: &ArgMatches) -> Format
     ensures { IsFormat (rows_of (found_of matches.now)) result }
 {
     match matches.get_str("format") {

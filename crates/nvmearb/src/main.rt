@@ -2,22 +2,31 @@
 //! tells what its streams met.
 #![tactic(auto)]
 
-ghost use Rattle.std.specs.Prelude.{◌≡◌, ◌≤◌};
+ghost use Rattle.std.specs.Prelude.{◌≡◌, ◌≤◌, IfSome};
 
 mod checks;
 mod demo;
+mod files;
 mod kept;
+mod linting;
 mod noted;
+mod simulating;
 mod telling;
 mod topics;
 
 use checks::{Checks, Form, Judged, asked, put_json, put_junit, put_named};
+use files::put_away;
 use kept::Kept;
+use linting::linted;
 use noted::{Noted, Notes};
-use nvme_program::{Errors, Output, Request, asked_of, command, file_named, flushed, output_named};
+use nvme_program::{
+    Errors, Output, Request, WordsError, asked_of, command, file_named, flushed, output_named,
+    simulation_asked,
+};
+use simulating::simulated;
 use std::alloc::{AllocError, Global};
 use std::cell::Cell;
-use std::io::{BufWriter, ErrorKind, Write};
+use std::io::{BufWriter, ErrorKind, IsTerminal, Stderr, Write};
 use std::process::ExitCode;
 use std::rt::Files;
 use std::sync::Wait;
@@ -36,6 +45,18 @@ const BAD_LINE: u8 = 2;
 // The words of the command line, the program's name first.
 fn words_of(rt: &HostRuntime) -> io::Result<Vec<String>> {
     Ok(env::args(rt)?.collect(rt.alloc())?)
+}
+
+// Whether the words ask for a lint, and for no help on it.
+fn is_lint(alloc: Global, words: &[String]) -> Result<bool, AllocError> {
+    if subcommand(words) != "lint" {
+        return Ok(false);
+    }
+    match asked_of(alloc, words) {
+        Ok(Request::Lint) => Ok(true),
+        Err(WordsError::NoMemory(error)) => Err(error),
+        _ => Ok(false),
+    }
 }
 
 // Whether the options of the words don't go together, so that no file is opened.
@@ -71,12 +92,6 @@ fn served<R: AllocGlobal + Files + Input + Threads + Wait + Sync, W: Write, E: W
     }
 }
 
-// Writes a whole answer to a file. A file of this name is replaced.
-fn write_to<R: Files>(rt: &R, name: &str, answer: &[u8]) -> io::Result<()> {
-    let mut file = fs::create(rt, name)?;
-    file.write_all(answer)
-}
-
 // Does what the words ask for, and then writes the answer to a file. The answer is the exit status. Where it isn't 0
 // there is no answer, and the file isn't touched. It isn't inlined, so that its stack isn't that of every run.
 #[inline(never)]
@@ -101,13 +116,7 @@ fn saved<R: AllocGlobal + Files + Input + Threads + Wait + Sync, E: Write>(
     if status != 0 {
         return status;
     }
-    let Some(answer) = kept.answer() else {
-        return no_memory(errors);
-    };
-    match write_to(rt, name, answer) {
-        Ok(()) => 0,
-        Err(error) => failed("write", name, &error, errors),
-    }
+    put_away(rt, name, &kept, errors)
 }
 
 // Checks one file of several. Standard input is `-`.
@@ -239,14 +248,49 @@ fn helped<W: Write, E: Write>(text: &str, output: &mut W, errors: &mut E) -> u8
     }
 }
 
-// Does what the words ask for. The answer is the exit status.
-fn done<R: AllocGlobal + Files + Input + Threads + Wait + Sync, W: Write, E: Write>(
+// Does what the words ask for that read or write several files, or files of several kinds. The answer is the exit
+// status. None where they are other words.
+fn done_around<R, P: Write + Drop, W: Write, E: Write>(
     rt: &R,
     words: &[String],
+    terminal: Option<P>,
+    notes: &Notes,
+    output: &mut W,
+    errors: &mut E,
+) -> Option<u8>
+where
+    R: AllocGlobal + Files + Input + Threads + Wait + Sync,
+    ensures { IfSome result (λ status. status ≤ 4) }
+{
+    let alloc = rt.alloc();
+    match is_lint(alloc, words) {
+        Ok(true) => return Some(linted(rt, words, notes, output, errors)),
+        Ok(false) => {}
+        Err(_) => return Some(no_memory(errors)),
+    }
+    match simulation_asked(alloc, words) {
+        Ok(Some(line)) => return Some(simulated(rt, &line, terminal, notes, output, errors)),
+        Ok(None) => {}
+        Err(_) => return Some(no_memory(errors)),
+    }
+    match asked(alloc, words) {
+        Ok(Some(checks)) if checks.are_more() => Some(checked(rt, &checks, output, errors)),
+        Ok(_) => None,
+        Err(_) => Some(no_memory(errors)),
+    }
+}
+
+// Does what the words ask for. The answer is the exit status.
+fn done<R, P: Write + Drop, W: Write, E: Write>(
+    rt: &R,
+    words: &[String],
+    terminal: Option<P>,
     notes: &Notes,
     output: &mut W,
     errors: &mut E,
 ) -> u8
+where
+    R: AllocGlobal + Files + Input + Threads + Wait + Sync,
     ensures { result ≤ 4 }
 {
     let alloc = rt.alloc();
@@ -256,10 +300,8 @@ fn done<R: AllocGlobal + Files + Input + Threads + Wait + Sync, W: Write, E: Wri
     if demo::is_asked(words) {
         return demo::show(rt, alloc, output, errors);
     }
-    match asked(alloc, words) {
-        Ok(Some(checks)) if checks.are_more() => return checked(rt, &checks, output, errors),
-        Ok(_) => {}
-        Err(_) => return no_memory(errors),
+    if let Some(status) = done_around(rt, words, terminal, notes, output, errors) {
+        return status;
     }
     match output_named(alloc, words) {
         Ok(None) => served(rt, words, notes, output, errors),
@@ -269,10 +311,11 @@ fn done<R: AllocGlobal + Files + Input + Threads + Wait + Sync, W: Write, E: Wri
 }
 
 // Does what the words ask for, over standard output and standard error. The answer is the exit status. Where nobody
-// reads the output any more nothing is told.
-fn answered<R, W: Write + Drop, E: Write + Drop>(
+// reads the output any more nothing is told. A terminal is told how far a simulation is.
+fn answered<R, P: Write + Drop, W: Write + Drop, E: Write + Drop>(
     rt: &R,
     words: &[String],
+    terminal: Option<P>,
     output: W,
     errors: E,
 ) -> u8
@@ -288,7 +331,7 @@ where
         return no_memory(&mut errors);
     };
     let mut told = Kept::new(alloc);
-    let status = done(rt, words, &notes, &mut output, &mut told);
+    let status = done(rt, words, terminal, &notes, &mut output, &mut told);
     let status = flushed(status, &mut output, &mut told);
     // After a failed write the rest isn't written.
     let _ = output.into_parts();
@@ -296,9 +339,10 @@ where
     if is_unread.get() { UNREAD } else { status }
 }
 
-// The words, in which `--json` of `stats` and `check` stands for `--format=json`.
+// The words, in which `--json` of `stats`, `check` and `simulate` stands for `--format=json`.
 fn written_out(alloc: Global, mut words: Vec<String>) -> Result<Vec<String>, AllocError> {
-    if !matches!(subcommand(words.as_slice()), "stats" | "check") {
+    let takes_format = matches!(subcommand(words.as_slice()), "stats" | "check" | "simulate");
+    if !takes_format {
         return Ok(words);
     }
     for word in words.iter_mut() {
@@ -309,11 +353,22 @@ fn written_out(alloc: Global, mut words: Vec<String>) -> Result<Vec<String>, All
     Ok(words)
 }
 
+// Standard error, where it is a terminal.
+fn terminal_of(rt: &HostRuntime) -> Option<Stderr> {
+    let errors = rt.stderr();
+    if errors.is_terminal() {
+        Some(errors)
+    } else {
+        None
+    }
+}
+
 fn main(rt: HostRuntime) -> ExitCode {
     match words_of(&rt) {
         Ok(words) => match written_out(rt.alloc(), words) {
             Ok(words) => {
-                let status = answered(&rt, words.as_slice(), io::writer(&rt), rt.stderr());
+                let (words, output) = (words.as_slice(), io::writer(&rt));
+                let status = answered(&rt, words, terminal_of(&rt), output, rt.stderr());
                 ExitCode::from(status)
             }
             Err(_) => ExitCode::from(no_memory(&mut rt.stderr())),

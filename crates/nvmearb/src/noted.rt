@@ -11,6 +11,8 @@ pub(crate) enum Look {
     Trace,
     /// A key, a header or a comment of TOML begins.
     Workload,
+    /// It does, and a table `simulation` or `device` too.
+    Simulation,
     Other,
 }
 
@@ -38,10 +40,98 @@ impl Look {
     }
 }
 
+// A table that simulation files have alone.
+#[derive(Clone, Copy)]
+enum Table {
+    Simulation,
+    Device,
+}
+
+impl Table {
+    // Its name.
+    fn letters(self) -> &'static [u8] {
+        match self {
+            Table::Simulation => b"simulation",
+            Table::Device => b"device",
+        }
+    }
+
+    // With a byte more behind so many letters of its name.
+    fn then(self, read: usize, byte: u8) -> Header {
+        match self.letters().get(read) {
+            Some(letter) if *letter == byte => Header::Named(self, read.saturating_add(1)),
+            None if matches!(byte, b' ' | b'\t' | b'.' | b']') => Header::Whole,
+            _ => Header::Other,
+        }
+    }
+}
+
+// How far a line is read as the header of such a table.
+#[derive(Clone, Copy)]
+enum Header {
+    // Nothing came but blanks.
+    Begins,
+    // A bracket opened it.
+    Opened,
+    // So many letters of the name came.
+    Named(Table, usize),
+    // It is one.
+    Whole,
+    // It is none.
+    Other,
+}
+
+impl Header {
+    // Behind blanks at the beginning of a line.
+    fn begun(byte: u8) -> Header {
+        match byte {
+            b' ' | b'\t' => Header::Begins,
+            b'[' => Header::Opened,
+            _ => Header::Other,
+        }
+    }
+
+    // Behind the bracket.
+    fn opened(byte: u8) -> Header {
+        match byte {
+            b' ' | b'\t' => Header::Opened,
+            b's' => Header::Named(Table::Simulation, 1),
+            b'd' => Header::Named(Table::Device, 1),
+            _ => Header::Other,
+        }
+    }
+
+    // With a byte more.
+    fn then(self, byte: u8) -> Header {
+        if byte == b'\n' {
+            return Header::Begins;
+        }
+        match self {
+            Header::Begins => Header::begun(byte),
+            Header::Opened => Header::opened(byte),
+            Header::Named(table, read) => table.then(read, byte),
+            Header::Whole | Header::Other => Header::Other,
+        }
+    }
+
+    // With these bytes more, up to a whole one.
+    fn after(self, bytes: &[u8]) -> Header {
+        let mut header = self;
+        for byte in bytes {
+            header = header.then(*byte);
+            if matches!(header, Header::Whole) {
+                break;
+            }
+        }
+        header
+    }
+}
+
 /// What is noted of the streams: how the input begins, and the errors with which a read and a write failed.
 #[derive(Drop)]
 pub(crate) struct Notes {
     look: Cell<Look>,
+    header: Cell<Header>,
     read: Cell<Option<Error>>,
     write: Cell<Option<Error>>,
 }
@@ -51,6 +141,7 @@ impl Notes {
     pub(crate) fn new() -> Notes {
         Notes {
             look: Cell::new(Look::Blank),
+            header: Cell::new(Header::Begins),
             read: Cell::new(None),
             write: Cell::new(None),
         }
@@ -59,6 +150,20 @@ impl Notes {
     /// How the input begins.
     pub(crate) fn look(&self) -> Look {
         self.look.get()
+    }
+
+    // Notes more of the input.
+    fn add(&self, bytes: &[u8]) {
+        if self.look.get() == Look::Blank {
+            self.look.set(Look::of(bytes));
+        }
+        if self.look.get() == Look::Workload {
+            let header = self.header.get().after(bytes);
+            self.header.set(header);
+            if matches!(header, Header::Whole) {
+                self.look.set(Look::Simulation);
+            }
+        }
     }
 
     /// The error with which a read failed.
@@ -97,11 +202,7 @@ impl<R: Read> Read for Noted<'_, R> {
     fn read(&mut self, buf: &mut [u8]) -> Result<usize> {
         let result = self.stream.read(buf);
         match &result {
-            Ok(count) => {
-                if self.notes.look.get() == Look::Blank {
-                    self.notes.look.set(Look::of(&buf[..*count]));
-                }
-            }
+            Ok(count) => self.notes.add(&buf[..*count]),
             Err(error) => note(&self.notes.read, error),
         }
         result

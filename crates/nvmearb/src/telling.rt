@@ -1,9 +1,9 @@
 // What is told of a fault, on standard error.
-ghost use Rattle.std.specs.Prelude.{◌≡◌};
+ghost use Rattle.std.specs.Prelude.{◌≡◌, ◌≤◌};
 
 use crate::kept::Kept;
 use crate::noted::{Look, Notes};
-use nvme_program::file_named;
+use nvme_program::{InputError, MAX_INPUT, file_named};
 use std::alloc::Global;
 use std::io::{Error, ErrorKind, Result, Write};
 
@@ -29,6 +29,31 @@ pub(crate) fn failed<E: Write>(what: &str, name: &str, error: &Error, errors: &m
     }
     let _ = writeln!(errors, "nvmearb: {what} failed: {name:?}: {error}");
     RUN
+}
+
+/// Writes that a write failed. The answer is the exit status.
+pub(crate) fn unwritten<E: Write>(errors: &mut E) -> u8
+    ensures { result ≡ 3 }
+{
+    let _ = writeln!(errors, "nvmearb: write failed");
+    RUN
+}
+
+/// Writes why an input has no bytes. The answer is the exit status.
+pub(crate) fn tell_input<E: Write>(error: InputError, errors: &mut E) -> u8
+    ensures { result ≤ 4 }
+{
+    match error {
+        InputError::Read => {
+            let _ = writeln!(errors, "nvmearb: {error}");
+            RUN
+        }
+        InputError::TooLong => {
+            let _ = writeln!(errors, "nvmearb: {error}: above {MAX_INPUT} bytes");
+            INPUT
+        }
+        InputError::NoMemory => no_memory(errors),
+    }
 }
 
 // Writes that a read failed, with the name of the file where the words have one.
@@ -58,15 +83,26 @@ pub(crate) fn subcommand(words: &[String]) -> &str {
 // Whether the subcommand is one for people, whose faults are told in more words. The others and the help have one fixed
 // line for each fault.
 fn is_for_people(words: &[String]) -> bool {
-    let names = "run trace lint expand check stats chart settings demo";
+    let names = "run trace simulate lint expand check stats chart settings demo";
     names.split(' ').any(|name| name == subcommand(words))
 }
 
 // What the input looks like, where the subcommand is one for others.
 fn mistaken(words: &[String], look: Look) -> Option<&'static str> {
     match (subcommand(words), look) {
-        ("run" | "trace" | "lint" | "expand", Look::Trace) => {
+        ("run" | "trace" | "expand", Look::Simulation) => {
+            Some(
+                "this looks like a simulation file (it has a table device or simulation): take simulate",
+            )
+        }
+        ("simulate", Look::Workload) => {
+            Some("this looks like a workload (it has no table device or simulation): take run")
+        }
+        ("run" | "trace" | "simulate" | "lint" | "expand", Look::Trace) => {
             Some("this looks like a trace (JSON lines): take check, stats or chart")
+        }
+        ("check" | "stats" | "chart", Look::Simulation) => {
+            Some("this looks like a simulation file (TOML): take simulate FILE --trace TRACE")
         }
         ("check" | "stats" | "chart", Look::Workload) => {
             Some("this looks like a workload (TOML): take trace FILE | stats, or check or chart")

@@ -1,4 +1,4 @@
-// Help on the files that the program reads: `nvmearb help workload` and `nvmearb help trace`.
+// Help on the files that the program reads: `nvmearb help workload`, `nvmearb help simulation` and `nvmearb help trace`.
 
 const WORKLOAD: &str = r#"A short workload file is TOML. All keys but version may be left out.
 
@@ -40,6 +40,58 @@ get-features    feature        "arbitration", "number-of-queues"       { op = "g
   nvmearb expand FILE   the same workload entry by entry; nvmearb(5) has that form
 "#;
 
+const SIMULATION: &str =
+    r#"A simulation file is TOML. All keys but version, device, queue and its arrivals may be left out.
+
+Key             Default        Range                                   Example
+version         (required)     1                                       version = 1
+mechanism       "round-robin"  "round-robin", "weighted"               mechanism = "weighted"
+burst           1              1, 2, 4, 8, 16, 32, 64, "none"          burst = 8
+weights         each 1         high, medium, low: each 1 to 256        weights = { high = 8, low = 2 }
+
+[simulation]:
+seed            1              0 to 2^63 - 1                           seed = 3
+commands        100000         1 to 100000000, not beside time         commands = 1000000
+time            none           the duration in which commands come     time = "30s"
+warm_up         0              0 to 100000000 first ones, uncounted    warm_up = 50000
+
+[device]:
+channels        1              1 to 4096, each runs one command        channels = 4
+depth           channels, 256  1 to 256 commands at a time             depth = 8
+placing         "pool"         "pool", "striped" over the channels     placing = "striped"
+stripe          8              1 to 2^63 - 1 blocks, where striped     stripe = 16
+size            1048576        1 to 2^63 - 1 blocks                    size = 2048
+read, write, flush             a service                               read = "80us"
+pauses          none           every, for: durations, of each channel  pauses = { every = "500ms", for = "3ms" }
+
+Each [[queue]], 1 to 64, of which the first is queue 1:
+class           "medium"       "urgent", "high", "medium", "low"       class = "high"
+slots           1024           2 to 4096 of each ring                  slots = 64
+arrivals        (required)     one of those below                      arrivals = { poisson = 11667 }
+mix             reads alone    read, write, flush: shares, 0 to 2^32-1 mix = { read = 7, write = 3 }
+blocks          8              1 to 65536 of each command              blocks = 64
+offsets         "uniform"      "uniform", "sequential"                 offsets = "sequential"
+read, write, flush             a service, in place of the device's     write = "20us"
+
+Arrivals, where a gap is a duration, or commands a second from 1 to 10^12:
+poisson         exponential gaps of this mean                          { poisson = "85.7us" }
+every           equal gaps                                             { every = 10000 }
+closed          1 to 4096 out, each again a think behind its end       { closed = 32, think = "10us" }
+bursts          poisson in the on phases alone                         { bursts = { poisson = 20000, on = "2ms", off = "3ms" } }
+
+A service is a duration, or a table with one of these, and per_block, a duration for each block:
+fixed           always this long                                       { fixed = "80us", per_block = "500ns" }
+exponential     exponential of this mean                               { exponential = "80us" }
+usual           this long, but rare one time in one_in                 { usual = "20us", rare = "2ms", one_in = 100 }
+quantiles       between two or more, at equal steps of probability     { quantiles = ["60us", "80us", "2ms"] }
+
+A duration is a number and its unit, ps, ns, us, ms or s: "80us", "1.5ms".
+
+  nvmearb lint FILE              what of a file is at fault, or more than the device can do
+  nvmearb simulate FILE          latencies, throughput and shares
+  nvmearb simulate --help        seeds, ends, logs and traces
+"#;
+
 const TRACE: &str =
     r#"A trace has a JSON object on each line: a head, then a line for each pick and each change of the settings.
 
@@ -76,6 +128,7 @@ pub(crate) fn topic(words: &[String]) -> Option<&'static str> {
     match words {
         [_, help, topic] if help.as_str() == "help" => match topic.as_str() {
             "workload" => Some(WORKLOAD),
+            "simulation" => Some(SIMULATION),
             "trace" => Some(TRACE),
             _ => None,
         },

@@ -1,13 +1,13 @@
 use Rattle.std.proofs.Common.{refl, rules}
 use Rattle.std.proofs.lemmas.Result.{IfOk-weaker}
-use Rattle.nvme_words.specs.CommandLine.{alone, settings, with_run}
+use Rattle.nvme_words.specs.CommandLine.{alone, settings}
 use Rattle.nvme_words.specs.inside.Built.{HasApp}
 use Rattle.nvme_words.proofs.program.program.Goals as goal
 
 pub returns : goal.returns
 returns c =
     let start : HasApp alone c.subcommand_required-program.result = search rules in
-    let one : HasApp (with_run alone) c.in_ok-with_run.field-0 = c.in_ok-with_run.ensures alone start in
+    let one = c.in_ok-with_run.ensures alone start in
     let two = c.in_ok-shown.ensures _ one in
     let three = c.with_file.ensures _ two in
     let four = c.in_ok-set.ensures _ settings refl three c.settings_command.ensures in

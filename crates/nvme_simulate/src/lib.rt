@@ -1,0 +1,27 @@
+//! The word `simulate` over streams: it runs a model to its end, writes the log of the finished commands, the trace of the
+//! picks and the answer, and says of a model whether more commands come than its device can run.
+#![tactic(auto)]
+
+mod digest;
+mod fault;
+mod loads;
+mod overrides;
+mod progress;
+mod runs;
+mod streams;
+mod trace;
+mod watch;
+
+pub use digest::Digest;
+pub use fault::{SimulateFault, Stream};
+pub use loads::{Overload, overload_of};
+pub use nvme_model::Model;
+pub use nvme_model_file::{ModelFault, Told, model_in, simulation_in};
+pub use overrides::{OverrideFault, Overrides};
+pub use progress::Progress;
+pub use runs::{Form, simulate};
+pub use streams::Streams;
+pub use trace::{put_pick, put_trace_head};
+
+#[cfg(test)]
+mod tests;

@@ -1,0 +1,85 @@
+// What a command line says in place of a simulation file.
+ghost use Rattle.std.specs.Prelude.{◌≡◌, IfOk, unwrap_or};
+
+use nvme_clock::{DurationFault, duration_in};
+use nvme_model::{End, EndFault, Model};
+use thiserror::Error;
+
+/// Why options are refused.
+#[derive(Clone, Copy, Debug, PartialEq, Eq, Error)]
+pub enum OverrideFault {
+    /// No simulation has so many commands.
+    #[error("--commands: {0}")]
+    Commands(EndFault),
+    /// The end is no duration.
+    #[error("--time: {0}")]
+    Time(DurationFault),
+    /// Both say when a simulation ends.
+    #[error("--commands and --time don't go together")]
+    TwoEnds,
+}
+
+/// What stands in place of what a simulation file says.
+#[derive(Clone, Copy, Debug, PartialEq, Eq)]
+pub struct Overrides {
+    /// The seed of all that is drawn.
+    pub seed: Option<u64>,
+    /// When no more commands come.
+    pub end: Option<End>,
+    /// How many of the commands that came first no number counts.
+    pub warm_up: Option<u64>,
+}
+
+// The end that options say: after so many commands, or at a time.
+fn end_of(commands: Option<u64>, time: Option<&str>) -> Result<Option<End>, OverrideFault> {
+    match (commands, time) {
+        (None, None) => Ok(None),
+        (Some(commands), None) => match End::after(commands) {
+            Ok(end) => Ok(Some(end)),
+            Err(fault) => Err(OverrideFault::Commands(fault)),
+        },
+        (None, Some(time)) => match duration_in(time) {
+            Ok(time) => Ok(Some(End::at(time))),
+            Err(fault) => Err(OverrideFault::Time(fault)),
+        },
+        (Some(_), Some(_)) => Err(OverrideFault::TwoEnds),
+    }
+}
+
+impl Overrides {
+    /// What these options say, of which each may be left out. The time is a duration, as `30s`.
+    pub fn new(
+        seed: Option<u64>,
+        commands: Option<u64>,
+        time: Option<&str>,
+        warm_up: Option<u64>,
+    ) -> Result<Overrides, OverrideFault>
+        ensures seed { IfOk result (λ o. o.seed ≡ seed) }
+        ensures warm_up { IfOk result (λ o. o.warm_up ≡ warm_up) }
+    {
+        let end = end_of(commands, time)?;
+        Ok(Overrides { seed, end, warm_up })
+    }
+
+    /// The model with these in place of its own.
+    pub fn applied(&self, mut model: Model) -> Model
+        ensures seed { result.seed ≡ unwrap_or self.now.seed model.seed }
+        ensures end { result.end ≡ unwrap_or self.now.end model.end }
+        ensures warm_up { result.warm_up ≡ unwrap_or self.now.warm_up model.warm_up }
+        ensures mechanism { result.mechanism ≡ model.mechanism }
+        ensures settings { result.settings ≡ model.settings }
+        ensures device { result.device ≡ model.device }
+        ensures queues { result.queues ≡ model.queues }
+    {
+        if let Some(seed) = self.seed {
+            model.seed = seed;
+        }
+        if let Some(end) = self.end {
+            model.end = end;
+        }
+        if let Some(warm_up) = self.warm_up {
+            model.warm_up = warm_up;
+        }
+        model
+    }
+}

@@ -1,0 +1,127 @@
+// Runs a model to its end.
+ghost use Rattle.nvme_simulation.specs.Simulations.{IsSimulation};
+
+use crate::digest::Digest;
+use crate::fault::{SimulateFault, Stream};
+use crate::streams::Streams;
+use crate::watch::Watch;
+use nvme_model::Model;
+use nvme_numbers::{About, Answer, Numbers};
+use nvme_simulation::{Happening, Simulation};
+use nvme_version::VERSION;
+use std::alloc::Global;
+use std::io::Write;
+
+/// How an answer is written.
+#[derive(Clone, Copy, Debug, PartialEq, Eq)]
+pub enum Form {
+    /// Tables for people.
+    Text,
+    /// One JSON object.
+    Json,
+    /// Comma-separated values.
+    Csv,
+}
+
+impl Form {
+    // Writes an answer so.
+    fn put<W: Write>(self, answer: &Answer, output: &mut W) -> Result<(), SimulateFault> {
+        let written = match self {
+            Form::Text => answer.write_text(output),
+            Form::Json => answer.write_json(output),
+            Form::Csv => answer.write_csv(output),
+        };
+        match written {
+            Ok(()) => Ok(()),
+            Err(_) => Err(SimulateFault::Write(Stream::Answer)),
+        }
+    }
+}
+
+// What a step came to.
+#[derive(Clone, Copy)]
+enum Stepped {
+    // A command is finished, at this time.
+    Finished(u64),
+    // Something else happened.
+    On,
+    // Nothing happens any more.
+    Over,
+}
+
+// What happens next is counted and written.
+fn step<L: Write, T: Write, P: Write>(
+    simulation: &mut Simulation,
+    watch: &mut Watch,
+    numbers: &mut Numbers,
+    streams: &mut Streams<L, T, P>,
+) -> Result<Stepped, SimulateFault>
+    requires stands { IsSimulation simulation.old }
+    ensures stands { IsSimulation simulation.new }
+{
+    if streams.trace.is_some() && simulation.picks() {
+        watch.look(simulation)?;
+    }
+    match simulation.step()? {
+        Happening::Picked(picked) => {
+            streams.pick(&picked, watch.seen())?;
+            Ok(Stepped::On)
+        }
+        Happening::Finished { command, counts } => {
+            streams.finish(&command)?;
+            if counts {
+                numbers.add(&command)?;
+            }
+            Ok(Stepped::Finished(command.times.done))
+        }
+        Happening::Over => Ok(Stepped::Over),
+        _ => Ok(Stepped::On),
+    }
+}
+
+// Runs a simulation until nothing happens any more. The answer is the time when the last command was finished, or 0: where
+// none comes any more, time goes on a little.
+fn run<L: Write, T: Write, P: Write>(
+    simulation: &mut Simulation,
+    watch: &mut Watch,
+    numbers: &mut Numbers,
+    streams: &mut Streams<L, T, P>,
+) -> Result<u64, SimulateFault>
+    requires stands { IsSimulation simulation.old }
+{
+    let mut end = 0;
+    for _ in 0..u64::MAX {
+        match step(simulation, watch, numbers, streams)? {
+            Stepped::Finished(time) => end = time,
+            Stepped::On => {}
+            Stepped::Over => break,
+        }
+    }
+    Ok(end)
+}
+
+/// Runs a model to its end, and writes its answer, with the digest of its file. What happens is written to the streams
+/// meanwhile.
+pub fn simulate<L: Write, T: Write, P: Write, W: Write>(
+    alloc: Global,
+    model: Model,
+    digest: &Digest,
+    form: Form,
+    streams: &mut Streams<L, T, P>,
+    output: &mut W,
+) -> Result<(), SimulateFault> {
+    let mut numbers = Numbers::new(alloc, &model)?;
+    let mut watch = Watch::new(alloc, &model);
+    streams.begin(&model)?;
+    let mut simulation = Simulation::new(alloc, model)?;
+    let ran = run(&mut simulation, &mut watch, &mut numbers, streams);
+    streams.progress.clear();
+    let end = ran?;
+    streams.end()?;
+    let about = About {
+        version: VERSION,
+        digest: digest.as_str(),
+    };
+    let answer = numbers.answer(end, simulation.channels(), about)?;
+    form.put(&answer, output)
+}

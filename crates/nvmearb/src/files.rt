@@ -1,0 +1,52 @@
+// Whole files: inputs that are read to their end, and answers that are written at once.
+ghost use Rattle.std.specs.Prelude.{◌≤◌, IfErr};
+
+use crate::kept::Kept;
+use crate::noted::{Noted, Notes};
+use crate::telling::{failed, no_memory, tell_input};
+use nvme_program::take_input;
+use std::fs;
+use std::io::{self, Write};
+use std::rt::Files;
+
+/// All of a file, or of standard input. Where it can't be read that is told, and the error is the exit status.
+pub(crate) fn taken<R: AllocGlobal + Files + Input, E: Write>(
+    rt: &R,
+    name: Option<&str>,
+    notes: &Notes,
+    errors: &mut E,
+) -> Result<Vec<u8>, u8>
+    ensures { IfErr result (λ status. status ≤ 4) }
+{
+    let alloc = rt.alloc();
+    let bytes = match name {
+        Some(name) => match fs::open(rt, name) {
+            Ok(file) => take_input(alloc, Noted::new(file, notes)),
+            Err(error) => return Err(failed("open", name, &error, errors)),
+        },
+        None => take_input(alloc, Noted::new(rt.reader(), notes)),
+    };
+    match bytes {
+        Ok(bytes) => Ok(bytes),
+        Err(error) => Err(tell_input(error, errors)),
+    }
+}
+
+// Writes a whole answer to a file. A file of this name is replaced.
+fn write_to<R: Files>(rt: &R, name: &str, answer: &[u8]) -> io::Result<()> {
+    let mut file = fs::create(rt, name)?;
+    file.write_all(answer)
+}
+
+/// Writes an answer to a file. The answer is the exit status.
+pub(crate) fn put_away<R: Files, E: Write>(rt: &R, name: &str, kept: &Kept, errors: &mut E) -> u8
+    ensures { result ≤ 4 }
+{
+    let Some(answer) = kept.answer() else {
+        return no_memory(errors);
+    };
+    match write_to(rt, name, answer) {
+        Ok(()) => 0,
+        Err(error) => failed("write", name, &error, errors),
+    }
+}
