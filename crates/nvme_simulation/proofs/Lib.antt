@@ -1,1 +1,4 @@
+mod Hosted
+mod Moves
 mod Pools
+mod Progress

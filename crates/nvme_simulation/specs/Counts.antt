@@ -3,7 +3,7 @@ use Rattle.std.specs.Prelude.{◌≡◌, ◌⊎◌, ℕ, ◌+◌}
 use Rattle.nvme_occupancy.specs.Occupancies.{Comes, Leaves}
 use Rattle.nvme_occupancy.specs.declared.occupancy.Occupancy.{Occupancy}
 use Rattle.nvme_simulation.specs.declared.happening.Happening.{Happening}
-use Rattle.nvme_simulation.specs.declared.happening.Happening.TheVariants.{Came, Picked, Settled, Finished, Paused, Resumed, Over}
+use Rattle.nvme_simulation.specs.declared.happening.Happening.TheVariants.{Came, Finished, Over}
 
 -- what happens changes the occupancy so: one more comes, or none any more; one is done; or it stays. At the end as many are done as came, so that the area is the
 -- sum of their latencies (Little's law)

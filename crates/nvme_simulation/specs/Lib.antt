@@ -1,6 +1,10 @@
 pub mod Counts
 pub mod Devices
 pub mod Fronts
+pub mod Passing
 pub mod Picks
+pub mod Progress
+pub mod Ranks
 pub mod Simulations
+pub mod Stages
 pub mod Times

@@ -4,7 +4,7 @@ use Rattle.nvme_log.specs.Rules.{FrontRules}
 use Rattle.nvme_ctrl.specs.Notes.{Notes}
 use Rattle.nvme_ctrl.specs.Steps.{IsNextPick, IsNextWithin}
 use Rattle.nvme_simulation.specs.declared.happening.Happening.{Happening}
-use Rattle.nvme_simulation.specs.declared.happening.Happening.TheVariants.{Came, Picked, Settled, Finished, Paused, Resumed, Over}
+use Rattle.nvme_simulation.specs.declared.happening.Happening.TheVariants.{Picked, Settled, Finished}
 
 -- a pick is told with its time, and a command is done at the time when that is told
 abbrev pub IsTimed : (now : ℕ) → Happening → Type 0

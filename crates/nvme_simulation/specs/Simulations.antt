@@ -6,6 +6,7 @@ use Rattle.nvme_occupancy.specs.declared.occupancy.Occupancy.{Occupancy}
 use Rattle.nvme_simulation.specs.Devices.{room_in}
 use Rattle.nvme_simulation.specs.Fronts.{IsFront, StandsBy}
 use Rattle.nvme_simulation.specs.Times.{now_of}
+use Rattle.nvme_simulation.specs.declared.hosts.Hosts.{Hosts}
 use Rattle.nvme_simulation.specs.declared.simulation.Simulation.{Simulation}
 
 -- the controller stands at some log
@@ -26,3 +27,7 @@ time_of s = now_of s.machine.agenda
 -- how many commands came and are done, and the area under the number between
 abbrev pub occupancy_of : Simulation → Occupancy
 occupancy_of s = s.occupancy
+
+-- its hosts, with their commands
+abbrev pub hosts_of : Simulation → Hosts
+hosts_of s = s.machine.hosts

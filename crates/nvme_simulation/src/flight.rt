@@ -1,7 +1,4 @@
 // The commands of a queue, from when they come until they are done.
-ghost use Rattle.std.specs.Prelude.{◌≡◌, ◌<◌, IfSome};
-ghost use Rattle.std.specs.VecDeque.{deque_len};
-
 use nvme_load::Operation;
 use nvme_model::{Finished, Times};
 use std::alloc::{AllocError, Global};
@@ -58,7 +55,14 @@ pub(crate) struct Flights {
 }
 
 impl Flights {
-    pub(crate) fn new(alloc: Global) -> Flights {
+    ghost use Rattle.std.specs.Prelude.{◌≡◌, ◌≤◌, ◌<◌, ◌-◌, None, Some, IfOk, IfSome, OnErr, OnOk, true, false};
+    ghost use Rattle.std.specs.VecDeque.{deque_len};
+    ghost use Rattle.nvme_simulation.specs.Stages.{AllDone, HasCome, Moves, Stays, none_came};
+    ghost use Rattle.nvme_simulation.specs.declared.flight.Stage.TheVariants as stage;
+
+    pub(crate) fn new(alloc: Global) -> Flights
+        ensures { none_came result }
+    {
         Flights {
             first: 0,
             kept: VecDeque::new(alloc),
@@ -69,6 +73,7 @@ impl Flights {
     // The place of a number among those that are kept.
     fn place(&self, number: u64) -> Option<usize>
         ensures within { IfSome result (λ place. place < deque_len self.now.kept) }
+        ensures from { IfSome result (λ place. (self.now.first ≤ number) × (place ≡ number - self.now.first)) }
     {
         let place = number.checked_sub(self.first)?;
         if place < self.kept.len() as u64 {
@@ -78,18 +83,18 @@ impl Flights {
         }
     }
 
-    // How many came.
-    pub(crate) fn came(&self) -> u64 {
-        self.first.saturating_add(self.kept.len() as u64)
-    }
-
     // Whether all that came are done.
-    pub(crate) fn are_done(&self) -> bool {
+    pub(crate) fn are_done(&self) -> bool
+        ensures { result ≡ true → AllDone self.now }
+    {
         self.kept.is_empty()
     }
 
     // A command comes.
-    pub(crate) fn come(&mut self, now: u64, request: Request) -> Result<(), AllocError> {
+    pub(crate) fn come(&mut self, now: u64, request: Request) -> Result<(), AllocError>
+        ensures ok { OnOk result (HasCome self.old self.new) }
+        ensures err { OnErr result (Stays self.old self.new) }
+    {
         let flight = Flight {
             request,
             stage: Stage::Came,
@@ -104,81 +109,88 @@ impl Flights {
         }
     }
 
-    // The next command is submitted, if one waits for that.
-    pub(crate) fn submit(&mut self, now: u64) -> Option<u64> {
-        let number = self.next;
+    // The command of a number goes on from a stage to the next one. None where it isn't at that stage.
+    fn go_on(&mut self, now: u64, number: u64, from: Stage) -> Option<Flight>
+        ensures moves { IfSome result (λ _. Moves number from self.old self.new) }
+        ensures none { result ≡ None → self.new ≡ self.old }
+    {
         let place = self.place(number)?;
-        if self.kept[place].stage != Stage::Came {
+        let flight = self.kept[place];
+        if flight.stage != from {
             return None;
         }
-        self.kept[place].stage = Stage::Submitted;
-        self.kept[place].submitted = now;
+        let next = flight.next(now);
+        self.kept[place] = next;
+        Some(next)
+    }
+
+    // The next command is submitted, if one waits for that.
+    pub(crate) fn submit(&mut self, now: u64) -> Option<u64>
+        ensures moves { IfSome result (λ number. Moves number stage.Came self.old self.new) }
+        ensures none { result ≡ None → self.new ≡ self.old }
+    {
+        let number = self.next;
+        self.go_on(now, number, Stage::Came)?;
         self.next = number.saturating_add(1);
         Some(number)
     }
 
     // A command that is submitted is read.
-    pub(crate) fn fetch(&mut self, number: u64) -> Option<Request> {
-        let place = self.place(number)?;
-        if self.kept[place].stage != Stage::Submitted {
-            return None;
-        }
-        self.kept[place].stage = Stage::Fetched;
-        Some(self.kept[place].request)
+    pub(crate) fn fetch(&mut self, number: u64) -> Option<Request>
+        ensures moves { IfSome result (λ _. Moves number stage.Submitted self.old self.new) }
+        ensures none { result ≡ None → self.new ≡ self.old }
+    {
+        let flight = self.go_on(0, number, Stage::Submitted)?;
+        Some(flight.request)
     }
 
     // A command that was read is picked.
-    pub(crate) fn pick(&mut self, now: u64, number: u64) -> Option<Request> {
-        let place = self.place(number)?;
-        if self.kept[place].stage != Stage::Fetched {
-            return None;
-        }
-        self.kept[place].stage = Stage::Picked;
-        self.kept[place].picked = now;
-        Some(self.kept[place].request)
+    pub(crate) fn pick(&mut self, now: u64, number: u64) -> Option<Request>
+        ensures moves { IfSome result (λ _. Moves number stage.Fetched self.old self.new) }
+        ensures none { result ≡ None → self.new ≡ self.old }
+    {
+        let flight = self.go_on(now, number, Stage::Fetched)?;
+        Some(flight.request)
     }
 
     // A command that is picked starts. False where there is none of this number.
-    pub(crate) fn start(&mut self, now: u64, number: u64) -> bool {
-        let Some(place) = self.place(number) else {
-            return false;
-        };
-        if self.kept[place].stage != Stage::Picked {
-            return false;
-        }
-        self.kept[place].stage = Stage::Started;
-        self.kept[place].started = now;
-        true
+    pub(crate) fn start(&mut self, now: u64, number: u64) -> bool
+        ensures moves { result ≡ true → Moves number stage.Picked self.old self.new }
+        ensures none { result ≡ false → self.new ≡ self.old }
+    {
+        self.go_on(now, number, Stage::Picked).is_some()
     }
 
     // A command that runs is done.
-    pub(crate) fn finish(&mut self, number: u64) -> Option<Flight> {
-        let place = self.place(number)?;
-        if self.kept[place].stage != Stage::Started {
-            return None;
-        }
-        self.kept[place].stage = Stage::Done;
-        let done = self.kept[place];
+    pub(crate) fn finish(&mut self, number: u64) -> Option<Flight>
+        ensures moves { IfSome result (λ _. Moves number stage.Started self.old self.new) }
+        ensures none { result ≡ None → self.new ≡ self.old }
+    {
+        let flight = self.go_on(0, number, Stage::Started)?;
         self.forget();
-        Some(done)
+        Some(flight)
     }
 
     // The first one that is kept is forgotten, if it is done.
-    fn forget_one(&mut self) -> bool {
+    fn forget_one(&mut self) -> bool
+        ensures { Stays self.old self.new }
+    {
         let Some(flight) = self.kept.front() else {
             return false;
         };
-        if flight.stage != Stage::Done {
+        if flight.stage != Stage::Done || self.first == u64::MAX {
             return false;
         }
         self.kept.pop_front();
-        self.first = self.first.saturating_add(1);
+        self.first += 1;
         true
     }
 
     // Those that are done and come before all others are forgotten.
-    fn forget(&mut self) {
-        for _ in 0..self.kept.len() {
+    fn forget(&mut self)
+        ensures { Stays self.old self.new }
+    {
+        for _turn in 0..self.kept.len() {
             if !self.forget_one() {
                 return;
             }
@@ -187,6 +199,40 @@ impl Flights {
 }
 
 impl Flight {
+    ghost use Rattle.std.specs.Prelude.{◌≡◌, IfSome};
+    ghost use Rattle.nvme_simulation.specs.Ranks.{next_stage};
+
+    // The command at the next stage, to which it comes now.
+    fn next(&self, now: u64) -> Flight
+        ensures { result.stage ≡ next_stage self.now.stage }
+    {
+        match self.stage {
+            Stage::Came => Flight {
+                stage: Stage::Submitted,
+                submitted: now,
+                ..*self
+            },
+            Stage::Submitted => Flight {
+                stage: Stage::Fetched,
+                ..*self
+            },
+            Stage::Fetched => Flight {
+                stage: Stage::Picked,
+                picked: now,
+                ..*self
+            },
+            Stage::Picked => Flight {
+                stage: Stage::Started,
+                started: now,
+                ..*self
+            },
+            _ => Flight {
+                stage: Stage::Done,
+                ..*self
+            },
+        }
+    }
+
     // What is told of it where it is done. None where its times don't follow one another.
     pub(crate) fn told(
         &self,
@@ -195,7 +241,9 @@ impl Flight {
         channel: usize,
         done: u64,
     ) -> Option<Finished>
-        ensures { IfSome result (λ f. f.times.done ≡ done) }
+        ensures done { IfSome result (λ f. f.times.done ≡ done) }
+        ensures queue { IfSome result (λ f. f.queue ≡ queue) }
+        ensures number { IfSome result (λ f. f.number ≡ number) }
     {
         let times = Times::new(self.came, self.submitted, self.picked, self.started, done)?;
         Some(Finished {

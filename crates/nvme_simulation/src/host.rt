@@ -48,6 +48,10 @@ pub(crate) struct Host {
 }
 
 impl Host {
+    ghost use Rattle.std.specs.Prelude.{◌≡◌, None, IfSome, true};
+    ghost use Rattle.nvme_simulation.specs.Progress.{EndsOne, GoOn};
+    ghost use Rattle.nvme_simulation.specs.Stages.{AllDone};
+
     // The host of a queue, which begins at time 0.
     pub(crate) fn new(
         alloc: Global,
@@ -88,7 +92,9 @@ impl Host {
     }
 
     // Whether all its commands that came are done.
-    pub(crate) fn is_done(&self) -> bool {
+    pub(crate) fn is_done(&self) -> bool
+        ensures { result ≡ true → AllDone self.now.flights }
+    {
         self.flights.are_done()
     }
 
@@ -103,12 +109,16 @@ impl Host {
     }
 
     // When a command comes behind one that came at this time, or behind a completion at this time.
-    pub(crate) fn next_after(&mut self, time: u64) -> Option<u64> {
+    pub(crate) fn next_after(&mut self, time: u64) -> Option<u64>
+        ensures flights { self.new.flights ≡ self.old.flights }
+    {
         self.arrivals.next_after(time, &mut self.streams.arrivals)
     }
 
     // Where a command lies, and how many blocks it has.
-    fn place(&mut self, operation: Operation) -> (u64, u32) {
+    fn place(&mut self, operation: Operation) -> (u64, u32)
+        ensures flights { self.new.flights ≡ self.old.flights }
+    {
         if operation == Operation::Flush {
             return (0, 0);
         }
@@ -117,7 +127,9 @@ impl Host {
     }
 
     // What the next command asks for. None where it would run for 2^64 picoseconds or longer.
-    fn draw(&mut self, counts: bool) -> Option<Request> {
+    fn draw(&mut self, counts: bool) -> Option<Request>
+        ensures flights { self.new.flights ≡ self.old.flights }
+    {
         let operation = self.mix.draw(&mut self.streams.operations);
         let (block, blocks) = self.place(operation);
         let service = self
@@ -133,7 +145,9 @@ impl Host {
     }
 
     // A command comes, and waits for a slot of the ring.
-    pub(crate) fn come(&mut self, now: u64, counts: bool) -> Result<(), SimulationFault> {
+    pub(crate) fn come(&mut self, now: u64, counts: bool) -> Result<(), SimulationFault>
+        ensures goes { GoOn self.old.flights self.new.flights }
+    {
         let Some(request) = self.draw(counts) else {
             return Err(SimulationFault::TooLong);
         };
@@ -144,7 +158,9 @@ impl Host {
     }
 
     // Puts the next command that waits into the ring, where the host knows a free slot. Whether it did.
-    fn submit_one(&mut self, now: u64) -> bool {
+    fn submit_one(&mut self, now: u64) -> bool
+        ensures goes { GoOn self.old.flights self.new.flights }
+    {
         let next = slot_behind(self.tail, self.slots);
         let tail = usize::from(self.tail);
         if next == self.head || tail >= self.ring.len() {
@@ -159,9 +175,12 @@ impl Host {
     }
 
     // Puts all commands that wait into the ring, as far as it has free slots. The answer is the new tail, if it moved.
-    pub(crate) fn submit(&mut self, now: u64) -> Option<u16> {
+    #[tactic(auto, using(crate::proofs::Progress::and_then))]
+    pub(crate) fn submit(&mut self, now: u64) -> Option<u16>
+        ensures goes { GoOn self.old.flights self.new.flights }
+    {
         let mut rings = false;
-        for _ in 0..self.ring.len() {
+        for _turn in 0..self.ring.len() {
             if !self.submit_one(now) {
                 break;
             }
@@ -171,7 +190,9 @@ impl Host {
     }
 
     // The controller reads the command in a slot of the ring: its number and its entry.
-    pub(crate) fn fetch(&mut self, slot: u16) -> Result<(u32, Sqe), SimulationFault> {
+    pub(crate) fn fetch(&mut self, slot: u16) -> Result<(u32, Sqe), SimulationFault>
+        ensures goes { GoOn self.old.flights self.new.flights }
+    {
         let Some(number) = self.ring.get(usize::from(slot)).copied() else {
             return Err(SimulationFault::Broken(Broken::Slot));
         };
@@ -182,17 +203,24 @@ impl Host {
     }
 
     // A command is picked: what it asks for.
-    pub(crate) fn pick(&mut self, now: u64, number: u32) -> Option<Request> {
+    pub(crate) fn pick(&mut self, now: u64, number: u32) -> Option<Request>
+        ensures goes { GoOn self.old.flights self.new.flights }
+    {
         self.flights.pick(now, u64::from(number))
     }
 
     // A command starts on a channel. False where it isn't picked, or runs.
-    pub(crate) fn start(&mut self, now: u64, number: u32) -> bool {
+    pub(crate) fn start(&mut self, now: u64, number: u32) -> bool
+        ensures goes { GoOn self.old.flights self.new.flights }
+    {
         self.flights.start(now, u64::from(number))
     }
 
     // A command is done.
-    pub(crate) fn finish(&mut self, number: u32) -> Option<Flight> {
+    pub(crate) fn finish(&mut self, number: u32) -> Option<Flight>
+        ensures ends { IfSome result (λ _. EndsOne number self.old.flights self.new.flights) }
+        ensures none { result ≡ None → GoOn self.old.flights self.new.flights }
+    {
         self.flights.finish(u64::from(number))
     }
 
@@ -202,7 +230,9 @@ impl Host {
     }
 
     // A completion comes, which tells how far the controller has read. The answer is the new head of its ring.
-    pub(crate) fn completed(&mut self, sqhd: u16) -> u16 {
+    pub(crate) fn completed(&mut self, sqhd: u16) -> u16
+        ensures flights { self.new.flights ≡ self.old.flights }
+    {
         self.head = sqhd;
         self.read = slot_behind(self.read, self.slots);
         self.read

@@ -1,5 +1,5 @@
 // The hosts of all queues, by the identifiers of their queues.
-ghost use Rattle.std.specs.Prelude.{◌<◌, IfSome, vec_len};
+ghost use Rattle.std.specs.Prelude.{◌≡◌, ◌<◌, ◌+◌, IfSome, OnOk, true, vec_len};
 ghost use Rattle.nvme_simulation.specs.Fronts.{IsFront};
 
 use crate::creates::AdminHost;
@@ -20,6 +20,8 @@ pub(crate) struct Hosts {
 const NO_COMMAND: SimulationFault = SimulationFault::Broken(Broken::Command);
 
 impl Hosts {
+    ghost use Rattle.nvme_simulation.specs.Progress.{AllGoOn, AreDone, OneEnds};
+
     // The hosts of queues, of the identifiers 1, 2 and so on, which are created.
     pub(crate) fn new(
         alloc: Global,
@@ -51,6 +53,7 @@ impl Hosts {
     // The place of the host of a queue.
     fn place(&self, qid: u16) -> Option<usize>
         ensures within { IfSome result (λ place. place < vec_len self.now.all) }
+        ensures behind { IfSome result (λ place. qid ≡ place + 1) }
     {
         let place = usize::from(qid).checked_sub(1)?;
         if place < self.all.len() {
@@ -67,7 +70,9 @@ impl Hosts {
     }
 
     // Whether all commands that came are done.
-    pub(crate) fn are_done(&self) -> bool {
+    pub(crate) fn are_done(&self) -> bool
+        ensures { result ≡ true → AreDone self.now }
+    {
         self.all.iter().all(|host| host.is_done())
     }
 
@@ -88,13 +93,17 @@ impl Hosts {
     }
 
     // When a command of a queue comes behind this time.
-    pub(crate) fn next_after(&mut self, qid: u16, time: u64) -> Option<u64> {
+    pub(crate) fn next_after(&mut self, qid: u16, time: u64) -> Option<u64>
+        ensures goes { AllGoOn self.old self.new }
+    {
         let place = self.place(qid)?;
         self.all[place].next_after(time)
     }
 
     // A command of a queue comes.
-    pub(crate) fn come(&mut self, now: u64, qid: u16, counts: bool) -> Result<(), SimulationFault> {
+    pub(crate) fn come(&mut self, now: u64, qid: u16, counts: bool) -> Result<(), SimulationFault>
+        ensures goes { AllGoOn self.old self.new }
+    {
         let Some(place) = self.place(qid) else {
             return Err(NO_COMMAND);
         };
@@ -102,13 +111,17 @@ impl Hosts {
     }
 
     // The host of a queue submits what its ring has room for. The answer is the new tail, if it moved.
-    pub(crate) fn submit(&mut self, now: u64, qid: u16) -> Option<u16> {
+    pub(crate) fn submit(&mut self, now: u64, qid: u16) -> Option<u16>
+        ensures goes { AllGoOn self.old self.new }
+    {
         let place = self.place(qid)?;
         self.all[place].submit(now)
     }
 
     // The controller reads the command in a slot of the ring of a queue: its number and its entry.
-    pub(crate) fn fetch(&mut self, qid: u16, slot: u16) -> Result<(u32, Sqe), SimulationFault> {
+    pub(crate) fn fetch(&mut self, qid: u16, slot: u16) -> Result<(u32, Sqe), SimulationFault>
+        ensures goes { AllGoOn self.old self.new }
+    {
         let Some(place) = self.place(qid) else {
             return Err(NO_COMMAND);
         };
@@ -121,7 +134,9 @@ impl Hosts {
         now: u64,
         qid: u16,
         number: u32,
-    ) -> Result<Request, SimulationFault> {
+    ) -> Result<Request, SimulationFault>
+        ensures goes { AllGoOn self.old self.new }
+    {
         let Some(place) = self.place(qid) else {
             return Err(NO_COMMAND);
         };
@@ -132,7 +147,9 @@ impl Hosts {
     }
 
     // A command starts.
-    pub(crate) fn start(&mut self, now: u64, qid: u16, number: u32) -> Result<(), SimulationFault> {
+    pub(crate) fn start(&mut self, now: u64, qid: u16, number: u32) -> Result<(), SimulationFault>
+        ensures goes { AllGoOn self.old self.new }
+    {
         let Some(place) = self.place(qid) else {
             return Err(NO_COMMAND);
         };
@@ -144,7 +161,9 @@ impl Hosts {
     }
 
     // A command is done.
-    pub(crate) fn finish(&mut self, qid: u16, number: u32) -> Result<Flight, SimulationFault> {
+    pub(crate) fn finish(&mut self, qid: u16, number: u32) -> Result<Flight, SimulationFault>
+        ensures ends { OnOk result (OneEnds qid number self.old self.new) }
+    {
         let Some(place) = self.place(qid) else {
             return Err(NO_COMMAND);
         };
@@ -155,7 +174,9 @@ impl Hosts {
     }
 
     // A completion of a queue comes, which tells how far the controller has read. The answer is the new head of its ring.
-    pub(crate) fn completed(&mut self, qid: u16, sqhd: u16) -> Option<u16> {
+    pub(crate) fn completed(&mut self, qid: u16, sqhd: u16) -> Option<u16>
+        ensures goes { AllGoOn self.old self.new }
+    {
         let place = self.place(qid)?;
         Some(self.all[place].completed(sqhd))
     }

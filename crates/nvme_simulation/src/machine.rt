@@ -30,23 +30,29 @@ impl Machine {
     ghost use Rattle.nvme_simulation.specs.Counts.{Counts};
     ghost use Rattle.nvme_simulation.specs.Devices.{room_in};
     ghost use Rattle.nvme_simulation.specs.Fronts.{IsFront, StandsBy};
+    ghost use Rattle.nvme_simulation.specs.Passing.{Passes};
+    ghost use Rattle.nvme_simulation.specs.Progress.{AllGoOn, OneEnds};
     ghost use Rattle.nvme_simulation.specs.Times.{now_of};
 
     // A host submits all commands that its ring has room for, and the controller reads what it may.
+    #[tactic(auto, using(crate::proofs::Hosted::all_then, crate::proofs::Hosted::all_stay))]
     pub(crate) fn submit(&mut self, qid: u16) -> Result<(), SimulationFault>
         requires front { IsFront self.old.front }
         ensures front { IsFront self.new.front }
         ensures time { now_of self.new.agenda ≡ now_of self.old.agenda }
+        ensures goes { AllGoOn self.old.hosts self.new.hosts }
     {
         self.ring(qid)?;
         self.fetch(qid)
     }
 
     // A host puts all commands into its ring that it has room for, and rings the doorbell where it did.
+    #[tactic(auto, using(crate::proofs::Hosted::all_then, crate::proofs::Hosted::all_stay))]
     fn ring(&mut self, qid: u16) -> Result<(), SimulationFault>
         requires front { IsFront self.old.front }
         ensures front { IsFront self.new.front }
         ensures time { now_of self.new.agenda ≡ now_of self.old.agenda }
+        ensures goes { AllGoOn self.old.hosts self.new.hosts }
     {
         let Some(tail) = self.hosts.submit(self.agenda.now(), qid) else {
             return Ok(());
@@ -59,10 +65,12 @@ impl Machine {
     }
 
     // The controller reads a command of a queue, if it may. Whether it did.
+    #[tactic(auto, using(crate::proofs::Hosted::all_then, crate::proofs::Hosted::all_stay))]
     fn fetch_one(&mut self, qid: u16) -> Result<bool, SimulationFault>
         requires front { IsFront self.old.front }
         ensures front { IsFront self.new.front }
         ensures time { now_of self.new.agenda ≡ now_of self.old.agenda }
+        ensures goes { AllGoOn self.old.hosts self.new.hosts }
     {
         let Some(slot) = self.front.next_slot(qid) else {
             return Ok(false);
@@ -76,10 +84,12 @@ impl Machine {
     }
 
     // The controller reads all commands of a queue that it may.
+    #[tactic(auto, using(crate::proofs::Hosted::all_then, crate::proofs::Hosted::all_stay))]
     fn fetch(&mut self, qid: u16) -> Result<(), SimulationFault>
         requires front { IsFront self.old.front }
         ensures front { IsFront self.new.front }
         ensures time { now_of self.new.agenda ≡ now_of self.old.agenda }
+        ensures goes { AllGoOn self.old.hosts self.new.hosts }
     {
         for _turn in 0..u16::MAX {
             if !self.fetch_one(qid)? {
@@ -90,10 +100,12 @@ impl Machine {
     }
 
     // A command starts on a channel, if one does.
+    #[tactic(auto, using(crate::proofs::Hosted::all_then, crate::proofs::Hosted::all_stay))]
     fn start(&mut self, started: Option<Started>) -> Result<(), SimulationFault>
         requires front { IsFront self.old.front }
         ensures front { IsFront self.new.front }
         ensures time { now_of self.new.agenda ≡ now_of self.old.agenda }
+        ensures goes { AllGoOn self.old.hosts self.new.hosts }
     {
         let Some(started) = started else {
             return Ok(());
@@ -106,10 +118,12 @@ impl Machine {
     }
 
     // The device takes a command of a queue that is picked.
+    #[tactic(auto, using(crate::proofs::Hosted::all_then, crate::proofs::Hosted::all_stay))]
     fn take(&mut self, qid: u16) -> Result<(), SimulationFault>
         requires front { IsFront self.old.front }
         ensures front { IsFront self.new.front }
         ensures time { now_of self.new.agenda ≡ now_of self.old.agenda }
+        ensures goes { AllGoOn self.old.hosts self.new.hosts }
     {
         let now = self.agenda.now();
         let Some(taken) = self.front.take(qid) else {
@@ -123,10 +137,12 @@ impl Machine {
     }
 
     // The device takes the commands of a pick.
+    #[tactic(auto, using(crate::proofs::Hosted::all_then, crate::proofs::Hosted::all_stay))]
     fn take_all(&mut self, pick: &Pick) -> Result<(), SimulationFault>
         requires front { IsFront self.old.front }
         ensures front { IsFront self.new.front }
         ensures time { now_of self.new.agenda ≡ now_of self.old.agenda }
+        ensures goes { AllGoOn self.old.hosts self.new.hosts }
     {
         for _turn in 0..pick.n {
             self.take(pick.qid)?;
@@ -136,6 +152,7 @@ impl Machine {
 
     // The next pick, whose commands the device takes. Then the controller reads what its window has room for. Or that no
     // command can be picked: none waits, or the device has no room.
+    #[tactic(auto, using(crate::proofs::Hosted::all_then, crate::proofs::Hosted::all_stay))]
     pub(crate) fn pick(&mut self) -> Result<Happening, SimulationFault>
         requires front { IsFront self.old.front }
         ensures front { IsFront self.new.front }
@@ -143,6 +160,8 @@ impl Machine {
         ensures timed { IfOk result (IsTimed (now_of self.old.agenda)) }
         ensures counts { (now : ℕ) (occupancy : Occupancy) → IfOk result (Counts now occupancy occupancy) }
         ensures lawful { (rules : FrontRules) (late : Bool) (notes : Notes) → StandsBy rules late notes self.old.front → IfOk result (IsLawful rules notes (room_in self.old.device)) }
+        ensures goes { AllGoOn self.old.hosts self.new.hosts }
+        ensures passes { IfOk result (Passes self.old.hosts self.new.hosts) }
     {
         let room = self.device.room();
         match self.front.pick(room) {
@@ -172,10 +191,12 @@ impl Machine {
     }
 
     // The device answers a command, and its completion comes to its host, which reads it.
+    #[tactic(auto, using(crate::proofs::Hosted::all_then, crate::proofs::Hosted::all_stay))]
     fn collect(&mut self, taken: Taken) -> Result<(), SimulationFault>
         requires front { IsFront self.old.front }
         ensures front { IsFront self.new.front }
         ensures time { now_of self.new.agenda ≡ now_of self.old.agenda }
+        ensures goes { AllGoOn self.old.hosts self.new.hosts }
     {
         if !self.front.complete(taken.tag) {
             return Err(NO_COMMAND);
@@ -201,6 +222,7 @@ impl Machine {
         requires front { IsFront self.old.front }
         ensures front { IsFront self.new.front }
         ensures time { now_of self.new.agenda ≡ now_of self.old.agenda }
+        ensures ends { IfOk result (λ done. OneEnds done.0.qid done.0.number self.old.hosts self.new.hosts) }
     {
         let (taken, started) = self.device.finish(self.agenda.now(), channel)?;
         self.start(started)?;
@@ -210,10 +232,12 @@ impl Machine {
     }
 
     // No command starts on a channel until it goes on, after this time.
+    #[tactic(auto, using(crate::proofs::Hosted::all_then, crate::proofs::Hosted::all_stay))]
     pub(crate) fn pause(&mut self, channel: usize, length: u64) -> Result<(), SimulationFault>
         requires front { IsFront self.old.front }
         ensures front { IsFront self.new.front }
         ensures time { now_of self.new.agenda ≡ now_of self.old.agenda }
+        ensures goes { AllGoOn self.old.hosts self.new.hosts }
     {
         self.device.pause(channel)?;
         let end = self.agenda.now().checked_add(length);
@@ -221,30 +245,36 @@ impl Machine {
     }
 
     // A channel goes on, and a command may start there.
+    #[tactic(auto, using(crate::proofs::Hosted::all_then, crate::proofs::Hosted::all_stay))]
     pub(crate) fn resume(&mut self, channel: usize) -> Result<(), SimulationFault>
         requires front { IsFront self.old.front }
         ensures front { IsFront self.new.front }
         ensures time { now_of self.new.agenda ≡ now_of self.old.agenda }
+        ensures goes { AllGoOn self.old.hosts self.new.hosts }
     {
         let started = self.device.resume(self.agenda.now(), channel)?;
         self.start(started)
     }
 
     // The next command of a queue comes behind this time.
+    #[tactic(auto, using(crate::proofs::Hosted::all_then, crate::proofs::Hosted::all_stay))]
     pub(crate) fn follow(&mut self, qid: u16, time: u64) -> Result<(), SimulationFault>
         requires front { IsFront self.old.front }
         ensures front { IsFront self.new.front }
         ensures time { now_of self.new.agenda ≡ now_of self.old.agenda }
+        ensures goes { AllGoOn self.old.hosts self.new.hosts }
     {
         let next = self.hosts.next_after(qid, time);
         self.agenda.plan(next, Event::Arrival(qid))
     }
 
     // A command of a queue comes, and the next one behind it, but where that waits for a completion.
+    #[tactic(auto, using(crate::proofs::Hosted::all_then, crate::proofs::Hosted::all_stay))]
     pub(crate) fn come(&mut self, qid: u16, counts: bool) -> Result<(), SimulationFault>
         requires front { IsFront self.old.front }
         ensures front { IsFront self.new.front }
         ensures time { now_of self.new.agenda ≡ now_of self.old.agenda }
+        ensures goes { AllGoOn self.old.hosts self.new.hosts }
     {
         let now = self.agenda.now();
         self.hosts.come(now, qid, counts)?;

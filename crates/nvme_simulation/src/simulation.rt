@@ -32,8 +32,10 @@ impl Simulation {
     ghost use Rattle.nvme_ctrl.specs.Notes.{Notes};
     ghost use Rattle.nvme_occupancy.specs.Occupancies.{Comes, Leaves};
     ghost use Rattle.nvme_simulation.specs.Counts.{Counts};
+    ghost use Rattle.nvme_simulation.specs.Passing.{Passes};
+    ghost use Rattle.nvme_simulation.specs.Progress.{AllGoOn};
     ghost use Rattle.nvme_simulation.specs.Picks.{IsLawful, IsTimed};
-    ghost use Rattle.nvme_simulation.specs.Simulations.{IsSimulation, StandsAt, occupancy_of, room_at, time_of};
+    ghost use Rattle.nvme_simulation.specs.Simulations.{IsSimulation, StandsAt, hosts_of, occupancy_of, room_at, time_of};
 
     /// A simulation of a model, at time 0. Its queues are created, and no command came.
     pub fn new(alloc: Global, model: Model) -> Result<Simulation, SimulationFault>
@@ -132,6 +134,7 @@ impl Simulation {
         ensures timed { IfOk result (IsTimed (time_of self.new)) }
         ensures counts { IfOk result (Counts (time_of self.new) self.old.occupancy self.new.occupancy) }
         ensures no_pick { (rules : FrontRules) (notes : Notes) (room : ℕ) → IfOk result (IsLawful rules notes room) }
+        ensures passes { IfOk result (Passes (hosts_of self.old) (hosts_of self.new)) }
     {
         if self.may_come() {
             let counts = self.occupancy.came >= self.warm_up;
@@ -151,6 +154,8 @@ impl Simulation {
         ensures machine { self.new.machine ≡ self.old.machine }
         ensures done { IfOk result (λ f. f.times.done ≡ time_of self.old) }
         ensures leaves { IfOk result (λ f. Leaves (time_of self.old) self.old.occupancy self.new.occupancy) }
+        ensures queue { IfOk result (λ f. f.queue ≡ taken.qid) }
+        ensures number { IfOk result (λ f. f.number ≡ taken.number) }
     {
         let number = u64::from(taken.number);
         match flight.told(taken.qid, number, channel, self.machine.agenda.now()) {
@@ -163,11 +168,13 @@ impl Simulation {
     }
 
     // A closed host has a completion: its next command comes when it thought, if one may come.
+    #[tactic(auto, using(crate::proofs::Hosted::all_stay))]
     fn think(&mut self, qid: u16) -> Result<(), SimulationFault>
         requires stands { IsSimulation self.old }
         ensures stands { IsSimulation self.new }
         ensures time { time_of self.new ≡ time_of self.old }
         ensures occupancy { self.new.occupancy ≡ self.old.occupancy }
+        ensures goes { AllGoOn (hosts_of self.old) (hosts_of self.new) }
     {
         if !self.machine.hosts.is_closed(qid) || !self.may_come() {
             return Ok(());
@@ -185,6 +192,7 @@ impl Simulation {
         ensures timed { IfOk result (IsTimed (time_of self.new)) }
         ensures counts { IfOk result (Counts (time_of self.new) self.old.occupancy self.new.occupancy) }
         ensures no_pick { (rules : FrontRules) (notes : Notes) (room : ℕ) → IfOk result (IsLawful rules notes room) }
+        ensures passes { IfOk result (Passes (hosts_of self.old) (hosts_of self.new)) }
     {
         let (taken, flight) = self.machine.finish(channel)?;
         let command = self.tell(taken, channel, &flight)?;
@@ -209,6 +217,7 @@ impl Simulation {
         ensures timed { IfOk result (IsTimed (time_of self.new)) }
         ensures counts { IfOk result (Counts (time_of self.new) self.old.occupancy self.new.occupancy) }
         ensures no_pick { (rules : FrontRules) (notes : Notes) (room : ℕ) → IfOk result (IsLawful rules notes room) }
+        ensures passes { IfOk result (Passes (hosts_of self.old) (hosts_of self.new)) }
     {
         if let Some(pauses) = self.pauses {
             self.machine.pause(channel, pauses.length)?;
@@ -224,6 +233,7 @@ impl Simulation {
         ensures timed { IfOk result (IsTimed (time_of self.new)) }
         ensures counts { IfOk result (Counts (time_of self.new) self.old.occupancy self.new.occupancy) }
         ensures no_pick { (rules : FrontRules) (notes : Notes) (room : ℕ) → IfOk result (IsLawful rules notes room) }
+        ensures passes { IfOk result (Passes (hosts_of self.old) (hosts_of self.new)) }
     {
         self.machine.resume(channel)?;
         if let Some(pauses) = self.pauses {
@@ -241,6 +251,7 @@ impl Simulation {
         ensures timed { IfOk result (IsTimed (time_of self.now)) }
         ensures counts { IfOk result (Counts (time_of self.now) self.now.occupancy self.now.occupancy) }
         ensures no_pick { (rules : FrontRules) (notes : Notes) (room : ℕ) → IfOk result (IsLawful rules notes room) }
+        ensures passes { IfOk result (Passes (hosts_of self.now) (hosts_of self.now)) }
     {
         if self.occupancy.count() == 0 && self.machine.hosts.are_done() {
             Ok(Happening::Over)
@@ -257,6 +268,7 @@ impl Simulation {
         ensures timed { IfOk result (IsTimed (time_of self.new)) }
         ensures counts { IfOk result (Counts (time_of self.new) self.old.occupancy self.new.occupancy) }
         ensures no_pick { (rules : FrontRules) (notes : Notes) (room : ℕ) → IfOk result (IsLawful rules notes room) }
+        ensures passes { IfOk result (Passes (hosts_of self.old) (hosts_of self.new)) }
     {
         match event {
             Event::Arrival(qid) => self.arrive(qid),
@@ -274,6 +286,7 @@ impl Simulation {
         ensures timed { IfOk result (IsTimed (time_of self.new)) }
         ensures counts { IfOk result (Counts (time_of self.new) self.old.occupancy self.new.occupancy) }
         ensures no_pick { (rules : FrontRules) (notes : Notes) (room : ℕ) → IfOk result (IsLawful rules notes room) }
+        ensures passes { IfOk result (Passes (hosts_of self.old) (hosts_of self.new)) }
     {
         let Some(event) = self.machine.agenda.pop() else {
             return self.over();
@@ -290,6 +303,7 @@ impl Simulation {
         ensures timed { IfOk result (IsTimed (time_of self.new)) }
         ensures lawful { (rules : FrontRules) (late : Bool) (notes : Notes) → StandsAt rules late notes self.old → IfOk result (IsLawful rules notes (room_at self.old)) }
         ensures counts { IfOk result (Counts (time_of self.new) self.old.occupancy self.new.occupancy) }
+        ensures passes { IfOk result (Passes (hosts_of self.old) (hosts_of self.new)) }
     {
         let happening = self.machine.pick()?;
         self.picks = matches!(happening, Happening::Picked(_));
@@ -304,6 +318,7 @@ impl Simulation {
         ensures timed { IfOk result (IsTimed (time_of self.new)) }
         ensures lawful { (rules : FrontRules) (late : Bool) (notes : Notes) → StandsAt rules late notes self.old → IfOk result (IsLawful rules notes (room_at self.old)) }
         ensures counts { IfOk result (Counts (time_of self.new) self.old.occupancy self.new.occupancy) }
+        ensures passes { IfOk result (Passes (hosts_of self.old) (hosts_of self.new)) }
     {
         if self.picks {
             self.pick()
