@@ -29,7 +29,7 @@ use Rattle.nvme_ctrl.specs.Notes.{Notes, Logged, logged, Kept}
 use Rattle.nvme_ctrl.specs.Doorbells.{submitted}
 use Rattle.nvme_ctrl.specs.Rings.{HasCounts}
 use Rattle.nvme_ctrl.specs.Account.{IsLawfulEvent, IsAccount, IsKept}
-use Rattle.nvme_ctrl.specs.Calls.{window_limit, MayFetch, HasFetched}
+use Rattle.nvme_ctrl.specs.Calls.{depth_of, MayFetch, HasFetched}
 use Rattle.nvme_ctrl.specs.Tags.{answer_of, holder, taken, is_out, all_fetches, all_posts, cookie_of}
 use Rattle.nvme_ctrl.specs.declared.chain.Chain.{Chain}
 use Rattle.nvme_ctrl.specs.declared.ring.Ring.{Ring}
@@ -108,7 +108,7 @@ pub record CanBeFetched (c : Controller) (t : QueueTable) (qid : ℕ) (e : SqEnt
   pub not_closing : e.closing ≡ false
   pub some_free : c.free.len ≢ 0
   pub some_submitted : filled (sq_at c.sqs qid).ring ≢ 0
-  pub in_window : waiting_in c qid < c.window
+  pub in_depth : waiting_in c qid + (sq_at c.sqs qid).unposted < depth_of c qid
   pub room : waiting_in c qid < window_of (sq_at c.sqs qid).ring.slots
 
 -- one is told so
@@ -126,7 +126,7 @@ told_fetchable c t tells qid e can =
         not_closing = closing_same e told_as.entry told_as.same ∙ can.not_closing;
         some_free = can.some_free;
         some_submitted = can.some_submitted;
-        in_window = can.in_window;
+        in_depth = can.in_depth;
         room = can.room;
       };
     }
@@ -159,12 +159,12 @@ module _ (rules : FrontRules) (late : Bool) (notes : Notes) (c : Controller) (sl
         let more = can.some_submitted in
         omega (arith, filled_up, more)
 
-    pub may_fetch : MayFetch rules notes (window_limit c) (length slots) qid (sq_at c.sqs qid).ring.head
+    pub may_fetch : MayFetch rules notes (depth_of c qid) (length slots) qid (sq_at c.sqs qid).ring.head
     may_fetch = record {
       queue = queue_of e;
       is_open = fetch_open;
       submitted = more_submitted;
-      in_window = rw (waits rules late notes c slots s qid e.region fetch_life) can.in_window;
+      in_depth = (let w = waits rules late notes c slots s qid e.region fetch_life in let u = (s.numbers.sqs qid e.region fetch_life).unposted in let all = s.holds.counts.unposted e.region in let room = can.in_depth in omega (arith, w, u, all, room));
       has_room = rw (waits rules late notes c slots s qid e.region fetch_life, ← slots_are rules late notes c slots s qid e.region fetch_life) can.room;
       some_free = let some = can.some_free in let count = s.tags.free_count in omega (arith, some, count);
       slot_is = fetch_counts.head_is ∙ ap (λ (n : ℕ). length (fetched (logged notes) e.region) % n) (slots_are rules late notes c slots s qid e.region fetch_life);
@@ -663,6 +663,6 @@ module _ (rules : FrontRules) (late : Bool) (notes : Notes) (c : Controller) (sl
     unfolding may_fetch
     has_fetched = record {
       slot = (sq_at c.sqs qid).ring.head;
-      may = subst (λ (n : ℕ). MayFetch rules notes (window_limit c) n qid (sq_at c.sqs qid).ring.head) (sym size) (may_fetch rules late notes c slots s qid e can);
+      may = subst (λ (n : ℕ). MayFetch rules notes (depth_of c qid) n qid (sq_at c.sqs qid).ring.head) (sym size) (may_fetch rules late notes c slots s qid e can);
       stands = subst (λ (n : ℕ). StandsAt rules late (Kept e.region n cookie ∷ Logged (Fetch e.region n entry) ∷ notes) after pool) index_is stands_now;
     }

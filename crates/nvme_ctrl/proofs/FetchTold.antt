@@ -12,7 +12,7 @@ use Rattle.nvme_log.specs.Laws.{as_open}
 use Rattle.nvme_ctrl.specs.Notes.{Notes, logged}
 use Rattle.nvme_ctrl.specs.Doorbells.{submitted}
 use Rattle.nvme_ctrl.specs.Rings.{HasCounts}
-use Rattle.nvme_ctrl.specs.Calls.{window_limit, MayFetch}
+use Rattle.nvme_ctrl.specs.Calls.{depth_of, MayFetch}
 use Rattle.nvme_ctrl.specs.declared.chain.Chain.{Chain}
 use Rattle.nvme_ctrl.specs.declared.slot.Slot.{Slot}
 use Rattle.nvme_ctrl.specs.declared.state.Controller.{Controller}
@@ -40,7 +40,7 @@ has_open (Some e) queue h = by e.closing refl h where
   by false is some = record { entry = e; is_there = refl; not_closing = is; queue_is = sym (same_Some (queue_of e) queue some) }
 
 module _ (rules : FrontRules) (late : Bool) (notes : Notes) (c : Controller) (slots : List Slot) (s : StandsAt rules late notes c slots)
-    (qid slot : ℕ) (m : MayFetch rules notes (window_limit c) (length slots) qid slot)
+    (qid slot : ℕ) (m : MayFetch rules notes (depth_of c qid) (length slots) qid slot)
   where
     pub in_table : HasOpen (s.content.table.sq qid) m.queue
     in_table = has_open (s.content.table.sq qid) m.queue (sym (s.holds.queues.sqs qid) ∙ m.is_open)
@@ -65,7 +65,7 @@ module _ (rules : FrontRules) (late : Bool) (notes : Notes) (c : Controller) (sl
           some_free = λ zero. (let count = s.tags.free_count in let some = m.some_free in omega (arith, zero, count, some));
           some_submitted = λ zero. (let all = filled-is (sq_at c.sqs qid).ring (length (fetched (logged notes) r)) (submitted rules notes r) counted in
               let more = m.submitted in omega (arith, all, zero, more));
-          in_window = rw (← waits rules late notes c slots s qid r told_life) m.in_window;
+          in_depth = (let w = waits rules late notes c slots s qid r told_life in let u = (s.numbers.sqs qid r told_life).unposted in let all = s.holds.counts.unposted r in let room = m.in_depth in omega (arith, w, u, all, room));
           room = rw (← waits rules late notes c slots s qid r told_life, slots_are rules late notes c slots s qid r told_life) m.has_room;
         }
 

@@ -1,9 +1,7 @@
 -- How many commands were fetched and have no completion posted: those that wait, and a bounded number of others.
-use Rattle.std.proofs.Common.{◌≡◌, ℕ, zero, suc, ◌+◌, ◌≤◌, ◌==◌, ◌&&◌, ◌||◌, not, nat_lt, Bool, true, false, List, [], ◌∷◌, length, sum_by, Option, Some, None, option_map, refl, sym, ap, ◌∙◌, subst, arith, inl, inr, true≢false, add-one}
-use Rattle.std.proofs.lemmas.Bool.{cases_eq, cases_lt, ne_eqb, and_parts, not-true}
+use Rattle.std.proofs.Common.{◌≡◌, ℕ, zero, suc, ◌+◌, ◌≤◌, ◌==◌, ◌&&◌, ◌||◌, not, nat_lt, Bool, true, false, List, [], ◌∷◌, length, sum_by, Option, Some, None, option_map, refl, sym, ap, ◌∙◌, arith, inl, inr}
+use Rattle.std.proofs.lemmas.Bool.{cases_lt, ne_eqb, and_parts, not-true}
 use Rattle.std.proofs.lemmas.List.{length_push}
-use Rattle.nvme_entry.specs.declared.submission.Sqe.{Sqe}
-use Rattle.nvme_log.specs.declared.event.Event.{Event}
 use Rattle.nvme_log.specs.declared.event.Event.TheVariants.{Fetch, Post}
 use Rattle.nvme_log.specs.Aborts.{is_abort_requested, is_aborted_with_queue}
 use Rattle.nvme_log.specs.Completions.{is_posted, takes_place, unposted_of}
@@ -12,17 +10,16 @@ use Rattle.nvme_log.specs.Limits.{max_outstanding}
 use Rattle.nvme_log.specs.Places.{fetched, waiting, places, picked, is_aborted, unaborted_below, fate_of, is_waiting, is_picked, one_if}
 use Rattle.nvme_log.specs.Rules.{FrontRules, Past, upto, sq_regions_of}
 use Rattle.nvme_log.proofs.Counting.{count_of-cons, count_of-push, counts_same, counts_less, counts_below, counts_change, fate_by}
-use Rattle.nvme_log.proofs.Turns.{stays}
-use Rattle.nvme_log.proofs.Waiting.{fetched-fetch, fetched-fetch_other, waiting-fetch_other}
-use Rattle.nvme_ctrl.specs.Laws.{HoldsFewSlots, FewHoldSlots, PoolsSuffice, IsFetchedWithin, all_waiting, all_dropped}
-use Rattle.nvme_ctrl.specs.Notes.{Notes, Logged, EachNote, logged}
+use Rattle.nvme_log.proofs.Waiting.{fetched-fetch, fetched-fetch_other}
+use Rattle.nvme_ctrl.specs.Laws.{HoldsFewSlots, FewHoldSlots, NoneDeleting, all_waiting, all_dropped}
+use Rattle.nvme_ctrl.specs.Notes.{logged}
 use Rattle.nvme_ctrl.specs.Tags.{all_fetches, all_posts}
 use Rattle.nvme_ctrl.specs.kept.Content.{Attachment, PendingDelete, Content}
 use Rattle.nvme_ctrl.specs.kept.Standing.{Holds, hand_of}
 use Rattle.nvme_ctrl.proofs.FewUnposted.{aborted-posted}
 use Rattle.nvme_ctrl.proofs.FurtherAccounts.{not_empty, fetched-before}
 use Rattle.nvme_ctrl.proofs.PostedPlaces.{posted_places, outstanding_of, posted_served, unposted_by}
-use Rattle.nvme_ctrl.proofs.Sums.{sum_less, sum_add, sum_none, sum_step, sum_more, sum_below, at_most}
+use Rattle.nvme_ctrl.proofs.Sums.{sum_less, sum_add, sum_none, sum_step, sum_more, at_most}
 
 -- ---- fetches and posts by region
 -- all that was fetched was fetched of some region
@@ -130,58 +127,18 @@ module _ (rules : FrontRules) (late : Bool) (past : Past) (k : Content) (s : Hol
       let two = sum_add (λ (r : ℕ). outstanding_of past r) (λ (r : ℕ). deleted_of past r) (λ (r : ℕ). outstanding_of past r + deleted_of past r) number (λ r lt. refl) in
       omega (arith, fetches, posts, all, unposted, parts, two, s.counts.outstanding_is, s.ready.few_taken)
 
-  pub few_held : HoldsFewSlots rules past
-  few_held = record {
-    always = held_by_few;
-    none_deleting = λ none. omega (arith, held_by_few, none_deleted (λ r. no_deletion (k.deletion r) (sym (s.deletion.place_is r) ∙ none r)));
-  } where
+  -- no deletion of a region is kept, where no queue is being deleted
+  pub not_deleted : NoneDeleting past → (r : ℕ) → k.deletion r ≡ None
+  not_deleted none r = no_deletion (k.deletion r) (sym (s.deletion.place_is r) ∙ none r) where
     no_deletion : (o : Option PendingDelete) → option_map (λ (d : PendingDelete). d.place.index) o ≡ None → o ≡ None
     no_deletion None e = refl
     no_deletion (Some d) e = cc
 
+  pub few_held : HoldsFewSlots rules past
+  few_held = record {
+    always = held_by_few;
+    none_deleting = λ none. omega (arith, held_by_few, none_deleted (not_deleted none));
+  }
+
 pub few_hold_slots : FewHoldSlots
 few_hold_slots rules late notes c slots s = few_held rules late (logged notes) s.content s.holds
-
--- ---- windows
--- an event but a fetch lets no more commands wait
-waits_less : (e : Event) (past : Past) (r : ℕ) → fetched (e ∷ past) r ≡ fetched past r → length (waiting (e ∷ past) r) ≤ length (waiting past r)
-waits_less e past r same =
-    let less = counts_less (λ (i : ℕ). is_waiting (fate_of (e ∷ past) r i)) (λ (i : ℕ). is_waiting (fate_of past r i)) (λ i waits. by i waits (is_waiting (fate_of past r i)) refl) (places (e ∷ past) r) in
-    let here : count_of (λ (i : ℕ). is_waiting (fate_of past r i)) (places (e ∷ past) r) ≡ length (waiting past r) =
-    ap (λ (xs : List Sqe). count_of (λ (i : ℕ). is_waiting (fate_of past r i)) (upto (length xs))) same in
-    omega (arith, less, here)
-  where
-    by : (i : ℕ) → is_waiting (fate_of (e ∷ past) r i) ≡ true → (b : Bool) → is_waiting (fate_of past r i) ≡ b → b ≡ true
-    by i waits true is = refl
-    by i waits false is = absurd (true≢false (sym waits ∙ stays e past r i is))
-
--- a fetch one more
-waits_more : (past : Past) (r i : ℕ) (entry : Sqe) → length (waiting (Fetch r i entry ∷ past) r) ≤ length (waiting past r) + 1
-waits_more past r i entry =
-    let test : ℕ → Bool = λ (j : ℕ). is_waiting (fate_of past r j) in
-    let size : length (fetched (Fetch r i entry ∷ past) r) ≡ suc (length (fetched past r)) =
-    ap length (fetched-fetch past r i entry) ∙ length_push (fetched past r) entry ∙ add-one (length (fetched past r)) in
-    let all : length (waiting (Fetch r i entry ∷ past) r) ≡ count_of test (upto (suc (length (fetched past r)))) = ap (λ (n : ℕ). count_of test (upto n)) size in
-    omega (arith, all, count_of-push test (upto (length (fetched past r))) (length (fetched past r)), at_most (test (length (fetched past r))))
-
--- so no more wait than the window has room for
-windows_kept : (window : ℕ) (notes : Notes) → EachNote (IsFetchedWithin window) notes → (r : ℕ) → length (waiting (logged notes) r) ≤ window
-windows_kept window [] h r = omega arith
-windows_kept window (Logged (Fetch region i entry) ∷ notes) h r = elim (cases_eq region r) [
-  | inl same ↦
-      let more = waits_more (logged notes) region i entry in
-      let room = h.0 in
-      subst (λ (x : ℕ). length (waiting (Fetch region i entry ∷ logged notes) x) ≤ window) same (omega (arith, more, room))
-  | inr other ↦ omega (arith, ap length (waiting-fetch_other (logged notes) region i entry r other), windows_kept window notes h.1 r)
-]
-windows_kept window (Logged e ∷ notes) h r = omega (arith, waits_less e (logged notes) r refl, windows_kept window notes h.1 r)
-windows_kept window (note ∷ notes) h r = windows_kept window notes h.1 r
-
-pub pools_suffice : PoolsSuffice
-pools_suffice rules late notes c slots qid queue window s within is_open none room size =
-    let past = logged notes in
-    let attached = s.holds.queues.attached qid queue is_open in
-    let there = s.holds.queues.sq_there queue.region _ attached.attached in
-    let waits = sum_below (λ (r : ℕ). length (waiting past r)) window queue.region (length (sq_regions_of rules)) (windows_kept window notes within) (omega (arith, there, s.holds.tabled.sq_number)) room in
-    let held = (few_held rules late past s.content s.holds).none_deleting none in
-    omega (arith, waits, held, size)

@@ -97,6 +97,7 @@ pub mod ComingRegions
 pub mod AddCalls
 pub mod Sums
 pub mod HeldSlots
+mod Depths
 pub mod Beginning
 pub mod NewCall
 pub mod OutEntries

@@ -197,14 +197,14 @@ no_chain-is : (slots : List Slot) → IsChain slots no_chain []
 no_chain-is slots = record { len_is = refl; inside = All-nil (λ (x : ℕ). x < length slots); apart = tt; linked = tt }
 
 -- a controller that was made
-abbrev pub made : PlacedTable → BoardFields → (sq_slots cq_slots window : ℕ) → Chain → Controller
-made table board sq_slots cq_slots window free = record {
+abbrev pub made : PlacedTable → BoardFields → (sq_slots cq_slots : ℕ) (depths : List ℕ) → Chain → Controller
+made table board sq_slots cq_slots depths free = record {
   table = table;
   board = board;
   sqs = first_sq_states sq_slots;
   cqs = first_cq_states cq_slots;
   free = free;
-  window = window;
+  depths = depths;
   outstanding = 0;
   picked = 0;
   picked_qid = 0;
@@ -214,7 +214,7 @@ made table board sq_slots cq_slots window free = record {
 }
 
 module _ (rules : FrontRules) (mechanism : Mechanism) (settings : ArbitrationFields) (table : PlacedTable) (sq_slots cq_slots : ℕ)
-    (first : IsFirst rules mechanism settings table sq_slots cq_slots) (board : BoardFields) (window : ℕ) (slots : List Slot) (free : Chain) (n : ℕ)
+    (first : IsFirst rules mechanism settings table sq_slots cq_slots) (board : BoardFields) (depths : List ℕ) (slots : List Slot) (free : Chain) (n : ℕ)
     (stands : BoardStandsAt mechanism settings [] (board_of board))
     (queues : (board_of board).queues ≡ slice_set (replicate queue_limit None) 0 (Some (record { class = Admin; count = 0 })))
     (arbiter : IsTrue (is_arbiter board.arbiter))
@@ -222,7 +222,7 @@ module _ (rules : FrontRules) (mechanism : Mechanism) (settings : ArbitrationFie
     (chain : IsChain slots free (upto n)) (all_free : (x : ℕ) → (slot_at slots x).state ≡ 0) (few : length slots < 2 ^ 16) (size : length slots ≡ n)
   where
     abbrev c : Controller
-    c = made table board sq_slots cq_slots window free
+    c = made table board sq_slots cq_slots depths free
 
     abbrev k : Content
     k = first_content rules (board_of board)

@@ -1,5 +1,5 @@
--- Which commands are the device's is nothing that a log tells.
-use Rattle.std.proofs.Common.{Bool, List}
+-- Which commands are the device's, and how deep queues are, is nothing that a log tells.
+use Rattle.std.proofs.Common.{ℕ, Bool, List}
 use Rattle.nvme_log.specs.Rules.{FrontRules}
 use Rattle.nvme_ctrl.specs.Notes.{Notes}
 use Rattle.nvme_ctrl.specs.Standing.{IsController}
@@ -9,10 +9,10 @@ use Rattle.nvme_ctrl.specs.declared.state.Controller.{Controller}
 use Rattle.nvme_ctrl.specs.kept.Kept.{StandsAt}
 use Rattle.nvme_ctrl.proofs.QueueStates.{sq_with, sq_of_with}
 
--- a controller stands where it stood, whatever is the device's
-pub owned : (rules : FrontRules) (late : Bool) (notes : Notes) (c : Controller) (slots : List Slot) (own : OwnCommands) → StandsAt rules late notes c slots
-    → StandsAt rules late notes (record c { own = own }) slots
-owned rules late notes c slots own s = record {
+-- a controller stands where it stood, whatever is the device's, and whatever the depths are
+pub owned : (rules : FrontRules) (late : Bool) (notes : Notes) (c : Controller) (slots : List Slot) (own : OwnCommands) (depths : List ℕ) → StandsAt rules late notes c slots
+    → StandsAt rules late notes (record c { own = own; depths = depths }) slots
+owned rules late notes c slots own depths s = record {
   content = s.content;
   items = s.items;
   holds = s.holds;
@@ -23,7 +23,7 @@ owned rules late notes c slots own s = record {
     outstanding_is = n.outstanding_is;
     sq_ids = n.sq_ids;
     cq_ids = n.cq_ids;
-    sqs = λ q r is. sq_of_with (record c { own = own }) s.content q r (sq_with c s.content q r (n.sqs q r is));
+    sqs = λ q r is. sq_of_with (record c { own = own; depths = depths }) s.content q r (sq_with c s.content q r (n.sqs q r is));
     cqs = λ q x is. (let h = n.cqs q x is in record { slots = h.slots; some = h.some });
     few_sqs = n.few_sqs;
     few_cqs = n.few_cqs;
@@ -75,5 +75,5 @@ owned rules late notes c slots own s = record {
   account = s.account;
 }
 
-pub owned_front : (c : Controller) (slots : List Slot) (own : OwnCommands) → IsController c slots → IsController (record c { own = own }) slots
-owned_front c slots own is = record { rules = is.rules; late = is.late; notes = is.notes; stands = owned is.rules is.late is.notes c slots own is.stands }
+pub owned_front : (c : Controller) (slots : List Slot) (own : OwnCommands) (depths : List ℕ) → IsController c slots → IsController (record c { own = own; depths = depths }) slots
+owned_front c slots own depths is = record { rules = is.rules; late = is.late; notes = is.notes; stands = owned is.rules is.late is.notes c slots own depths is.stands }

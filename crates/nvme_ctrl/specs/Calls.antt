@@ -1,13 +1,14 @@
 -- What the calls of a controller answer, and what they note. (Base Specification, Command Submission and Completion Mechanism)
-use Rattle.std.specs.Prelude.{◌≡◌, ℕ, ◌+◌, ◌<◌, ◌%◌, Bool, true, List, ◌∷◌, length, Some, None}
+use Rattle.std.specs.Prelude.{◌≡◌, ℕ, ◌+◌, ◌<◌, ◌%◌, Bool, true, List, ◌∷◌, length, replicate, get_or, Some, None}
 use Rattle.nvme_entry.specs.declared.submission.Sqe.{Sqe}
 use Rattle.nvme_entry.specs.declared.completion.Cqe.{Cqe}
+use Rattle.nvme_admin.specs.declared.bounds.TheConstants.{MAX_REGIONS}
 use Rattle.nvme_log.specs.declared.event.Event.TheVariants.{Fetch, Post}
 use Rattle.nvme_log.specs.Rules.{FrontRules, window_at}
 use Rattle.nvme_log.specs.Queues.{Queue, open_sq, open_cq, qid_of_region}
 use Rattle.nvme_log.specs.Places.{fetched, waiting, entry_at}
 use Rattle.nvme_log.specs.declared.place.Place.{Place}
-use Rattle.nvme_log.specs.Completions.{posted_to}
+use Rattle.nvme_log.specs.Completions.{posted_to, unposted_of}
 use Rattle.nvme_log.specs.Answers.{Answer}
 use Rattle.nvme_ctrl.specs.Notes.{Notes, Logged, Tail, Head, Kept, Taken, Answered, Marked, logged}
 use Rattle.nvme_ctrl.specs.Doorbells.{submitted, sq_slots, cq_slots}
@@ -44,17 +45,25 @@ pub record HeadRung (rules : FrontRules) (late : Bool) (notes : Notes) (cqid slo
   pub stands : Stands rules late (Head region slot ∷ notes) c slots
 
 -- ---- fetches
--- the most commands of a queue that wait in a controller
-abbrev pub window_limit : Controller → ℕ
-window_limit c = c.window
+-- the depths of the submission queues, by identifier: the most commands of each that hold a slot, from the fetch to the posting of the completion
+abbrev pub depths_of : Controller → List ℕ
+depths_of c = c.depths
 
--- the slot of an open queue that is to be fetched next: the host submitted it, fewer commands of the queue wait than its window holds,
--- and of a pool of so many slots one is free
-pub record MayFetch (rules : FrontRules) (notes : Notes) (window pool qid slot : ℕ) : Type 0 where
+-- that of one queue; beyond the last identifier, 0
+abbrev pub depth_of : Controller → ℕ → ℕ
+depth_of c qid = get_or (depths_of c) qid 0
+
+-- one depth for all of them
+abbrev pub equal_depths : ℕ → List ℕ
+equal_depths depth = replicate MAX_REGIONS depth
+
+-- the slot of an open queue that is to be fetched next: the host submitted it, fewer of its commands hold a slot than its depth, of which some wait and
+-- the others have no completion posted, it has room for one that waits, and of a pool of so many slots one is free
+pub record MayFetch (rules : FrontRules) (notes : Notes) (depth pool qid slot : ℕ) : Type 0 where
   pub queue : Queue
   pub is_open : open_sq (logged notes) qid ≡ Some queue
   pub submitted : length (fetched (logged notes) queue.region) < submitted rules notes queue.region
-  pub in_window : length (waiting (logged notes) queue.region) < window
+  pub in_depth : length (waiting (logged notes) queue.region) + unposted_of (logged notes) queue.region < depth
   pub has_room : length (waiting (logged notes) queue.region) < window_at rules queue.region
   pub some_free : all_fetches (logged notes) < pool + all_posts (logged notes)
   pub slot_is : slot ≡ length (fetched (logged notes) queue.region) % sq_slots rules queue.region
@@ -62,7 +71,7 @@ pub record MayFetch (rules : FrontRules) (notes : Notes) (window pool qid slot :
 -- the fetch is noted, and what the caller keeps with its command
 pub record HasFetched (rules : FrontRules) (late : Bool) (notes : Notes) (qid : ℕ) (entry : Sqe) (cookie : ℕ) (c : Controller) (slots : List Slot) : Type 0 where
   pub slot : ℕ
-  pub may : MayFetch rules notes (window_limit c) (length slots) qid slot
+  pub may : MayFetch rules notes (depth_of c qid) (length slots) qid slot
   pub stands : Stands rules late (Kept may.queue.region (length (fetched (logged notes) may.queue.region)) cookie
       ∷ Logged (Fetch may.queue.region (length (fetched (logged notes) may.queue.region)) entry) ∷ notes) c slots
 

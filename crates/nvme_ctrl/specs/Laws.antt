@@ -1,5 +1,5 @@
 -- Laws of the log of a controller, in the words of those who embed one. (profile)
-use Rattle.std.specs.Prelude.{◌≡◌, ◌≢◌, ◌⊎◌, ◌↔◌, ℕ, ◌+◌, ◌*◌, ◌<◌, ◌≤◌, ◌%◌, ◌&&◌, Bool, true, false, not, List, ◌∷◌, ◌++◌, length, Some, None, sum_by}
+use Rattle.std.specs.Prelude.{◌≡◌, ◌≢◌, ◌⊎◌, ◌↔◌, ℕ, ◌+◌, ◌<◌, ◌≤◌, ◌%◌, ◌&&◌, Bool, true, false, not, List, ◌∷◌, ◌++◌, length, Some, None, sum_by}
 use Rattle.std.specs.List.{list_all, All, Contains}
 use mathlib.Core.List.{IsPrefix}
 use Rattle.nvme_entry.specs.declared.submission.Sqe.{Sqe}
@@ -11,7 +11,6 @@ use Rattle.nvme_log.specs.declared.event.Event.TheVariants as event
 use Rattle.nvme_log.specs.Rules.{FrontRules, sq_regions_of, cq_regions_of, Each, Past, upto}
 use Rattle.nvme_log.specs.Places.{fetched, is_aborted, places, observation_of, waiting}
 use Rattle.nvme_log.specs.Limits.{max_outstanding}
-use Rattle.nvme_log.specs.Queues.{Queue, open_sq}
 use Rattle.nvme_log.specs.declared.place.Place.{Place}
 use Rattle.nvme_log.specs.Aborts.{is_aborted_with_queue}
 use Rattle.nvme_log.specs.Histories.{arbitration_of}
@@ -20,7 +19,7 @@ use Rattle.nvme_log.specs.Answers.{Answer, by_answers}
 use Rattle.nvme_log.specs.Account.{Deletes, IsAccountBy, latest_admin_place}
 use Rattle.nvme_log.specs.Laws.{PicksPlace, count_of}
 use Rattle.nvme_admin.specs.History.{Kind}
-use Rattle.nvme_ctrl.specs.Notes.{Notes, Logged, logged, Note, Held, EachNote}
+use Rattle.nvme_ctrl.specs.Notes.{Notes, Logged, logged, Note, Held}
 use Rattle.nvme_ctrl.specs.Making.{with_region, is_named}
 use Rattle.nvme_ctrl.specs.Doorbells.{sq_slots, cq_slots, submitted, consumed}
 use Rattle.nvme_ctrl.specs.Tags.{is_passed, is_of_device, holder, answer_of, answers, all_fetches, all_posts}
@@ -168,16 +167,3 @@ pub record HoldsFewSlots (rules : FrontRules) (past : Past) : Type 0 where
 
 abbrev pub FewHoldSlots : Type 0
 FewHoldSlots = (rules : FrontRules) (late : Bool) (notes : Notes) (c : Controller) (slots : List Slot) → Stands rules late notes c slots → HoldsFewSlots rules (logged notes)
-
--- each fetch was made while fewer than `window` commands of its queue waited, as `fetch` sees to (MayFetch, in_window)
-abbrev pub IsFetchedWithin : ℕ → Notes → Note → Type 0
-IsFetchedWithin window before (Logged (event.Fetch r i entry)) = length (waiting (logged before) r) < window
-IsFetchedWithin window before note = Unit {0}
-
--- so a pool with `window` slots for each submission region, and with one for each outstanding place, has a free one wherever a command may be fetched otherwise,
--- while no queue is being deleted
-abbrev pub PoolsSuffice : Type 0
-PoolsSuffice = (rules : FrontRules) (late : Bool) (notes : Notes) (c : Controller) (slots : List Slot) (qid : ℕ) (queue : Queue) (window : ℕ) → Stands rules late notes c slots
-    → EachNote (IsFetchedWithin window) notes → open_sq (logged notes) qid ≡ Some queue → NoneDeleting (logged notes) → length (waiting (logged notes) queue.region) < window
-    → length (sq_regions_of rules) * window + max_outstanding ≤ length slots
-    → all_fetches (logged notes) < length slots + all_posts (logged notes)

@@ -17,5 +17,6 @@ pub mod Steps
 pub mod Making
 pub mod Ranges
 pub mod Laws
+pub mod Depths
 pub mod Outlook
 pub mod Examples

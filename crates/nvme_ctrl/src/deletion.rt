@@ -10,7 +10,7 @@ impl Controller {
     ghost use Rattle.nvme_ctrl.specs.Notes.{Notes};
     ghost use Rattle.nvme_ctrl.specs.Standing.{Stands, IsController};
     ghost use Rattle.nvme_ctrl.specs.Own.{own_of};
-    ghost use Rattle.nvme_ctrl.specs.Calls.{window_limit};
+    ghost use Rattle.nvme_ctrl.specs.Calls.{depths_of};
     ghost use Rattle.nvme_ctrl.specs.Steps.{HasFinished, IsFinishableAt, NoneFinishable};
     ghost use Rattle.nvme_ctrl.specs.kept.State.{sq_at, deletion_at, IsFinishable};
     ghost use Rattle.nvme_ctrl.specs.declared.slot.Slot.{Slot};
@@ -51,7 +51,7 @@ impl Controller {
         requires front { IsController self.old slots.old }
         ensures front { IsController self.new slots.new }
         ensures none { result ≡ None → (self.new ≡ self.old) × (slots.new ≡ slots.old) }
-        ensures window { window_limit self.new ≡ window_limit self.old }
+        ensures depths { depths_of self.new ≡ depths_of self.old }
         ensures size { length slots.new ≡ length slots.old }
         ensures own { own_of self.new ≡ own_of self.old }
         ensures told { (rules : FrontRules) (late : Bool) (notes : Notes) → Stands rules late notes self.old slots.old → result ≡ None → NoneFinishable notes }

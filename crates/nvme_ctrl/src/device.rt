@@ -22,7 +22,7 @@ impl Controller {
     ghost use Rattle.nvme_ctrl.specs.Tags.{is_out, handed, taken};
     ghost use Rattle.nvme_ctrl.specs.Standing.{Stands, IsController};
     ghost use Rattle.nvme_ctrl.specs.Own.{own_of};
-    ghost use Rattle.nvme_ctrl.specs.Calls.{window_limit, HasTaken, HasAnswered};
+    ghost use Rattle.nvme_ctrl.specs.Calls.{depths_of, HasTaken, HasAnswered};
     ghost use Rattle.nvme_ctrl.specs.declared.slot.Slot.{Slot};
 
     /// The device takes the next picked command. Its slot is its tag until its completion is posted. None, which changes
@@ -31,7 +31,7 @@ impl Controller {
         requires front { IsController self.old slots.old }
         ensures front { IsController self.new slots.new }
         ensures none { result ≡ None → (self.new ≡ self.old) × (slots.new ≡ slots.old) }
-        ensures window { window_limit self.new ≡ window_limit self.old }
+        ensures depths { depths_of self.new ≡ depths_of self.old }
         ensures size { length slots.new ≡ length slots.old }
         ensures own { own_of self.new ≡ own_of self.old }
         ensures told { (rules : FrontRules) (late : Bool) (notes : Notes) → Stands rules late notes self.old slots.old → result ≡ None → handed notes ≡ taken notes }
@@ -56,7 +56,7 @@ impl Controller {
         requires front { IsController self.old slots.old }
         ensures front { IsController self.new slots.new }
         ensures refused { result ≡ false → (self.new ≡ self.old) × (slots.new ≡ slots.old) }
-        ensures window { window_limit self.new ≡ window_limit self.old }
+        ensures depths { depths_of self.new ≡ depths_of self.old }
         ensures size { length slots.new ≡ length slots.old }
         ensures own { own_of self.new ≡ own_of self.old }
         ensures answer { (rules : FrontRules) (late : Bool) (notes : Notes) → Stands rules late notes self.old slots.old → result ≡ is_out notes tag }

@@ -8,13 +8,13 @@ impl Controller {
     ghost use Rattle.nvme_ctrl.specs.Notes.{Notes};
     ghost use Rattle.nvme_ctrl.specs.Standing.{Stands, IsController};
     ghost use Rattle.nvme_ctrl.specs.Own.{own_of};
-    ghost use Rattle.nvme_ctrl.specs.Calls.{window_limit, TailRung, HeadRung, IsTailOf, IsHeadOf};
+    ghost use Rattle.nvme_ctrl.specs.Calls.{depths_of, TailRung, HeadRung, IsTailOf, IsHeadOf};
     ghost use Rattle.nvme_ctrl.specs.declared.slot.Slot.{Slot};
 
     /// The host wrote the tail doorbell of a submission queue. False, which changes nothing, where the queue isn't open,
     /// where it has no such slot, and where its ring hasn't as many free slots: the doorbell value is invalid then.
     pub fn sq_tail(&mut self, qid: u16, slot: u16) -> bool
-        ensures window { window_limit self.new ≡ window_limit self.old }
+        ensures depths { depths_of self.new ≡ depths_of self.old }
         ensures own { own_of self.new ≡ own_of self.old }
         ensures refused { result ≡ false → self.new ≡ self.old }
         ensures front { (slots : List Slot) → IsController self.old slots → IsController self.new slots }
@@ -36,7 +36,7 @@ impl Controller {
     /// The host wrote the head doorbell of a completion queue. False, which changes nothing, where the queue isn't open,
     /// where it has no such slot, and where not as many completions were posted: the doorbell value is invalid then.
     pub fn cq_head(&mut self, cqid: u16, slot: u16) -> bool
-        ensures window { window_limit self.new ≡ window_limit self.old }
+        ensures depths { depths_of self.new ≡ depths_of self.old }
         ensures own { own_of self.new ≡ own_of self.old }
         ensures refused { result ≡ false → self.new ≡ self.old }
         ensures front { (slots : List Slot) → IsController self.old slots → IsController self.new slots }

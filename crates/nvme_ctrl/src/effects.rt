@@ -36,7 +36,7 @@ impl Controller {
     ghost use Rattle.nvme_arbiter.specs.declared.settings.Class.TheVariants.{Admin};
     ghost use Rattle.nvme_admin.specs.declared.verdict.Verdict.{Verdict};
     ghost use Rattle.nvme_ctrl.specs.Own.{own_of};
-    ghost use Rattle.nvme_ctrl.specs.Calls.{window_limit};
+    ghost use Rattle.nvme_ctrl.specs.Calls.{depths_of};
     ghost use Rattle.nvme_ctrl.specs.Steps.{HasCarriedOut};
     ghost use Rattle.nvme_ctrl.specs.Tags.{answer_of, is_passed};
     ghost use Rattle.nvme_ctrl.specs.declared.slot.Slot.{Slot};
@@ -133,7 +133,7 @@ impl Controller {
     // answered when the deletion is finished. Other deletions may be pending. (Delete I/O Submission Queue)
     fn begin_delete(&mut self, slots: &mut [Slot], tag: u16, qid: u16)
         requires on_board { IsSome (queue_at (board_of self.old.board).queues qid) }
-        ensures window { window_limit self.new ≡ window_limit self.old }
+        ensures depths { depths_of self.new ≡ depths_of self.old }
         ensures size { length slots.new ≡ length slots.old }
         ensures own { own_of self.new ≡ own_of self.old }
         ensures begun { (rules : FrontRules) (notes : Notes) (k : Content) (g : Items) (region c : ℕ) (candidate : Candidate) → Keeps rules notes self.old slots.old k g → self.old.picked ≡ 0 → IsLoose slots.old g tag → (slot_at slots.old tag).entry ≡ candidate.entry → (slot_at slots.old tag).sqid ≡ 0 → answer_of notes 0 candidate.index ≡ None → IsCookie notes slots.old tag (place_at 0 candidate.index) → is_passed notes candidate.index ≡ false → IsDroppable notes k qid region c → (k.sq region).unposted + length (k.sq region).window < 2 ^ 16 → HasBegun rules notes (deleting k qid region c candidate) self.new slots.new }
@@ -187,7 +187,7 @@ impl Controller {
     // nothing, where there is no such command. (Abort)
     fn abort(&mut self, slots: &mut [Slot], sqid: u16, cid: u16) -> bool
         requires may { MayAbort self.old slots.old sqid cid }
-        ensures window { window_limit self.new ≡ window_limit self.old }
+        ensures depths { depths_of self.new ≡ depths_of self.old }
         ensures size { length slots.new ≡ length slots.old }
         ensures own { own_of self.new ≡ own_of self.old }
         ensures none { result ≡ false → (self.new ≡ self.old) × (slots.new ≡ slots.old) }
@@ -219,7 +219,7 @@ impl Controller {
     // Puts new settings of arbitration in force. (Arbitration feature)
     fn set_arbitration(&mut self, settings: Settings)
         requires is_arbiter { IsTrue (is_arbiter self.old.board.arbiter) }
-        ensures window { window_limit self.new ≡ window_limit self.old }
+        ensures depths { depths_of self.new ≡ depths_of self.old }
         ensures own { own_of self.new ≡ own_of self.old }
         ensures kept { (rules : FrontRules) (notes : Notes) (slots : List Slot) (k : Content) (g : Items) → Keeps rules notes self.old slots k g → Keeps rules notes self.new slots (record k { board = board_of self.new.board }) g }
         ensures queues { (board_of self.new.board).queues ≡ (board_of self.old.board).queues }
@@ -231,7 +231,7 @@ impl Controller {
     /// Carries out the effect of a picked admin command, which is in this slot.
     pub(crate) fn carry_out(&mut self, slots: &mut [Slot], tag: u16, effect: &Effect)
         requires applied { IsApplying self.old slots.old effect.now }
-        ensures window { window_limit self.new ≡ window_limit self.old }
+        ensures depths { depths_of self.new ≡ depths_of self.old }
         ensures size { length slots.new ≡ length slots.old }
         ensures own { own_of self.new ≡ own_of self.old }
         ensures stands { (rules : FrontRules) (late : Bool) (notes : Notes) (verdict : Verdict) → IsApplied rules late notes self.old slots.old tag effect.now verdict → HasCarriedOut rules late notes verdict self.new slots.new }

@@ -1,21 +1,38 @@
-// The fetches of a controller. (Base Specification, Command Submission and Completion Mechanism; windows: profile)
+// The fetches of a controller. (Base Specification, Command Submission and Completion Mechanism; depths and windows: profile)
 use crate::board_counts::came;
 use crate::slot::{Slot, WAITING, put_item};
 use crate::state::Controller;
-use nvme_admin::SqEntry;
+use nvme_admin::{MAX_REGIONS, SqEntry};
 use nvme_entry::Sqe;
 use nvme_log::window_of;
 
 impl Controller {
-    ghost use Rattle.std.specs.Prelude.{◌≡◌, ◌≢◌, ℕ, Bool, true, false, List, length, Some, None, IfSome};
+    ghost use Rattle.std.specs.Prelude.{◌≡◌, ◌≢◌, ℕ, Bool, true, false, List, length, slice_set, Some, None, IfSome};
     ghost use Rattle.nvme_log.specs.Rules.{FrontRules};
     ghost use Rattle.nvme_ctrl.specs.Notes.{Notes};
     ghost use Rattle.nvme_ctrl.specs.Standing.{Stands, IsController};
     ghost use Rattle.nvme_ctrl.specs.Own.{own_of};
-    ghost use Rattle.nvme_ctrl.specs.Calls.{window_limit, MayFetch, HasFetched};
+    ghost use Rattle.nvme_ctrl.specs.Calls.{depths_of, depth_of, MayFetch, HasFetched};
     ghost use Rattle.nvme_ctrl.specs.inside.Fetching.{IsFetchable};
     ghost use Rattle.nvme_ctrl.specs.declared.slot.Slot.{Slot};
     ghost use Rattle.nvme_admin.specs.declared.verdict.SqEntry as entry;
+
+    /// From now on at most `depth` commands of a submission queue hold a slot of the pool, each from its fetch to the posting
+    /// of its completion: those that wait, and those that are picked, at the device, ready or aborted. Of an identifier above
+    /// 64 nothing changes. It is meant for the time before the queue is created: where more commands hold a slot, just the
+    /// next fetch waits until fewer do. The depth of the admin queue has to be above the number of event requests that the
+    /// device holds, else no admin command is fetched any more. (Base Specification, Asynchronous Event Request; profile)
+    pub fn set_depth(&mut self, qid: u16, depth: u16)
+        ensures depths { depths_of self.new ≡ slice_set (depths_of self.old) qid depth }
+        ensures own { own_of self.new ≡ own_of self.old }
+        ensures front { (pool : List Slot) → IsController self.old pool → IsController self.new pool }
+        ensures stands { (rules : FrontRules) (late : Bool) (notes : Notes) (pool : List Slot) → Stands rules late notes self.old pool → Stands rules late notes self.new pool }
+    {
+        let qid = usize::from(qid);
+        if qid < MAX_REGIONS {
+            self.depths[qid] = depth;
+        }
+    }
 
     // The open submission queue of an identifier, where one of its commands may be fetched.
     fn fetchable(&self, qid: u16) -> Option<SqEntry>
@@ -28,18 +45,20 @@ impl Controller {
         }
         let sq = self.sq(qid);
         let waiting = sq.window.len.saturating_sub(self.picked_in(qid));
-        if sq.ring.filled() == 0 || waiting >= self.window || waiting >= window_of(sq.ring.slots) {
+        let held = waiting.saturating_add(sq.unposted);
+        if sq.ring.filled() == 0 || held >= self.depth(qid) || waiting >= window_of(sq.ring.slots) {
             return None;
         }
         Some(queue)
     }
 
     /// The slot of the ring of an open submission queue whose entry is to be read next. None where the queue isn't open,
-    /// where the host submitted no more, where as many of its commands wait as its window holds, and where no slot
-    /// of the pool is free. A queue isn't open any more once its deletion began.
+    /// where the host submitted no more, where as many of its commands hold a slot as its depth, where as many wait as its
+    /// ring has slots less one, or 256, and where no slot of the pool is free. A queue isn't open any more once its deletion
+    /// began.
     pub fn fetch(&self, qid: u16) -> Option<u16>
-        ensures may { (rules : FrontRules) (late : Bool) (notes : Notes) (slots : List Slot) → Stands rules late notes self.now slots → IfSome result (λ slot. MayFetch rules notes (window_limit self.now) (length slots) qid slot) }
-        ensures told { (rules : FrontRules) (late : Bool) (notes : Notes) (slots : List Slot) → Stands rules late notes self.now slots → (slot : ℕ) → MayFetch rules notes (window_limit self.now) (length slots) qid slot → result ≡ Some slot }
+        ensures may { (rules : FrontRules) (late : Bool) (notes : Notes) (slots : List Slot) → Stands rules late notes self.now slots → IfSome result (λ slot. MayFetch rules notes (depth_of self.now qid) (length slots) qid slot) }
+        ensures told { (rules : FrontRules) (late : Bool) (notes : Notes) (slots : List Slot) → Stands rules late notes self.now slots → (slot : ℕ) → MayFetch rules notes (depth_of self.now qid) (length slots) qid slot → result ≡ Some slot }
     {
         self.fetchable(qid)?;
         Some(self.sq(qid).ring.head)
@@ -50,8 +69,8 @@ impl Controller {
     pub fn fetched(&mut self, slots: &mut [Slot], qid: u16, entry: &Sqe, cookie: u32) -> bool
         requires front { IsController self.old slots.old }
         ensures front { IsController self.new slots.new }
-        ensures told { (rules : FrontRules) (late : Bool) (notes : Notes) → Stands rules late notes self.old slots.old → (slot : ℕ) → MayFetch rules notes (window_limit self.old) (length slots.old) qid slot → result ≡ true }
-        ensures window { window_limit self.new ≡ window_limit self.old }
+        ensures told { (rules : FrontRules) (late : Bool) (notes : Notes) → Stands rules late notes self.old slots.old → (slot : ℕ) → MayFetch rules notes (depth_of self.old qid) (length slots.old) qid slot → result ≡ true }
+        ensures depths { depths_of self.new ≡ depths_of self.old }
         ensures own { own_of self.new ≡ own_of self.old }
         ensures size { length slots.new ≡ length slots.old }
         ensures refused { result ≡ false → (self.new ≡ self.old) × (slots.new ≡ slots.old) }

@@ -11,15 +11,15 @@ impl Controller {
     ghost use Rattle.nvme_ctrl.specs.Account.{MayBeHeld, MayBeClassed};
     ghost use Rattle.nvme_ctrl.specs.Standing.{Stands, IsController};
     ghost use Rattle.nvme_ctrl.specs.Own.{own_of};
-    ghost use Rattle.nvme_ctrl.specs.Calls.{window_limit};
+    ghost use Rattle.nvme_ctrl.specs.Calls.{depths_of};
     ghost use Rattle.nvme_ctrl.specs.declared.slot.Slot.{Slot};
 
     /// From now on no command of a submission queue is picked (`on`), or they are again. The queue may be the admin queue.
-    /// What waits in it stays there, and is fetched into its window as before. An Abort still takes it, and the deletion of
+    /// What waits in it stays there, and more is fetched as before. An Abort still takes it, and the deletion of
     /// the queue still drops it. Commands that were picked stay picked. A queue that is opened isn't held. False, which
     /// changes nothing, where the queue isn't open. (profile)
     pub fn hold(&mut self, qid: u16, on: bool) -> bool
-        ensures window { window_limit self.new ≡ window_limit self.old }
+        ensures depths { depths_of self.new ≡ depths_of self.old }
         ensures own { own_of self.new ≡ own_of self.old }
         ensures refused { result ≡ false → self.new ≡ self.old }
         ensures front { (pool : List Slot) → IsController self.old pool → IsController self.new pool }
@@ -42,7 +42,7 @@ impl Controller {
     /// opened has the class of its Create. False, which changes nothing, where the queue is the admin queue or isn't open,
     /// and where the class is that of the admin queue. (Base Specification, Create I/O Submission Queue, QPRIO; profile)
     pub fn set_class(&mut self, qid: u16, class: Class) -> bool
-        ensures window { window_limit self.new ≡ window_limit self.old }
+        ensures depths { depths_of self.new ≡ depths_of self.old }
         ensures own { own_of self.new ≡ own_of self.old }
         ensures refused { result ≡ false → self.new ≡ self.old }
         ensures front { (pool : List Slot) → IsController self.old pool → IsController self.new pool }

@@ -13,7 +13,8 @@ ghost use Rattle.nvme_ctrl.specs.Own.{is_own, no_own, with_opcode, with_feature}
 ghost use Rattle.nvme_ctrl.specs.Making.{is_named};
 ghost use Rattle.nvme_ctrl.specs.Account.{IsLawful, IsAccount};
 ghost use Rattle.nvme_ctrl.specs.Examples.{identify, identify_fetched, identify_picked, identify_passed, identify_taken, identify_answered, identified, get_feature, set_feature, told, three_of_four, four_fetched, first_picked, first_answered, first_posted, third_answered, two_passes, succeeded, out_of_range, without_region, with_late_region, creates_fetched, create_picked, create_refused, reads_submitted, reads_waiting, read_picked, read_taken, delete_begun, aborts_posted, read_answered, reads_posted, deletion_noted, unmarked, not_retried, more_told, abort_of_read, abort_waiting, abort_picked, abort_passed, abort_taken, aborted_read, read_aborted, abort_answered, abort_done, held_and_deleted, classed_and_picked, weighted_rules, two_waiting, pick_of, two_deletions, two_closing, third_served, second_gone, both_gone};
-ghost use Rattle.nvme_ctrl.specs.Laws.{ControllersKeepAccounts, RegionsLeaveAccounts, EventsAreAccounted, SlotsAreFetchedInOrder, CompletionsFollowAnswers, OneCompletionEach, SlotsAreFree, CompletionsTellTheHead, DeletesAreAnsweredLast, NoneFetchedAfterDeletion, NonePickedAfterDeletion, PicksAreLawful, TagsAreApart, ObservedAsInTheLog, SeenOneByOne, HeldQueuesWait, HeldQueuesWaitUntilTold, FewHoldSlots, PoolsSuffice};
+ghost use Rattle.nvme_ctrl.specs.Depths.{DepthsSuffice, DepthsLeaveRoom, HeldWaitOrAreUnposted};
+ghost use Rattle.nvme_ctrl.specs.Laws.{ControllersKeepAccounts, RegionsLeaveAccounts, EventsAreAccounted, SlotsAreFetchedInOrder, CompletionsFollowAnswers, OneCompletionEach, SlotsAreFree, CompletionsTellTheHead, DeletesAreAnsweredLast, NoneFetchedAfterDeletion, NonePickedAfterDeletion, PicksAreLawful, TagsAreApart, ObservedAsInTheLog, SeenOneByOne, HeldQueuesWait, HeldQueuesWaitUntilTold, FewHoldSlots};
 
 /// The log at which a controller stands is an account, where no region was added late: after a Create that named its
 /// address was picked. So all that follows holds of it.
@@ -106,11 +107,14 @@ pub fn few_commands_hold_slots()
     ensures { FewHoldSlots }
 {}
 
-/// While no queue is being deleted, a pool of `window` slots for each submission region, the admin queue's included, and
-/// 256 more has a free slot wherever a command may be fetched otherwise (`MayFetch`, `some_free`). `window` is that of the
-/// controller, within which each command was fetched.
-pub fn pools_of_a_size_suffice()
-    ensures { PoolsSuffice }
+/// Where each command was fetched within the depth of its queue, a pool of the sum of the depths has a slot for each
+/// command, while queues are being deleted too. It has a free one wherever a command may be fetched otherwise (`MayFetch`,
+/// `some_free`). The commands of a queue that hold a slot are those that wait and those that have no completion posted
+/// (`MayFetch`, `in_depth`).
+pub fn depths_suffice()
+    ensures hold { DepthsSuffice }
+    ensures leave { DepthsLeaveRoom }
+    ensures held { HeldWaitOrAreUnposted }
 {}
 
 /// Worked: four completions through a completion queue of two slots, and a queue that is deleted while the device has

@@ -8,7 +8,7 @@ ghost use Rattle.nvme_admin.specs.Accepted.{queue_table};
 ghost use Rattle.nvme_placing.specs.Telling.{Tells};
 ghost use Rattle.nvme_log.specs.Rules.{FrontRules, upto};
 ghost use Rattle.nvme_ctrl.specs.Standing.{Stands};
-ghost use Rattle.nvme_ctrl.specs.Calls.{window_limit};
+ghost use Rattle.nvme_ctrl.specs.Calls.{depths_of, equal_depths};
 ghost use Rattle.nvme_ctrl.specs.Own.{no_own, own_of};
 ghost use Rattle.nvme_ctrl.specs.inside.First.{IsFirst};
 ghost use Rattle.nvme_ctrl.specs.Making.{first_regions, admin_fault};
@@ -31,7 +31,7 @@ impl Controller {
     ghost use Rattle.nvme_log.specs.Rules.{FrontRules, sq_regions_of, cq_regions_of};
     ghost use Rattle.nvme_ctrl.specs.Notes.{Notes};
     ghost use Rattle.nvme_ctrl.specs.Standing.{Stands, IsController};
-    ghost use Rattle.nvme_ctrl.specs.Calls.{window_limit};
+    ghost use Rattle.nvme_ctrl.specs.Calls.{depths_of, equal_depths};
     ghost use Rattle.nvme_ctrl.specs.Own.{no_own, own_of, with_opcode, with_feature};
     ghost use Rattle.nvme_placing.specs.Telling.{placing_by, is_ring_size};
     ghost use Rattle.nvme_admin.specs.declared.region.AdminError.TheVariants.{Size};
@@ -39,14 +39,14 @@ impl Controller {
     ghost use Rattle.nvme_ctrl.specs.declared.slot.Slot.{Slot};
 
     /// A controller with its admin regions alone, region 0 of each kind, and with all slots of the pool free. The admin
-    /// queues are open then. At most `window` commands of a queue wait, and at most as many as its ring has slots, and 256.
-    /// Refused where both regions have one address, or one has a number of slots outside its limits. The pool is left then.
-    /// (Base Specification, Controller Initialization: the admin queues are there before the controller is enabled)
+    /// queues are open then. At most `depth` commands of each submission queue hold a slot (`set_depth`). Refused where both
+    /// regions have one address, or one has a number of slots outside its limits. The pool is left then. (Base Specification,
+    /// Controller Initialization: the admin queues are there before the controller is enabled)
     pub fn new(
         mechanism: Mechanism,
         settings: Settings,
         limits: Limits,
-        window: u16,
+        depth: u16,
         sq: Region,
         cq: Region,
         slots: &mut [Slot],
@@ -57,14 +57,12 @@ impl Controller {
         ensures unchanged { OnErr result (slots.new ≡ slots.old) }
         ensures front { IfOk result (λ c. IsController c slots.new) }
         ensures stands { (sizes : List ℕ) → IfOk result (λ c. Stands (first_rules mechanism settings limits sq cq sizes) false [] c slots.new) }
-        ensures window { IfOk result (λ c. window_limit c ≡ window) }
+        ensures depths { IfOk result (λ c. depths_of c ≡ equal_depths depth) }
         ensures own { IfOk result (λ c. own_of c ≡ no_own) }
         ensures size { length slots.new ≡ length slots.old }
     {
         let table = first_table(settings, limits, sq, cq)?;
-        Ok(first_controller(
-            table, mechanism, settings, window, sq.slots, cq.slots, slots,
-        ))
+        Ok(first_controller(table, mechanism, settings, depth, sq.slots, cq.slots, slots))
     }
 
     /// A controller whose queues may lie anywhere in memory, as `new` makes one whose queues lie on regions: a Create names
@@ -78,7 +76,7 @@ impl Controller {
         settings: Settings,
         limits: Limits,
         placement: Placement,
-        window: u16,
+        depth: u16,
         sq: Region,
         cq: Region,
         slots: &mut [Slot],
@@ -89,14 +87,12 @@ impl Controller {
         ensures unchanged { OnErr result (slots.new ≡ slots.old) }
         ensures front { IfOk result (λ c. IsController c slots.new) }
         ensures stands { (sizes : List ℕ) → IfOk result (λ c. Stands (anywhere_rules mechanism settings limits (placing_by placement) sq cq sizes) false [] c slots.new) }
-        ensures window { IfOk result (λ c. window_limit c ≡ window) }
+        ensures depths { IfOk result (λ c. depths_of c ≡ equal_depths depth) }
         ensures own { IfOk result (λ c. own_of c ≡ no_own) }
         ensures size { length slots.new ≡ length slots.old }
     {
         let table = PlacedTable::anywhere(limits, settings, placement, sq.slots, cq.slots)?;
-        Ok(first_controller(
-            table, mechanism, settings, window, sq.slots, cq.slots, slots,
-        ))
+        Ok(first_controller(table, mechanism, settings, depth, sq.slots, cq.slots, slots))
     }
 
     /// Makes the controller anew, as `new` does, with all slots of the pool free: nothing is left of its queues and commands.
@@ -106,7 +102,7 @@ impl Controller {
         mechanism: Mechanism,
         settings: Settings,
         limits: Limits,
-        window: u16,
+        depth: u16,
         sq: Region,
         cq: Region,
         slots: &mut [Slot],
@@ -117,11 +113,11 @@ impl Controller {
         ensures unchanged { OnErr result ((self.new ≡ self.old) × (slots.new ≡ slots.old)) }
         ensures front { OnOk result (IsController self.new slots.new) }
         ensures stands { (sizes : List ℕ) → OnOk result (Stands (first_rules mechanism settings limits sq cq sizes) false [] self.new slots.new) }
-        ensures window { OnOk result (window_limit self.new ≡ window) }
+        ensures depths { OnOk result (depths_of self.new ≡ equal_depths depth) }
         ensures own { OnOk result (own_of self.new ≡ no_own) }
         ensures size { length slots.new ≡ length slots.old }
     {
-        *self = Controller::new(mechanism, settings, limits, window, sq, cq, slots)?;
+        *self = Controller::new(mechanism, settings, limits, depth, sq, cq, slots)?;
         Ok(())
     }
 
@@ -133,7 +129,7 @@ impl Controller {
     /// Specification, Opcodes for Admin Commands, Abort)
     pub fn own_opcode(&mut self, opcode: u8)
         ensures own { own_of self.new ≡ with_opcode opcode (own_of self.old) }
-        ensures window { window_limit self.new ≡ window_limit self.old }
+        ensures depths { depths_of self.new ≡ depths_of self.old }
         ensures front { (pool : List Slot) → IsController self.old pool → IsController self.new pool }
         ensures stands { (rules : FrontRules) (late : Bool) (notes : Notes) (pool : List Slot) → Stands rules late notes self.old pool → Stands rules late notes self.new pool }
     {
@@ -145,7 +141,7 @@ impl Controller {
     /// current one. (Base Specification, Set Features, Get Features, Select)
     pub fn own_feature(&mut self, fid: u8)
         ensures own { own_of self.new ≡ with_feature fid (own_of self.old) }
-        ensures window { window_limit self.new ≡ window_limit self.old }
+        ensures depths { depths_of self.new ≡ depths_of self.old }
         ensures front { (pool : List Slot) → IsController self.old pool → IsController self.new pool }
         ensures stands { (rules : FrontRules) (late : Bool) (notes : Notes) (pool : List Slot) → Stands rules late notes self.old pool → Stands rules late notes self.new pool }
     {
@@ -159,7 +155,7 @@ impl Controller {
     /// nothing. Where queues may lie anywhere, all are refused with `TooMany`. (profile)
     pub fn add_sq_region(&mut self, address: u64, slots: u16) -> Result<u8, AdminError>
         ensures unchanged { OnErr result (self.new ≡ self.old) }
-        ensures window { window_limit self.new ≡ window_limit self.old }
+        ensures depths { depths_of self.new ≡ depths_of self.old }
         ensures own { own_of self.new ≡ own_of self.old }
         ensures front { (pool : List Slot) → IsController self.old pool → IsController self.new pool }
         ensures refused { (rules : FrontRules) (late : Bool) (notes : Notes) (pool : List Slot) → Stands rules late notes self.old pool → IfErr result (λ e. adding_fault Submission address slots rules ≡ Some e) }
@@ -174,7 +170,7 @@ impl Controller {
     /// stays an account under the same condition.
     pub fn add_cq_region(&mut self, address: u64, slots: u16) -> Result<u8, AdminError>
         ensures unchanged { OnErr result (self.new ≡ self.old) }
-        ensures window { window_limit self.new ≡ window_limit self.old }
+        ensures depths { depths_of self.new ≡ depths_of self.old }
         ensures own { own_of self.new ≡ own_of self.old }
         ensures front { (pool : List Slot) → IsController self.old pool → IsController self.new pool }
         ensures refused { (rules : FrontRules) (late : Bool) (notes : Notes) (pool : List Slot) → Stands rules late notes self.old pool → IfErr result (λ e. adding_fault Completion address slots rules ≡ Some e) }
@@ -192,7 +188,7 @@ fn first_controller(
     table: PlacedTable,
     mechanism: Mechanism,
     settings: Settings,
-    window: u16,
+    depth: u16,
     sq_slots: u16,
     cq_slots: u16,
     slots: &mut [Slot],
@@ -201,7 +197,7 @@ fn first_controller(
     requires some_sq { 0 < sq_slots }
     requires some_cq { 0 < cq_slots }
     ensures stands { (rules : FrontRules) → IsFirst rules mechanism settings table sq_slots cq_slots → Stands rules false [] result slots.new }
-    ensures window { window_limit result ≡ window }
+    ensures depths { depths_of result ≡ equal_depths depth }
     ensures own { own_of result ≡ no_own }
     ensures size { length slots.new ≡ length slots.old }
 {
@@ -211,7 +207,7 @@ fn first_controller(
         sqs: first_sqs(sq_slots),
         cqs: first_cqs(cq_slots),
         free: all_free(slots),
-        window,
+        depths: [depth; MAX_REGIONS],
         outstanding: 0,
         picked: 0,
         picked_qid: 0,

@@ -41,7 +41,7 @@ impl Controller {
     ghost use Rattle.nvme_entry.specs.AdminCommand.{admin_command_of};
     ghost use Rattle.nvme_entry.specs.declared.admin.AdminCommand.TheVariants as command;
     ghost use Rattle.nvme_ctrl.specs.Own.{names_none, is_own, own_of, oldest_is_own};
-    ghost use Rattle.nvme_ctrl.specs.Calls.{window_limit};
+    ghost use Rattle.nvme_ctrl.specs.Calls.{depths_of};
     ghost use Rattle.nvme_ctrl.specs.Making.{placing_in};
     ghost use Rattle.nvme_admin.specs.Effects.{verdict_in};
     ghost use Rattle.nvme_ctrl.specs.Steps.{IsNextPick, IsVerdictOf, IsBusy, HasStepped, HasPassed, HasDone, NamesQueues, picked_notes};
@@ -75,7 +75,7 @@ impl Controller {
     fn pick_io(&mut self, slots: &[Slot], pick: Pick)
         requires can { CanPickNow self.old slots.now pick }
         requires io { pick.qid ≢ 0 }
-        ensures window { window_limit self.new ≡ window_limit self.old }
+        ensures depths { depths_of self.new ≡ depths_of self.old }
         ensures own { own_of self.new ≡ own_of self.old }
         ensures stands { (rules : FrontRules) (late : Bool) (notes : Notes) → Stands rules late notes self.old slots.now → Stands rules late (picked_notes notes pick) self.new slots.now }
     {
@@ -121,7 +121,7 @@ impl Controller {
         requires can { CanPickNow self.old slots.now pick }
         requires of_admin { pick.qid ≡ 0 }
         requires own { (rules : FrontRules) (late : Bool) (notes : Notes) → Stands rules late notes self.old slots.now → is_own self.old.own (logged notes) (oldest_entry self.old slots.now) ≡ true }
-        ensures window { window_limit self.new ≡ window_limit self.old }
+        ensures depths { depths_of self.new ≡ depths_of self.old }
         ensures left { own_of self.new ≡ own_of self.old }
         ensures stands { (rules : FrontRules) (late : Bool) (notes : Notes) → Stands rules late notes self.old slots.now → HasPassed rules late notes pick self.new slots.now }
     {
@@ -138,7 +138,7 @@ impl Controller {
     fn pick_admin(&mut self, slots: &mut [Slot], pick: Pick) -> (Effect, Sqe)
         requires can { CanPickNow self.old slots.old pick }
         requires of_admin { pick.qid ≡ 0 }
-        ensures window { window_limit self.new ≡ window_limit self.old }
+        ensures depths { depths_of self.new ≡ depths_of self.old }
         ensures size { length slots.new ≡ length slots.old }
         ensures names { (rules : FrontRules) (late : Bool) (notes : Notes) → Stands rules late notes self.old slots.old → placing_in rules ≡ None → NamesQueues (logged notes) result.0 }
         ensures own { own_of self.new ≡ own_of self.old }
@@ -174,7 +174,7 @@ impl Controller {
         ensures passed { (rules : FrontRules) (late : Bool) (notes : Notes) → Stands rules late notes self.old slots.old → (pick : Pick) → result ≡ step.Passed pick → oldest_is_own (own_of self.old) notes ≡ Some true }
         ensures carried_out { (rules : FrontRules) (late : Bool) (notes : Notes) → Stands rules late notes self.old slots.old → (effect : Effect) (entry : Sqe) → result ≡ step.Done effect entry → oldest_is_own (own_of self.old) notes ≡ Some false }
         ensures names { (rules : FrontRules) (late : Bool) (notes : Notes) → Stands rules late notes self.old slots.old → placing_in rules ≡ None → (effect : Effect) (entry : Sqe) → result ≡ step.Done effect entry → NamesQueues (logged notes) effect }
-        ensures window { window_limit self.new ≡ window_limit self.old }
+        ensures depths { depths_of self.new ≡ depths_of self.old }
         ensures size { length slots.new ≡ length slots.old }
         ensures own { own_of self.new ≡ own_of self.old }
         ensures stands { (rules : FrontRules) (late : Bool) (notes : Notes) → Stands rules late notes self.old slots.old → HasStepped rules late notes room result self.new slots.new }

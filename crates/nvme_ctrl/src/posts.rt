@@ -45,7 +45,7 @@ impl Controller {
     ghost use Rattle.nvme_log.specs.Queues.{open_cq};
     ghost use Rattle.nvme_ctrl.specs.Notes.{Notes, logged};
     ghost use Rattle.nvme_ctrl.specs.Standing.{Stands, IsController};
-    ghost use Rattle.nvme_ctrl.specs.Calls.{window_limit, HasPosted};
+    ghost use Rattle.nvme_ctrl.specs.Calls.{depths_of, HasPosted};
     ghost use Rattle.nvme_ctrl.specs.Posts.{NonePostable, IsPostOf, completion_of, next_post_of};
     ghost use Rattle.nvme_ctrl.specs.kept.Pool.{slot_at};
     ghost use Rattle.nvme_ctrl.specs.declared.slot.Slot.{Slot};
@@ -105,7 +105,7 @@ impl Controller {
         requires front { IsController self.old slots.old }
         ensures front { IsController self.new slots.new }
         ensures none { result ≡ None → (self.new ≡ self.old) × (slots.new ≡ slots.old) }
-        ensures window { window_limit self.new ≡ window_limit self.old }
+        ensures depths { depths_of self.new ≡ depths_of self.old }
         ensures size { length slots.new ≡ length slots.old }
         ensures own { own_of self.new ≡ own_of self.old }
         ensures told { (rules : FrontRules) (late : Bool) (notes : Notes) → Stands rules late notes self.old slots.old → result ≡ None → (x : ℕ) → open_cq (logged notes) cqid ≡ Some x → NonePostable rules notes x }

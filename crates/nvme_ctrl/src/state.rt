@@ -55,8 +55,8 @@ pub struct Controller {
     pub(crate) cqs: [CqState; MAX_REGIONS],
     /// The free slots.
     pub(crate) free: Chain,
-    /// At most so many commands of a queue wait.
-    pub(crate) window: u16,
+    /// The depth of each submission queue: at most so many of its commands hold a slot.
+    pub(crate) depths: [u16; MAX_REGIONS],
     /// How many commands were picked, or aborted by an Abort command, and have no completion posted.
     pub(crate) outstanding: u16,
     /// How many commands are picked and not taken.
@@ -134,6 +134,7 @@ impl Deletion {
 
 impl Controller {
     ghost use Rattle.std.specs.Prelude.{◌≡◌, slice_set};
+    ghost use Rattle.nvme_ctrl.specs.Calls.{depth_of};
     ghost use Rattle.nvme_ctrl.specs.kept.State.{sq_at, cq_at, deletion_at, picked_in};
 
     /// The state of a submission queue.
@@ -199,6 +200,18 @@ impl Controller {
         let qid = usize::from(qid);
         if qid < MAX_REGIONS {
             self.deletions[qid] = deletion;
+        }
+    }
+
+    /// The depth of a submission queue.
+    pub(crate) fn depth(&self, qid: u16) -> u16
+        ensures { result ≡ depth_of self.now qid }
+    {
+        let qid = usize::from(qid);
+        if qid < MAX_REGIONS {
+            self.depths[qid]
+        } else {
+            0
         }
     }
 

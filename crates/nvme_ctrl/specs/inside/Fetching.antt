@@ -1,9 +1,10 @@
 -- When a controller may fetch from a queue, by what it keeps in memory (profile).
-use Rattle.std.specs.Prelude.{◌≡◌, ◌≢◌, ℕ, ◌-◌, ◌<◌, false, Some}
+use Rattle.std.specs.Prelude.{◌≡◌, ◌≢◌, ℕ, ◌+◌, ◌-◌, ◌<◌, false, Some}
 use Rattle.nvme_placing.specs.Telling.{content_of}
 use Rattle.nvme_admin.specs.Standing.{sq_of}
 use Rattle.nvme_admin.specs.declared.verdict.SqEntry.{SqEntry}
 use Rattle.nvme_log.specs.Limits.{window_of}
+use Rattle.nvme_ctrl.specs.Calls.{depth_of}
 use Rattle.nvme_ctrl.specs.Doorbells.{gap}
 use Rattle.nvme_ctrl.specs.declared.ring.Ring.{Ring}
 use Rattle.nvme_ctrl.specs.declared.state.Controller.{Controller}
@@ -17,11 +18,11 @@ filled ring = gap ring.slots ring.head ring.tail
 abbrev pub waiting_in : Controller → ℕ → ℕ
 waiting_in c q = (sq_at c.sqs q).window.len - picked_in c q
 
--- the queue is open, a slot is free, the host submitted more, and its window has room
+-- the queue is open, a slot is free, the host submitted more, fewer of its commands hold a slot than its depth, and it has room for one that waits
 pub record IsFetchable (c : Controller) (qid : ℕ) (e : SqEntry) : Type 0 where
   pub in_table : sq_of (content_of c.table) qid ≡ Some e
   pub not_closing : e.closing ≡ false
   pub some_free : c.free.len ≢ 0
   pub some_submitted : filled (sq_at c.sqs qid).ring ≢ 0
-  pub in_window : waiting_in c qid < c.window
+  pub in_depth : waiting_in c qid + (sq_at c.sqs qid).unposted < depth_of c qid
   pub room : waiting_in c qid < window_of (sq_at c.sqs qid).ring.slots

@@ -9,7 +9,7 @@ use Rattle.nvme_ctrl.proofs.state.Controller.begin_delete.Goals as goal
 pub returns : goal.returns
 returns c = record {
   own = ap (λ (z : Controller). z.own) c.put_deletion.ensures ∙ ap (λ (z : Controller). z.own) c.drop_window.ensures.left ∙ ap (λ (z : Controller). z.own) c.put_sq.ensures;
-  window = ap (λ (z : Controller). z.window) c.put_deletion.ensures ∙ ap (λ (z : Controller). z.window) c.drop_window.ensures.left ∙ ap (λ (z : Controller). z.window) c.put_sq.ensures;
+  depths = ap (λ (z : Controller). z.depths) c.put_deletion.ensures ∙ ap (λ (z : Controller). z.depths) c.drop_window.ensures.left ∙ ap (λ (z : Controller). z.depths) c.put_sq.ensures;
   size = ap (λ (s : List Slot). length s) c.put_item.ensures ∙ length-put_item c.drop_window.new.slots c.args.tag (record c.slot_at-slot.result { state = 6 }) ∙ c.drop_window.ensures.size;
   begun = λ rules notes k g region to candidate h none loose entry first unanswered cookie not_passed_on d few.
       let a = c.args.self.now in

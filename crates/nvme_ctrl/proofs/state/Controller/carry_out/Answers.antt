@@ -46,7 +46,7 @@ abort-requires c =
 pub returns-in-Done : goal.returns-in-Done
 returns-in-Done c = record {
   own = ap (λ (z : Controller). z.own) c.end.ensures.left;
-  window = ap (λ (z : Controller). z.window) c.end.ensures.left;
+  depths = ap (λ (z : Controller). z.depths) c.end.ensures.left;
   size = c.end.ensures.size;
   stands = λ rules late notes v.
       let a = c.args.self.now in
@@ -68,7 +68,7 @@ open_cq-requires c = record { some = subst (λ (n : ℕ). 0 < n) (sym c.asked_sl
 pub returns-in-OpenSq : goal.returns-in-OpenSq
 returns-in-OpenSq c = record {
   own = ap (λ (z : Controller). z.own) c.end-in-OpenSq.ensures.left ∙ ap (λ (z : Controller). z.own) c.open_sq.ensures.left;
-  window = ap (λ (z : Controller). z.window) c.end-in-OpenSq.ensures.left ∙ ap (λ (z : Controller). z.window) c.open_sq.ensures.left;
+  depths = ap (λ (z : Controller). z.depths) c.end-in-OpenSq.ensures.left ∙ ap (λ (z : Controller). z.depths) c.open_sq.ensures.left;
   size = c.end-in-OpenSq.ensures.size;
   stands = λ rules late notes v.
       let a = c.args.self.now in
@@ -86,7 +86,7 @@ returns-in-OpenSq c = record {
 pub returns-in-OpenCq : goal.returns-in-OpenCq
 returns-in-OpenCq c = record {
   own = ap (λ (z : Controller). z.own) c.end-in-OpenCq.ensures.left ∙ ap (λ (z : Controller). z.own) c.open_cq.ensures.left;
-  window = ap (λ (z : Controller). z.window) c.end-in-OpenCq.ensures.left ∙ ap (λ (z : Controller). z.window) c.open_cq.ensures.left;
+  depths = ap (λ (z : Controller). z.depths) c.end-in-OpenCq.ensures.left ∙ ap (λ (z : Controller). z.depths) c.open_cq.ensures.left;
   size = c.end-in-OpenCq.ensures.size;
   stands = λ rules late notes v.
       let a = c.args.self.now in
@@ -104,7 +104,7 @@ returns-in-OpenCq c = record {
 pub returns-in-CloseCq : goal.returns-in-CloseCq
 returns-in-CloseCq c = record {
   own = ap (λ (z : Controller). z.own) c.end-in-CloseCq.ensures.left ∙ ap (λ (z : Controller). z.own) c.close_cq.ensures.left;
-  window = ap (λ (z : Controller). z.window) c.end-in-CloseCq.ensures.left ∙ ap (λ (z : Controller). z.window) c.close_cq.ensures.left;
+  depths = ap (λ (z : Controller). z.depths) c.end-in-CloseCq.ensures.left ∙ ap (λ (z : Controller). z.depths) c.close_cq.ensures.left;
   size = c.end-in-CloseCq.ensures.size;
   stands = λ rules late notes v.
       let a = c.args.self.now in
@@ -120,7 +120,7 @@ returns-in-CloseCq c = record {
 pub returns-in-BeginDelete : goal.returns-in-BeginDelete
 returns-in-BeginDelete c = record {
   own = c.begin_delete.ensures.own;
-  window = c.begin_delete.ensures.window;
+  depths = c.begin_delete.ensures.depths;
   size = c.begin_delete.ensures.size;
   stands = λ rules late notes v.
       let a = c.args.self.now in
@@ -136,7 +136,7 @@ returns-in-BeginDelete c = record {
 pub returns-after-abort : goal.returns-after-abort
 returns-after-abort c = record {
   own = ap (λ (z : Controller). z.own) c.end-in-Abort.ensures.left ∙ c.abort.ensures.own;
-  window = ap (λ (z : Controller). z.window) c.end-in-Abort.ensures.left ∙ c.abort.ensures.window;
+  depths = ap (λ (z : Controller). z.depths) c.end-in-Abort.ensures.left ∙ c.abort.ensures.depths;
   size = c.end-in-Abort.ensures.size ∙ c.abort.ensures.size;
   stands = λ rules late notes v.
       let a = c.args.self.now in
@@ -158,7 +158,7 @@ returns-after-abort c = record {
 pub returns-in-SetArbitration : goal.returns-in-SetArbitration
 returns-in-SetArbitration c = record {
   own = ap (λ (z : Controller). z.own) c.end-in-SetArbitration.ensures.left ∙ c.set_arbitration.ensures.own;
-  window = ap (λ (z : Controller). z.window) c.end-in-SetArbitration.ensures.left ∙ c.set_arbitration.ensures.window;
+  depths = ap (λ (z : Controller). z.depths) c.end-in-SetArbitration.ensures.left ∙ c.set_arbitration.ensures.depths;
   size = c.end-in-SetArbitration.ensures.size;
   stands = λ rules late notes v.
       let a = c.args.self.now in

@@ -1,5 +1,5 @@
 use Rattle.std.proofs.Common.{◌≡◌, ℕ, Some, length, sym, ap, subst}
-use Rattle.nvme_ctrl.specs.Calls.{window_limit, MayFetch}
+use Rattle.nvme_ctrl.specs.Calls.{depth_of, MayFetch}
 use Rattle.nvme_ctrl.specs.declared.state.SqState.{SqState}
 use Rattle.nvme_ctrl.proofs.FetchCalls.{may_fetch, told_fetchable}
 use Rattle.nvme_ctrl.proofs.FetchTold.{is_fetchable, slot_told}
@@ -12,7 +12,7 @@ returns-in_err-fetchable-clause-told c rules late notes slots s slot m =
 pub returns-clause-may : goal.returns-clause-may
 returns-clause-may c rules late notes slots s =
     let it = told_fetchable c.args.self.now s.content.table s.numbers.tells c.args.qid c.in_ok-fetchable.field-0 c.in_ok-fetchable.ensures.some in
-    subst (λ (state : SqState). MayFetch rules notes (window_limit c.args.self.now) (length slots) c.args.qid state.ring.head) (sym c.sq.ensures)
+    subst (λ (state : SqState). MayFetch rules notes (depth_of c.args.self.now c.args.qid) (length slots) c.args.qid state.ring.head) (sym c.sq.ensures)
     (may_fetch rules late notes c.args.self.now slots s c.args.qid it.entry it.can)
 
 pub returns-clause-told : goal.returns-clause-told

@@ -3,7 +3,7 @@ use Rattle.nvme_ctrl.proofs.OwnCall.{owned, owned_front}
 use Rattle.nvme_ctrl.proofs.state.Controller.own_feature.Goals as goal
 
 pub returns-clause-front : goal.returns-clause-front
-returns-clause-front c = λ pool is. owned_front c.args.self.now pool _ is
+returns-clause-front c = λ pool is. owned_front c.args.self.now pool _ c.args.self.now.depths is
 
 pub returns-clause-stands : goal.returns-clause-stands
-returns-clause-stands c = λ rules late notes pool s. owned rules late notes c.args.self.now pool _ s
+returns-clause-stands c = λ rules late notes pool s. owned rules late notes c.args.self.now pool _ c.args.self.now.depths s

@@ -15,7 +15,7 @@ use Rattle.nvme_ctrl.proofs.state.Controller.pass.Goals as goal
 pub returns : goal.returns
 returns c = record {
   left = ap (λ (z : Controller). z.own) c.put_sq.ensures;
-  window = ap (λ (z : Controller). z.window) c.put_sq.ensures;
+  depths = ap (λ (z : Controller). z.depths) c.put_sq.ensures;
   stands = λ rules late notes s.
       let self : Controller = c.args.self.now in
       let can = c.requires.can in

@@ -32,7 +32,7 @@ returns c =
     let a = c.args.self.now in
     record {
       own = c.carry_out.ensures.own ∙ ap (λ (z : Controller). z.own) c.put_sq.ensures;
-      window = c.carry_out.ensures.window ∙ ap (λ (z : Controller). z.window) c.put_sq.ensures;
+      depths = c.carry_out.ensures.depths ∙ ap (λ (z : Controller). z.depths) c.put_sq.ensures;
       size = c.carry_out.ensures.size;
       commanded = λ rules late notes s.
           let h = s.holds.tabled.history in
