@@ -12,7 +12,7 @@ use Rattle.nvme_admin.specs.declared.region.AdminError.TheVariants.{Used, TooMan
 use Rattle.nvme_log.specs.Rules.{FrontRules, sq_regions_of, cq_regions_of, slots_at}
 use Rattle.nvme_ctrl.specs.Notes.{Notes, logged}
 use Rattle.nvme_ctrl.specs.Doorbells.{submitted, consumed}
-use Rattle.nvme_ctrl.specs.Calls.{window_limit}
+use Rattle.nvme_ctrl.specs.Calls.{depths_of}
 use Rattle.nvme_ctrl.specs.Making.{with_region, is_late, is_named, adding_fault, placing_in, regions_of}
 use Rattle.nvme_ctrl.specs.Own.{own_of}
 use Rattle.nvme_ctrl.specs.Standing.{Stands}
@@ -147,7 +147,7 @@ module _ (kind : Kind) (a n : ℕ) (rules : FrontRules) (late : Bool) (notes : N
   their_fault = fault_same kind a n rules s.their s.alike
 
   module _ (c : Controller) (f : Fits kind n rules) (stands : Stands (with_region kind a n s.their) (is_late s.their s.their_late notes a) notes c e.slots.items)
-      (window : window_limit c ≡ window_limit e.controller) (own : own_of c ≡ own_of e.controller) where
+      (depths : depths_of c ≡ depths_of e.controller) (own : own_of c ≡ own_of e.controller) where
     stands_with : (later : Bool) → InTime kind a n rules later s.their s.their_late notes → StandsAt (with_region kind a n rules) later notes (record e { controller = c })
     stands_with later early =
         let on = on_regions s.their s.alike.adds in
@@ -168,10 +168,9 @@ module _ (kind : Kind) (a n : ℕ) (rules : FrontRules) (late : Bool) (notes : N
           cookies = s.cookies;
           answers = s.answers;
           untaken = s.untaken;
-          within = s.within;
           lawful = s.lawful;
           pool = s.pool;
-          window = window ∙ s.window;
+          depths = depths ∙ s.depths;
           own = own ∙ s.own;
         }
 
@@ -181,9 +180,9 @@ module _ (kind : Kind) (a n : ℕ) (rules : FrontRules) (late : Bool) (notes : N
 -- before the first event the region is in time
 module _ (kind : Kind) (a n : ℕ) (rules : FrontRules) (late : Bool) (e : Engine) (s : StandsAt rules late [] e) (c : Controller) (f : Fits kind n rules)
     (stands : Stands (with_region kind a n s.their) (is_late s.their s.their_late [] a) [] c e.slots.items)
-    (window : window_limit c ≡ window_limit e.controller) (own : own_of c ≡ own_of e.controller) where
+    (depths : depths_of c ≡ depths_of e.controller) (own : own_of c ≡ own_of e.controller) where
   pub stands_in_time : StandsAt (with_region kind a n rules) late [] (record e { controller = c })
-  stands_in_time = stands_with kind a n rules late [] e s c f stands window own late (λ early.
+  stands_in_time = stands_with kind a n rules late [] e s c f stands depths own late (λ early.
       (let was = s.in_time early in (
         ap (with_region kind a n) was.0,
         (λ i. was.1 i || is_named s.their [] a) ∙ none_named s.their s.alike.adds a,

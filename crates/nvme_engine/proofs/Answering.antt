@@ -59,10 +59,9 @@ module _ (rules : FrontRules) (late : Bool) (notes : Notes) (e : Engine) (s : St
     cookies = s.cookies;
     answers = answered_by_outcome rules notes marks p.region p.index entry answer s.answers at (ap (λ (x : StatusCode). record { status = x; dw0 = 0 }) is);
     untaken = s.untaken;
-    within = (tt, (tt, s.within));
     lawful = s.lawful;
     pool = same_pool e f left s.pool;
-    window = left.window ∙ s.window;
+    depths = left.depths ∙ s.depths;
     own = left.own ∙ s.own;
   }
 

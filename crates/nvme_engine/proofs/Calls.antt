@@ -3,7 +3,7 @@ use Rattle.std.proofs.Common.{◌≡◌, ℕ, ◌≤◌, List, length, Global, r
 use Rattle.std.specs.Prelude.{Vec}
 use Rattle.std.specs.Vec.{with_items}
 use Rattle.std.proofs.Math.Nat.{ℕ_set}
-use Rattle.nvme_ctrl.specs.Calls.{window_limit}
+use Rattle.nvme_ctrl.specs.Calls.{depths_of}
 use Rattle.nvme_ctrl.specs.Own.{own_of}
 use Rattle.nvme_ctrl.specs.Notes.{Notes}
 use Rattle.nvme_ctrl.specs.Standing.{Stands}
@@ -15,9 +15,9 @@ use Rattle.nvme_engine.specs.Standing.{pool_size}
 use Rattle.nvme_engine.specs.declared.engine.Engine.{Engine}
 use Rattle.nvme_engine.proofs.Controllers.{items_are}
 
--- the window, the commands that are passed on, and the number of slots
+-- the depths, the commands that are passed on, and the number of slots
 pub record Leaves (old new : Engine) : Type 0 where
-  pub window : window_limit new.controller ≡ window_limit old.controller
+  pub depths : depths_of new.controller ≡ depths_of old.controller
   pub own : own_of new.controller ≡ own_of old.controller
   pub size : length new.slots.items ≡ length old.slots.items
 
@@ -33,9 +33,9 @@ written e c slots = record { controller = c; slots = with_items e.slots slots }
 pub slots_are : (e : Engine) (c : Controller) (slots : List Slot) → length slots ≡ length e.slots.items → (written e c slots).slots.items ≡ slots
 slots_are e c slots size = items_are e.slots slots size
 
-pub leaves : (e : Engine) (c : Controller) (slots : List Slot) → window_limit c ≡ window_limit e.controller → own_of c ≡ own_of e.controller → length slots ≡ length e.slots.items
+pub leaves : (e : Engine) (c : Controller) (slots : List Slot) → depths_of c ≡ depths_of e.controller → own_of c ≡ own_of e.controller → length slots ≡ length e.slots.items
     → Leaves e (written e c slots)
-leaves e c slots window own size = record { window = window; own = own; size = ap (λ (xs : List Slot). length xs) (slots_are e c slots size) ∙ size }
+leaves e c slots depths own size = record { depths = depths; own = own; size = ap (λ (xs : List Slot). length xs) (slots_are e c slots size) ∙ size }
 
 pub stands_written : (rules : FrontRules) (late : Bool) (notes : Notes) (e : Engine) (c : Controller) (slots : List Slot) → length slots ≡ length e.slots.items
     → Stands rules late notes c slots → Stands rules late notes c (written e c slots).slots.items

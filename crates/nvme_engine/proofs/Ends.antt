@@ -114,10 +114,9 @@ module _ (rules : FrontRules) (late : Bool) (notes : Notes) (e : Engine) (s : St
     cookies = s.cookies;
     answers = admin_answered rules notes d.qid d.region index done s.answers;
     untaken = s.untaken;
-    within = (tt, (tt, s.within));
     lawful = s.lawful;
     pool = same_pool e f left s.pool;
-    window = left.window ∙ s.window;
+    depths = left.depths ∙ s.depths;
     own = left.own ∙ s.own;
   }
 

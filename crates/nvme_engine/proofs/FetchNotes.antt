@@ -1,9 +1,9 @@
 -- A command is fetched: its doorbell was rung, it was fetched, and its index is kept with it.
 use Rattle.std.proofs.Common.{◌≡◌, ◌⊎◌, ℕ, zero, suc, ◌+◌, ◌-◌, ◌<◌, ◌≤◌, ◌%◌, ◌==◌, ◌&&◌, Bool, true, false, if◌then◌else◌, List, [], ◌∷◌, ◌++◌, length, Some, None, refl, sym, ap, ◌∙◌, subst, arith, inl, inr}
-use Rattle.std.specs.Prelude.{slice_get}
+use Rattle.std.specs.Prelude.{slice_get, get_or}
 use Rattle.std.proofs.Math.Nat.{min-le_left, min-le_right}
 use Rattle.std.proofs.lemmas.Bool.{cases_eq, cases_lt, eq-eqb, eqb-true, ne_eqb, and_parts, and_from}
-use Rattle.std.proofs.lemmas.List.{length_push}
+use Rattle.std.proofs.lemmas.List.{length_push, get_or-replicate}
 use Rattle.std.proofs.lemmas.Nat.{mod_below}
 use Rattle.std.proofs.lemmas.Option.{same_Some}
 use Rattle.nvme_entry.specs.declared.submission.Sqe.{Sqe}
@@ -15,19 +15,24 @@ use Rattle.nvme_log.specs.Limits.{window_of}
 use Rattle.nvme_log.specs.Rules.{FrontRules, sq_regions_of, slots_at}
 use Rattle.nvme_log.specs.Queues.{Queue, is_closed_region}
 use Rattle.nvme_log.specs.Places.{fetched, waiting, entry_at}
+use Rattle.nvme_log.specs.Completions.{unposted_of}
 use Rattle.nvme_log.proofs.Waiting.{fetched-fetch, fetched-fetch_other}
 use Rattle.nvme_ctrl.specs.Notes.{Notes, Logged, Tail, Kept, logged}
 use Rattle.nvme_ctrl.specs.Doorbells.{gap, sq_slots, submitted}
 use Rattle.nvme_ctrl.specs.Tags.{answer_of, cookie_of, all_fetches, all_posts}
 use Rattle.nvme_ctrl.specs.Calls as calls
+use Rattle.nvme_ctrl.specs.Laws.{NoneDeleting}
 use Rattle.nvme_ctrl.specs.Own.{own_of}
 use Rattle.nvme_ctrl.specs.Standing.{Stands}
 use Rattle.nvme_ctrl.specs.declared.state.Controller.{Controller}
-use Rattle.nvme_ctrl.proofs.HeldSlots.{pools_suffice}
+use Rattle.nvme_ctrl.proofs.FewUnposted.{few_unposted}
+use Rattle.nvme_ctrl.proofs.HeldSlots.{few_hold_slots, not_deleted}
 use Rattle.nvme_ctrl.proofs.OpenQueues.{open_region, not_closed_region}
+use Rattle.nvme_ctrl.proofs.Sums.{sum_below}
 use Rattle.nvme_engine.specs.Calls.{MayFetch, HasFetched}
-use Rattle.nvme_engine.specs.Standing.{StandsAt, AnswersByOutcome, pool_size}
+use Rattle.nvme_engine.specs.Standing.{StandsAt, AnswersByOutcome, pool_size, queue_depth}
 use Rattle.nvme_engine.specs.declared.engine.Engine.{Engine}
+use Rattle.nvme_engine.proofs.Endings.{few_wait}
 use Rattle.nvme_engine.proofs.OneDeletion.{none_deleting}
 use Rattle.nvme_engine.proofs.Turn.{gap-one}
 
@@ -78,23 +83,45 @@ module _ (rules : FrontRules) (late : Bool) (notes : Notes) (e : Engine) (s : St
     };
   }
 
+  none : NoneDeleting (logged notes)
+  none = none_deleting (logged notes) s.plain.deletes s.plain.alone m.none_pending
+
+  -- its region is one of those that were added
+  there : m.queue.region < length (sq_regions_of s.their)
+  there = omega (arith, s.stands.holds.queues.sq_there m.queue.region _ (s.stands.holds.queues.attached qid m.queue m.is_open).attached, s.stands.holds.tabled.sq_number)
+
+  -- fewer of its commands hold a slot than its depth
+  in_depth : length (waiting (logged notes) m.queue.region) + unposted_of (logged notes) m.queue.region < queue_depth
+  in_depth =
+      let h = s.stands.holds in
+      let few = few_unposted s.their s.their_late (logged notes) s.stands.content h m.queue.region
+      (not_deleted s.their s.their_late (logged notes) s.stands.content h none m.queue.region) (omega (arith, there, h.tabled.sq_number)) in
+      omega (arith, in_window, few, h.counts.unposted m.queue.region, h.ready.few_taken)
+
+  -- that of its queue, where the depths are an engine's
+  depth_is : (c : Controller) → calls.depths_of c ≡ calls.depths_of e.controller → calls.depth_of c qid ≡ queue_depth
+  depth_is c same =
+      let few = s.stands.numbers.few_sqs qid m.queue.region (s.stands.holds.lives.sqs qid m.queue m.is_open) in
+      ap (λ (ds : List ℕ). get_or ds qid 0) (same ∙ s.depths) ∙ get_or-replicate MAX_REGIONS qid queue_depth 0 few
+
   -- a slot of the pool is free
   some_free : all_fetches (logged notes) < length e.slots.items + all_posts (logged notes)
   some_free =
       let regions : length (sq_regions_of s.their) ≤ MAX_REGIONS = omega (arith, ap (λ (rs : List Region). length rs) s.alike.sqs, s.alike.few_sqs) in
       let pool : pool_size ≤ length e.slots.items = s.pool in
-      pools_suffice s.their s.their_late notes e.controller e.slots.items qid m.queue highest_count s.stands s.within m.is_open
-      (none_deleting (logged notes) s.plain.deletes s.plain.alone m.none_pending) in_window (omega (arith, regions, pool))
+      let waits = sum_below (λ (r : ℕ). length (waiting (logged notes) r)) highest_count m.queue.region (length (sq_regions_of s.their)) (few_wait rules late notes [] e s) there in_window in
+      let held = (few_hold_slots s.their s.their_late notes e.controller e.slots.items s.stands).none_deleting none in
+      omega (arith, regions, pool, waits, held)
 
   -- so the controller may fetch it, once its doorbell is rung
-  pub may_fetch : (c : Controller) → calls.window_limit c ≡ calls.window_limit e.controller
-      → calls.MayFetch s.their (Tail m.queue.region ((index + 1) % slots) ∷ notes) (calls.window_limit c) (length e.slots.items) qid
+  pub may_fetch : (c : Controller) → calls.depths_of c ≡ calls.depths_of e.controller
+      → calls.MayFetch s.their (Tail m.queue.region ((index + 1) % slots) ∷ notes) (calls.depth_of c qid) (length e.slots.items) qid
       (length (fetched (logged notes) m.queue.region) % sq_slots s.their m.queue.region)
-  may_fetch c window = record {
+  may_fetch c depths = record {
     queue = m.queue;
     is_open = m.is_open;
     submitted = omega (arith, rung_once);
-    in_window = omega (arith, in_window, window, s.window);
+    in_depth = omega (arith, in_depth, depth_is c depths);
     has_room = subst (λ (rs : List Region). length (waiting (logged notes) m.queue.region) < window_of (slots_at rs m.queue.region)) (sym s.alike.sqs) m.room;
     some_free = some_free;
     slot_is = refl;
@@ -159,8 +186,8 @@ module _ (rules : FrontRules) (late : Bool) (notes : Notes) (e : Engine) (s : St
   not_closed = not_closed_region s.their s.their_late (logged notes) s.stands.content s.stands.holds qid m.queue m.is_open
 
   stands-fetch : (after : Engine) → Stands s.their s.their_late with_fetch after.controller after.slots.items → length after.slots.items ≡ length e.slots.items
-      → calls.window_limit after.controller ≡ calls.window_limit e.controller → own_of after.controller ≡ own_of e.controller → StandsAt rules late with_fetch after
-  stands-fetch after stands size window own = record {
+      → calls.depths_of after.controller ≡ calls.depths_of e.controller → own_of after.controller ≡ own_of e.controller → StandsAt rules late with_fetch after
+  stands-fetch after stands size depths own = record {
     their = s.their;
     their_late = s.their_late;
     alike = s.alike;
@@ -182,10 +209,9 @@ module _ (rules : FrontRules) (late : Bool) (notes : Notes) (e : Engine) (s : St
     cookies = cookies-fetch;
     answers = answers-fetch;
     untaken = s.untaken;
-    within = (tt, (in_window rules late notes e s qid slots index m, (tt, s.within)));
     lawful = s.lawful;
     pool = subst (λ (x : ℕ). pool_size ≤ x) (sym size) s.pool;
-    window = window ∙ s.window;
+    depths = depths ∙ s.depths;
     own = own ∙ s.own;
   }
 
@@ -200,9 +226,9 @@ module _ (rules : FrontRules) (late : Bool) (notes : Notes) (e : Engine) (s : St
 
   pub has_fetched : (entry : Sqe) (after : Engine)
       → calls.HasFetched s.their s.their_late (Tail m.queue.region ((index + 1) % slots) ∷ notes) qid entry index after.controller after.slots.items
-      → length after.slots.items ≡ length e.slots.items → calls.window_limit after.controller ≡ calls.window_limit e.controller
+      → length after.slots.items ≡ length e.slots.items → calls.depths_of after.controller ≡ calls.depths_of e.controller
       → own_of after.controller ≡ own_of e.controller → HasFetched rules late notes qid ((index + 1) % slots) index entry after
-  has_fetched entry after done size window own =
+  has_fetched entry after done size depths own =
       let n : ℕ = length (fetched (logged notes) m.queue.region) in
       let before : Notes = Tail m.queue.region ((index + 1) % slots) ∷ notes in
       let same : done.may.queue.region ≡ m.queue.region = ap (λ (q : Queue). q.region) (same_Some done.may.queue m.queue (sym done.may.is_open ∙ m.is_open)) in
@@ -213,5 +239,5 @@ module _ (rules : FrontRules) (late : Bool) (notes : Notes) (e : Engine) (s : St
         queue = m.queue;
         is_open = m.is_open;
         stands = subst (λ (i : ℕ). StandsAt rules late (Kept m.queue.region i i ∷ Logged (Fetch m.queue.region i entry) ∷ before) after) (sym m.next)
-            (stands-fetch rules late notes e s qid slots index m entry n refl after there size window own);
+            (stands-fetch rules late notes e s qid slots index m entry n refl after there size depths own);
       }

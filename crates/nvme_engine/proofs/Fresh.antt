@@ -1,7 +1,6 @@
 -- An engine that begins, with its admin regions alone.
 use Rattle.std.proofs.Common.{◌≡◌, ℕ, ◌≤◌, ◌==◌, ◌||◌, nat_lt, Bool, true, false, if◌then◌else◌, List, [], ◌∷◌, length, Some, None, refl, sym, ap, subst, arith}
 use Rattle.std.proofs.lemmas.Bool.{or_parts, ltb-false, eqb-true}
-use Rattle.nvme_arbiter.specs.Limits.{highest_count}
 use Rattle.nvme_arbiter.specs.Settings.{ArbitrationFields}
 use Rattle.nvme_arbiter.specs.declared.settings.Mechanism.{Mechanism}
 use Rattle.nvme_admin.specs.Accepted.{effects_of, queue_table}
@@ -11,11 +10,11 @@ use Rattle.nvme_admin.specs.declared.region.Region.{Region}
 use Rattle.nvme_admin.specs.declared.region.AdminError.TheVariants.{Used, Size}
 use Rattle.nvme_log.specs.Rules.{FrontRules, sq_regions_of, cq_regions_of, slots_at}
 use Rattle.nvme_log.specs.Queues.{is_serving}
-use Rattle.nvme_ctrl.specs.Calls.{window_limit}
+use Rattle.nvme_ctrl.specs.Calls.{depths_of, equal_depths}
 use Rattle.nvme_ctrl.specs.Making.{first_rules, admin_fault}
 use Rattle.nvme_ctrl.specs.Own.{no_own, own_of}
 use Rattle.nvme_ctrl.specs.Standing.{Stands}
-use Rattle.nvme_engine.specs.Standing.{HaveRings, StandsAt, HasPool, ServesItsQueues}
+use Rattle.nvme_engine.specs.Standing.{HaveRings, StandsAt, HasPool, ServesItsQueues, queue_depth}
 use Rattle.nvme_engine.specs.declared.engine.Engine.{Engine}
 
 -- the causes that don't hold where none does
@@ -51,9 +50,9 @@ module _ (mechanism : Mechanism) (settings : ArbitrationFields) (limits : Limits
   unfolding effects_of queue_table
   first_cqs = refl
 
-  pub begins : admin_fault sq cq ≡ None → (e : Engine) → Stands rules false [] e.controller e.slots.items → HasPool e → window_limit e.controller ≡ highest_count → own_of e.controller ≡ no_own
+  pub begins : admin_fault sq cq ≡ None → (e : Engine) → Stands rules false [] e.controller e.slots.items → HasPool e → depths_of e.controller ≡ equal_depths queue_depth → own_of e.controller ≡ no_own
       → StandsAt rules false [] e
-  begins none e stands pool window own =
+  begins none e stands pool depths own =
       let sizes_fit = causes Size Used Size _ _ _ none in
       record {
         their = rules;
@@ -80,9 +79,8 @@ module _ (mechanism : Mechanism) (settings : ArbitrationFields) (limits : Limits
         cookies = λ r i below. absurd (omega (arith, below));
         answers = λ r i entry answer io there answered. absurd (cc answered);
         untaken = refl;
-        within = tt;
         lawful = tt;
         pool = pool;
-        window = window;
+        depths = depths;
         own = own;
       }

@@ -141,10 +141,9 @@ module _ (rules : FrontRules) (late : Bool) (notes : Notes) (e now : Engine) (s 
           answers = s.answers;
           untaken = ap (λ (ps : List Place). ps ++ dispatched_by past pick (open_sq past pick.qid)) (s.untaken ∙ append-nil (taken notes))
               ∙ ap (λ (o : Option Queue). taken notes ++ dispatched_by past pick o) at.is;
-          within = (tt, s.within);
           lawful = lawful_next;
           pool = same_pool e now left s.pool;
-          window = left.window ∙ s.window;
+          depths = left.depths ∙ s.depths;
           own = left.own ∙ s.own;
         };
       }

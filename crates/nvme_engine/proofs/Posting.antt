@@ -177,10 +177,9 @@ module _ (rules : FrontRules) (late : Bool) (notes : Notes) (e : Engine) (s : St
         cookies = s.cookies;
         answers = s.answers;
         untaken = s.untaken;
-        within = (tt, (tt, s.within));
         lawful = s.lawful;
         pool = same_pool e f left s.pool;
-        window = left.window ∙ s.window;
+        depths = left.depths ∙ s.depths;
         own = left.own ∙ s.own;
       }
 

@@ -4,7 +4,6 @@ use Rattle.std.specs.Prelude.{slice_get}
 use Rattle.std.specs.List.{list_any}
 use Rattle.std.proofs.lemmas.Bool.{eq-eqb, ne_eqb, true≢false}
 use Rattle.nvme_entry.specs.declared.submission.Sqe.{Sqe}
-use Rattle.nvme_arbiter.specs.Limits.{highest_count}
 use Rattle.nvme_arbiter.specs.Lawful.{IsLawfulRun}
 use Rattle.nvme_arbiter.specs.declared.pick.Pick.{Pick}
 use Rattle.nvme_arbiter.specs.declared.pick.Seen.{Seen}
@@ -20,11 +19,10 @@ use Rattle.nvme_log.specs.Answers.{Answer}
 use Rattle.nvme_log.specs.Effects.{is_effect}
 use Rattle.nvme_log.specs.Account.{Deletes}
 use Rattle.nvme_log.specs.declared.place.Place.{Place}
-use Rattle.nvme_ctrl.specs.Notes.{Notes, Logged, EachNote, logged}
+use Rattle.nvme_ctrl.specs.Notes.{Notes, Logged, logged}
 use Rattle.nvme_ctrl.specs.Doorbells.{submitted, consumed}
 use Rattle.nvme_ctrl.specs.Tags.{handed, taken, is_passed, answer_of, cookie_of}
 use Rattle.nvme_ctrl.specs.Observation.{is_arrangement}
-use Rattle.nvme_ctrl.specs.Laws.{IsFetchedWithin}
 use Rattle.nvme_ctrl.specs.Steps.{with_logged, with_answer}
 use Rattle.nvme_ctrl.specs.Standing as ctrl
 use Rattle.nvme_ctrl.proofs.EffectEvents.{AreEffects}
@@ -45,7 +43,6 @@ pub record IsQuiet (rules : FrontRules) (notes later : Notes) : Type 0 where
   pub arranged : list_any is_arrangement later ≡ list_any is_arrangement notes
   pub same_handed : handed later ≡ handed notes
   pub same_taken : taken later ≡ taken notes
-  pub within : EachNote (IsFetchedWithin highest_count) notes → EachNote (IsFetchedWithin highest_count) later
   pub longer : (logged later ≡ [] → logged notes ≡ []) × ((logged notes ≡ [] → notes ≡ []) → logged later ≡ [] → later ≡ [])
 
 -- ---- which notes are quiet
@@ -61,7 +58,6 @@ quiet_none rules notes = record {
   arranged = refl;
   same_handed = refl;
   same_taken = refl;
-  within = λ h. h;
   longer = (λ none. none, λ begun none. begun none);
 }
 
@@ -77,7 +73,6 @@ quiet_more rules notes mid later a b = record {
   arranged = b.arranged ∙ a.arranged;
   same_handed = b.same_handed ∙ a.same_handed;
   same_taken = b.same_taken ∙ a.same_taken;
-  within = λ h. b.within (a.within h);
   longer = (λ none. a.longer.0 (b.longer.0 none), λ begun none. b.longer.1 (a.longer.1 begun) none);
 }
 
@@ -98,7 +93,6 @@ quiet_effect rules notes e is = record {
   arranged = refl;
   same_handed = refl;
   same_taken = refl;
-  within = λ h. (tt, h);
   longer = (λ none. absurd (cc none), λ begun none. absurd (cc none));
 }
 
@@ -124,7 +118,6 @@ quiet_pick rules notes seen pick admin = record {
   arranged = refl;
   same_handed = ap (λ (ps : List Place). handed notes ++ ps) (none_handed notes pick admin (open_sq (logged notes) pick.qid)) ∙ append-nil (handed notes);
   same_taken = refl;
-  within = λ h. (tt, h);
   longer = (λ none. absurd (cc none), λ begun none. absurd (cc none));
 }
 
@@ -142,7 +135,6 @@ quiet_answer rules notes i (Some answer) some = record {
   arranged = refl;
   same_handed = refl;
   same_taken = refl;
-  within = λ h. (tt, h);
   longer = (λ none. none, λ begun none. absurd (some none));
 } where
   other : (r : ℕ) → (r == 0) ≡ false → (0 == r) ≡ false
@@ -180,9 +172,8 @@ module _ (rules : FrontRules) (late : Bool) (notes later : Notes) (rest : List P
     answers = λ r i entry answer io there is. s.answers r i entry answer io
         (ap (λ (xs : List Sqe). slice_get xs i) (sym (quiet.fetches r)) ∙ there) (sym (quiet.answered r i io) ∙ is);
     untaken = quiet.same_handed ∙ s.untaken ∙ ap (λ (ps : List Place). ps ++ rest) (sym quiet.same_taken);
-    within = quiet.within s.within;
     lawful = lawful;
     pool = same_pool e now left s.pool;
-    window = left.window ∙ s.window;
+    depths = left.depths ∙ s.depths;
     own = left.own ∙ s.own;
   }

@@ -69,10 +69,9 @@ module _ (rules other : FrontRules) (h : AreReordered rules other) where
     cookies = s.cookies;
     answers = answers_other notes s.answers;
     untaken = s.untaken;
-    within = s.within;
     lawful = s.lawful;
     pool = s.pool;
-    window = s.window;
+    depths = s.depths;
     own = s.own;
   }
 
@@ -99,10 +98,9 @@ module _ (rules other : FrontRules) (h : AreReordered rules other) where
         cookies = s.cookies;
         answers = answers_other [] s.answers;
         untaken = s.untaken;
-        within = s.within;
         lawful = tt;
         pool = s.pool;
-        window = s.window;
+        depths = s.depths;
         own = s.own;
       }
 

@@ -69,10 +69,9 @@ module _ (rules : FrontRules) (late : Bool) (notes : Notes) (p : Place) (rest : 
     cookies = s.cookies;
     answers = s.answers;
     untaken = untaken_after;
-    within = (tt, s.within);
     lawful = s.lawful;
     pool = same_pool e f left s.pool;
-    window = left.window ∙ s.window;
+    depths = left.depths ∙ s.depths;
     own = left.own ∙ s.own;
   }
 

@@ -16,14 +16,14 @@ use Rattle.nvme_log.specs.Answers.{Answer, outcome_answer}
 use Rattle.nvme_log.specs.Account.{Deletes, latest_admin_place}
 use Rattle.nvme_log.specs.declared.event.Event.{Event}
 use Rattle.nvme_log.specs.declared.event.Event.TheVariants.{Closing}
-use Rattle.nvme_ctrl.specs.Notes.{Notes, EachNote, logged}
+use Rattle.nvme_ctrl.specs.Notes.{Notes, logged}
 use Rattle.nvme_ctrl.specs.Doorbells.{submitted, consumed}
 use Rattle.nvme_ctrl.specs.Tags.{handed, taken, answer_of, cookie_of}
 use Rattle.nvme_ctrl.specs.Observation.{NoneArranged}
 use Rattle.nvme_engine.specs.Regions.{only_adds}
 use Rattle.nvme_ctrl.specs.Own.{no_own, own_of}
-use Rattle.nvme_ctrl.specs.Calls.{window_limit}
-use Rattle.nvme_ctrl.specs.Laws.{NonePassed, IsFetchedWithin}
+use Rattle.nvme_ctrl.specs.Calls.{depths_of, equal_depths}
+use Rattle.nvme_ctrl.specs.Laws.{NonePassed}
 use Rattle.nvme_ctrl.specs.Standing as ctrl
 use Rattle.nvme_engine.specs.declared.engine.Engine.{Engine}
 
@@ -55,6 +55,11 @@ pub record IsPlain (notes : Notes) : Type 0 where
 -- the slots of an engine: as many for each submission region as commands of its queue may wait, and one for each place that may be outstanding
 abbrev pub pool_size : ℕ
 pool_size = MAX_REGIONS * highest_count + max_outstanding
+
+-- the depth of each queue: no fetch waits for it, since fewer commands of the queue wait then than arbitration counts, and no more are unposted than may be
+-- outstanding
+abbrev pub queue_depth : ℕ
+queue_depth = highest_count + max_outstanding
 
 -- each of these regions may have a ring: one with at least two slots. (Full Queue)
 abbrev pub HaveRings : List Region → Type 0
@@ -94,11 +99,10 @@ pub record StandsBut (rules : FrontRules) (late : Bool) (notes : Notes) (rest : 
   pub cookies : (r i : ℕ) → i < length (fetched (logged notes) r) → cookie_of notes r i ≡ Some i
   pub answers : AnswersByOutcome rules notes
   pub untaken : handed notes ≡ taken notes ++ rest
-  pub within : EachNote (IsFetchedWithin highest_count) notes
   -- each pick was made without a limit
   pub lawful : IsLawfulRun their.mechanism their.start.settings (arbitration_of (logged notes))
   pub pool : pool_size ≤ length e.slots.items
-  pub window : window_limit e.controller ≡ highest_count
+  pub depths : depths_of e.controller ≡ equal_depths queue_depth
   pub own : own_of e.controller ≡ no_own
 
 -- all that was picked is taken

@@ -9,6 +9,10 @@ use std::alloc::Global;
 // outstanding: then one is free wherever a command may be fetched.
 const POOL_SIZE: usize = MAX_REGIONS * HIGHEST_COUNT as usize + MAX_OUTSTANDING as usize;
 
+// The depth of each queue, for which no fetch waits: fewer commands of the queue wait then than arbitration counts, and no
+// more are unposted than may be outstanding.
+const QUEUE_DEPTH: u16 = HIGHEST_COUNT + MAX_OUTSTANDING;
+
 // The regions of a controller that waits for its own.
 const NO_SQ: Region = Region {
     address: 0,
@@ -43,7 +47,7 @@ impl Engine {
             mechanism,
             settings,
             limits,
-            HIGHEST_COUNT,
+            QUEUE_DEPTH,
             NO_SQ,
             NO_CQ,
             &mut [],
@@ -93,7 +97,7 @@ impl Engine {
             mechanism,
             settings,
             limits,
-            HIGHEST_COUNT,
+            QUEUE_DEPTH,
             sq,
             cq,
             &mut self.slots,

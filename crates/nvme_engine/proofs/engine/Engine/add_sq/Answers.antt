@@ -36,7 +36,7 @@ returns-clause-in_time c rules late s =
     let a = c.add_sq_region in
     on_ok a.result (a.ensures.added s.their s.their_late _ self.slots.items s.stands) (a.ensures.stands s.their s.their_late _ self.slots.items s.stands)
     (λ none stands. stands_in_time Submission c.args.address c.args.slots rules late self s a.new.self
-    (fits Submission c.args.address c.args.slots rules (sym (their_fault Submission c.args.address c.args.slots rules late _ self s) ∙ none)) stands a.ensures.window a.ensures.own)
+    (fits Submission c.args.address c.args.slots rules (sym (their_fault Submission c.args.address c.args.slots rules late _ self s) ∙ none)) stands a.ensures.depths a.ensures.own)
 
 pub returns-clause-late : goal.returns-clause-late
 returns-clause-late c rules late notes s =
@@ -44,4 +44,4 @@ returns-clause-late c rules late notes s =
     let a = c.add_sq_region in
     on_ok a.result (a.ensures.added s.their s.their_late notes self.slots.items s.stands) (a.ensures.stands s.their s.their_late notes self.slots.items s.stands)
     (λ none stands. stands_late Submission c.args.address c.args.slots rules late notes self s a.new.self
-    (fits Submission c.args.address c.args.slots rules (sym (their_fault Submission c.args.address c.args.slots rules late notes self s) ∙ none)) stands a.ensures.window a.ensures.own)
+    (fits Submission c.args.address c.args.slots rules (sym (their_fault Submission c.args.address c.args.slots rules late notes self s) ∙ none)) stands a.ensures.depths a.ensures.own)

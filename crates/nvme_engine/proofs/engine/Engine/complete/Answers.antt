@@ -15,6 +15,6 @@ returns c = record {
       let size : length c.complete.new.slots ≡ length e.slots.items = c.complete.ensures.size ∙ ap (λ (xs : List Slot). length xs) c.deref_mut.ensures.value in
       let t = c.complete.ensures.stands s.their s.their_late notes old (c.complete.ensures.answer s.their s.their_late notes old ∙ out) in
       has_answered rules late notes e s c.args.tag p held entry at c.args.status is (written e c.complete.new.self c.complete.new.slots)
-      (leaves e c.complete.new.self c.complete.new.slots c.complete.ensures.window c.complete.ensures.own size) t.region t.index _ t.held
+      (leaves e c.complete.new.self c.complete.new.slots c.complete.ensures.depths c.complete.ensures.own size) t.region t.index _ t.held
       (stands_written s.their s.their_late _ e c.complete.new.self c.complete.new.slots size t.stands);
 }

@@ -38,12 +38,12 @@ returns c = record {
       (c.sq_tail.ensures.stands s.their s.their_late notes self.slots.items s.stands rung))) in
       let next : ℕ = length (fetched (logged notes) m.queue.region) % sq_slots s.their m.queue.region in
       let done : c.fetched.result ≡ true = c.fetched.ensures.told s.their s.their_late before there next
-      (subst (λ (pool : List Slot). calls.MayFetch s.their before (calls.window_limit c.sq_tail.new.self) (length pool) qid next) (sym c.deref_mut.ensures.value)
-      (may_fetch rules late notes self s qid slots index m c.sq_tail.new.self c.sq_tail.ensures.window)) in
+      (subst (λ (pool : List Slot). calls.MayFetch s.their before (calls.depth_of c.sq_tail.new.self c.args.qid) (length pool) qid next) (sym c.deref_mut.ensures.value)
+      (may_fetch rules late notes self s qid slots index m c.sq_tail.new.self c.sq_tail.ensures.depths)) in
       let size : length c.fetched.new.slots ≡ length self.slots.items = c.fetched.ensures.size ∙ ap (λ (xs : List Slot). length xs) c.deref_mut.ensures.value in
       let are : (with_items self.slots c.fetched.new.slots).items ≡ c.fetched.new.slots = items_are self.slots c.fetched.new.slots size in
       has_fetched rules late notes self s qid slots index m c.args.entry.now (record { controller = c.fetched.new.self; slots = with_items self.slots c.fetched.new.slots })
       (subst (λ (pool : List Slot). calls.HasFetched s.their s.their_late before qid c.args.entry.now index c.fetched.new.self pool) (sym are)
       (c.fetched.ensures.stands s.their s.their_late before there done))
-      (ap (λ (xs : List Slot). length xs) are ∙ size) (c.fetched.ensures.window ∙ c.sq_tail.ensures.window) (c.fetched.ensures.own ∙ c.sq_tail.ensures.own));
+      (ap (λ (xs : List Slot). length xs) are ∙ size) (c.fetched.ensures.depths ∙ c.sq_tail.ensures.depths) (c.fetched.ensures.own ∙ c.sq_tail.ensures.own));
 }

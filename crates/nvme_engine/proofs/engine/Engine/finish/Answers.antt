@@ -32,5 +32,5 @@ returns c = record { stands = λ rules late notes d s is posted. finished rules 
         let t : HasFinished s.their s.their_late notes qid c.finish.new.self c.finish.new.slots =
         subst (λ (o : Option ℕ). IfSome o (λ (q : ℕ). HasFinished s.their s.their_late notes q c.finish.new.self c.finish.new.slots)) some (c.finish.ensures.stands s.their s.their_late notes old) in
         has_finished rules late notes c.args.self.now s d is posted (written c.args.self.now c.finish.new.self c.finish.new.slots)
-        (leaves c.args.self.now c.finish.new.self c.finish.new.slots c.finish.ensures.window c.finish.ensures.own size) qid t.region t.index t.deletes t.named
+        (leaves c.args.self.now c.finish.new.self c.finish.new.slots c.finish.ensures.depths c.finish.ensures.own size) qid t.region t.index t.deletes t.named
         (stands_written s.their s.their_late _ c.args.self.now c.finish.new.self c.finish.new.slots size t.stands)

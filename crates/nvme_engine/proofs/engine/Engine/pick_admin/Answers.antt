@@ -22,7 +22,7 @@ returns-in_default c = record {
       let size : length c.pick.new.slots ≡ length e.slots.items = c.pick.ensures.size ∙ ap (λ (xs : List Slot). length xs) c.deref_mut.ensures.value in
       let stands = stands_with rules late notes [] e s c.deref_mut.result.now c.deref_mut.ensures.value in
       absurd (is_carried_out rules late notes e (written e c.pick.new.self c.pick.new.slots) s pick may
-      (leaves e c.pick.new.self c.pick.new.slots c.pick.ensures.window c.pick.ensures.own size) admin c.pick.result
+      (leaves e c.pick.new.self c.pick.new.slots c.pick.ensures.depths c.pick.ensures.own size) admin c.pick.result
       (subst (λ (xs : List Slot). HasStepped s.their s.their_late notes highest_count c.pick.result c.pick.new.self xs) (sym (slots_are e c.pick.new.self c.pick.new.slots size))
       (c.pick.ensures.stands s.their s.their_late notes stands))
       c.pick.ensures.io (c.pick.ensures.passed s.their s.their_late notes stands) c.in_default.not-Done);
@@ -37,7 +37,7 @@ returns c = record {
       let did = c.in-Done.effect in
       let entry = c.in-Done.field-1 in
       carried rules late notes e (written e c.pick.new.self c.pick.new.slots) s pick may
-      (leaves e c.pick.new.self c.pick.new.slots c.pick.ensures.window c.pick.ensures.own size) admin c.args.log.now.items c.log_effect.new.log.items c.ending-ending.result
+      (leaves e c.pick.new.self c.pick.new.slots c.pick.ensures.depths c.pick.ensures.own size) admin c.args.log.now.items c.log_effect.new.log.items c.ending-ending.result
       (λ index oldest_entry oldest is. c.ending-ending.ensures rules late notes index oldest_entry s oldest is) did entry
       (subst (λ (xs : List Slot). HasStepped s.their s.their_late notes highest_count (step.Done did entry) c.pick.new.self xs) (sym (slots_are e c.pick.new.self c.pick.new.slots size))
       (subst (λ (z : Step). HasStepped s.their s.their_late notes highest_count z c.pick.new.self c.pick.new.slots) c.in-Done.is (c.pick.ensures.stands s.their s.their_late notes stands)))

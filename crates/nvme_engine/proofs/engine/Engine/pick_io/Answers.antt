@@ -18,7 +18,7 @@ returns c = record {
       let size : length c.pick.new.slots ≡ length e.slots.items = c.pick.ensures.size ∙ ap (λ (xs : List Slot). length xs) c.deref_mut.ensures.value in
       let stands = stands_with rules late notes [] e s c.deref_mut.result.now c.deref_mut.ensures.value in
       has_picked rules late notes e (written e c.pick.new.self c.pick.new.slots) s pick may
-      (leaves e c.pick.new.self c.pick.new.slots c.pick.ensures.window c.pick.ensures.own size) io c.pick.result
+      (leaves e c.pick.new.self c.pick.new.slots c.pick.ensures.depths c.pick.ensures.own size) io c.pick.result
       (subst (λ (xs : List Slot). HasStepped s.their s.their_late notes highest_count c.pick.result c.pick.new.self xs) (sym (slots_are e c.pick.new.self c.pick.new.slots size))
       (c.pick.ensures.stands s.their s.their_late notes stands));
 }

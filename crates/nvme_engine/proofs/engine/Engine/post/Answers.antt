@@ -30,5 +30,5 @@ returns-clause-stands c rules late notes x cqe s is_open size_is next =
     post_done rules late notes e s c.args.cqid x c.args.slots is_open size_is c.in_ok-post.post c.post.new.self c.post.new.slots did ((c.from.result + 1) % c.from-2.result)
     (λ j. (c.from.ensures j + 1) % c.from-2.ensures j) c.cq_head.result c.cq_head.new.self c.cq_head.ensures.answer c.cq_head.ensures.stands c.serving.result c.serving.ensures
     cqe value next c.in_ok-region.region c.in_ok-region.was (written e c.cq_head.new.self c.post.new.slots)
-    (leaves e c.cq_head.new.self c.post.new.slots (c.cq_head.ensures.window ∙ c.post.ensures.window) (c.cq_head.ensures.own ∙ c.post.ensures.own) size)
+    (leaves e c.cq_head.new.self c.post.new.slots (c.cq_head.ensures.depths ∙ c.post.ensures.depths) (c.cq_head.ensures.own ∙ c.post.ensures.own) size)
     (stands_written s.their s.their_late _ e c.cq_head.new.self c.post.new.slots size)

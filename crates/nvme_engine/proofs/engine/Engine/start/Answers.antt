@@ -20,5 +20,5 @@ returns c = record {
       (record { controller = c.in-Ok.controller; slots = with_items self.slots pool })
       (subst (λ (xs : List Slot). Stands (first_rules c.args.mechanism c.args.settings c.args.limits c.args.sq c.args.cq sizes) false [] c.in-Ok.controller xs) (sym are) (c.in-Ok.ensures.stands sizes))
       (subst (λ (n : ℕ). pool_size ≤ n) (sym (ap (λ (xs : List Slot). length xs) are ∙ size)) c.requires.room)
-      c.in-Ok.ensures.window c.in-Ok.ensures.own);
+      c.in-Ok.ensures.depths c.in-Ok.ensures.own);
 }

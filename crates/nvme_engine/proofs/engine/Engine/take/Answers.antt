@@ -37,6 +37,6 @@ returns-clause-stands c rules late notes p rest s =
     let seen : Stands s.their s.their_late (Taken tag t.region t.index ∷ notes) c.take.new.self c.as_slice-slots.result.now =
     subst (λ (xs : List Slot). Stands s.their s.their_late (Taken tag t.region t.index ∷ notes) c.take.new.self xs) (sym c.as_slice-slots.ensures.value) now in
     has_taken rules late notes p rest e s tag t.region t.index (written e c.take.new.self c.take.new.slots)
-    (leaves e c.take.new.self c.take.new.slots c.take.ensures.window c.take.ensures.own size) now t.unanswered t.free c.cookie.result c.entry.result
+    (leaves e c.take.new.self c.take.new.slots c.take.ensures.depths c.take.ensures.own size) now t.unanswered t.free c.cookie.result c.entry.result
     (c.cookie.ensures.out s.their s.their_late (Taken tag t.region t.index ∷ notes) seen)
     (c.entry.ensures.out s.their s.their_late (Taken tag t.region t.index ∷ notes) seen)
