@@ -15,7 +15,7 @@ use Rattle.nvme_capi.specs.Tables.{is_limit}
 use Rattle.nvme_admin.specs.History.{RegionAdded, PlacedAnywhere, Submission, Completion, Placing}
 use Rattle.nvme_placing.specs.Telling.{placing_by}
 use Rattle.nvme_placing.specs.declared.placement.Placement.{Placement}
-use Rattle.nvme_capi.specs.Controllers.{is_config, IsMadeOf, IsMadeAnywhereOf}
+use Rattle.nvme_capi.specs.Controllers.{has_depths, is_config, IsMadeOf, IsMadeAnywhereOf}
 use Rattle.nvme_capi.specs.declared.ctrl.state.PlacementFields.{PlacementFields}
 use Rattle.nvme_capi.specs.declared.ctrl.state.ConfigFields.{ConfigFields}
 
@@ -47,7 +47,7 @@ rules_by f m a nsq ncq sizes = record {
 pub made_of : (f : ConfigFields) (count : ℕ) (m : Mechanism) (a : ArbitrationFields) (sizes : List ℕ) (c : Controller) (slots : List Slot) → is_config f count ≡ true
     → m ≡ mechanism_of f.mechanism → a ≡ settings_of f.cdw11 → Stands (rules_by f m a f.nsq f.ncq sizes) false [] c slots → IsMadeOf f sizes c slots
 made_of f count m a sizes c slots well mechanism settings stands =
-    let pool = nat_lt 0 f.window && (nat_lt 0 count && nat_lt count 65536) in
+    let pool = has_depths f && (nat_lt 0 count && nat_lt count 65536) in
     let x = and_parts (is_limit f.nsq) (is_limit f.ncq && pool) well in
     let y = and_parts (is_limit f.ncq) pool x.1 in
     let l = limits_of f.nsq f.ncq x.0 y.0 in
@@ -75,7 +75,7 @@ pub made_anywhere_of : (f : ConfigFields) (p : PlacementFields) (count : ℕ) (m
     → (placement.page ≡ p.page) × ((placement.mqes ≡ p.mqes) × (placement.vectors ≡ p.vectors))
     → Stands (anywhere_by f (placing_by placement) m a f.nsq f.ncq sizes) false [] c slots → IsMadeAnywhereOf f p sizes c slots
 made_anywhere_of f p count m a placement sizes c slots well mechanism settings placed stands =
-    let pool = nat_lt 0 f.window && (nat_lt 0 count && nat_lt count 65536) in
+    let pool = has_depths f && (nat_lt 0 count && nat_lt count 65536) in
     let x = and_parts (is_limit f.nsq) (is_limit f.ncq && pool) well in
     let y = and_parts (is_limit f.ncq) pool x.1 in
     let l = limits_of f.nsq f.ncq x.0 y.0 in

@@ -6,7 +6,7 @@ use Rattle.nvme_entry.specs.declared.completion.Cqe.{Cqe}
 use Rattle.nvme_arbiter.specs.Settings.{settings_of, class_of_number}
 use Rattle.nvme_arbiter.specs.declared.settings.Class.{Class}
 use Rattle.nvme_arbiter.specs.Layout.{mechanism_of}
-use Rattle.nvme_admin.specs.declared.bounds.TheConstants.{MAX_QSIZE}
+use Rattle.nvme_admin.specs.declared.bounds.TheConstants.{MAX_IO_QUEUES, MAX_QSIZE}
 use Rattle.nvme_admin.specs.declared.limits.Limits.{Limits}
 use Rattle.nvme_log.specs.Rules.{FrontRules}
 use Rattle.nvme_log.specs.Answers.{Answer}
@@ -31,7 +31,7 @@ use Rattle.nvme_capi.specs.Fields.{code_of}
 use Rattle.nvme_capi.specs.Tables.{is_limit, answer_of}
 use Rattle.nvme_capi.specs.declared.fields.StatusFields.{StatusFields}
 use Rattle.nvme_capi.specs.declared.answers.AnswerFields.{AnswerFields}
-use Rattle.nvme_capi.specs.declared.ctrl.state.TheConstants.{MARK}
+use Rattle.nvme_capi.specs.declared.ctrl.state.TheConstants.{MARK, MAX_DEPTH}
 use Rattle.nvme_capi.specs.declared.ctrl.state.CtrlState.{CtrlState}
 use Rattle.nvme_capi.specs.declared.ctrl.state.ConfigFields.{ConfigFields}
 use Rattle.nvme_capi.specs.declared.ctrl.state.CommandFields.{CommandFields}
@@ -55,9 +55,21 @@ pub record IsKept (s : CtrlState) (slots : List Slot) : Type 0 where
   pub front : is_ctrl s ≡ true → has_slots s slots ≡ true → IsController s.ctrl slots
 
 -- ---- making
+-- a number can be the depth of a submission queue (profile)
+abbrev pub is_depth : ℕ → Bool
+is_depth depth = nat_le 1 depth && nat_le depth MAX_DEPTH
+
+-- that of the submission queue of an identifier
+abbrev pub has_depth : (qid depth : ℕ) → Bool
+has_depth qid depth = nat_le qid MAX_IO_QUEUES && is_depth depth
+
+-- both depths of a configuration can
+abbrev pub has_depths : ConfigFields → Bool
+has_depths f = is_depth f.depth && is_depth f.admin_depth
+
 -- the numbers of a configuration are in their ranges, and so many slots can be a pool
 abbrev pub is_config : ConfigFields → (count : ℕ) → Bool
-is_config f count = is_limit f.nsq && (is_limit f.ncq && (nat_lt 0 f.window && (nat_lt 0 count && nat_lt count 65536)))
+is_config f count = is_limit f.nsq && (is_limit f.ncq && (has_depths f && (nat_lt 0 count && nat_lt count 65536)))
 
 -- what a Create may ask for is in its ranges: the page is a power of two, QSIZE is limited by a ring that the controller takes, and there is an
 -- interrupt vector (Base Specification, Controller Capabilities, MQES, Controller Configuration, MPS; the largest ring, vectors: profile)

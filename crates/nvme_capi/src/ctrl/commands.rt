@@ -10,7 +10,7 @@ ghost use Rattle.nvme_ctrl.specs.Own.{own_of, oldest_is_own};
 ghost use Rattle.nvme_ctrl.specs.Notes.{Notes, logged};
 ghost use Rattle.nvme_ctrl.specs.Standing.{Stands};
 ghost use Rattle.nvme_ctrl.specs.Tags.{handed, is_out, holder, taken, cookie_of};
-ghost use Rattle.nvme_ctrl.specs.Calls.{window_limit, HasTaken, HasAnswered};
+ghost use Rattle.nvme_ctrl.specs.Calls.{depths_of, HasTaken, HasAnswered};
 ghost use Rattle.nvme_ctrl.specs.Steps.{IsNextPick, HasStepped, NoneFinishable, HasFinished};
 ghost use Rattle.nvme_ctrl.specs.Posts.{NonePostable};
 ghost use Rattle.nvme_ctrl.specs.declared.picks.Step.TheVariants as made;
@@ -123,7 +123,7 @@ pub extern "C" fn nvmearb_ctrl_pick(
     requires kept { IsKept state.old slots.old }
     ensures kept { IsKept state.new slots.new }
     ensures same { StaysMade state.old state.new }
-    ensures window { window_limit state.new.ctrl ≡ window_limit state.old.ctrl }
+    ensures depths { depths_of state.new.ctrl ≡ depths_of state.old.ctrl }
     ensures bad_state { (result ≡ BAD_STATE) ↔ IsFalse (is_ctrl state.old) }
     ensures bad_argument { (result ≡ BAD_ARGUMENT) ↔ (IsTrue (is_ctrl state.old) × IsFalse (has_slots state.old slots.old)) }
     ensures idle { (rules : FrontRules) (late : Bool) (notes : Notes) → Stands rules late notes state.old.ctrl slots.old → result ≡ NOTHING → HasStepped rules late notes room made.Idle state.new.ctrl slots.new }
@@ -195,7 +195,7 @@ pub extern "C" fn nvmearb_ctrl_take(
     requires kept { IsKept state.old slots.old }
     ensures kept { IsKept state.new slots.new }
     ensures same { StaysMade state.old state.new }
-    ensures window { window_limit state.new.ctrl ≡ window_limit state.old.ctrl }
+    ensures depths { depths_of state.new.ctrl ≡ depths_of state.old.ctrl }
     ensures bad_state { (result ≡ BAD_STATE) ↔ IsFalse (is_ctrl state.old) }
     ensures bad_argument { (result ≡ BAD_ARGUMENT) ↔ (IsTrue (is_ctrl state.old) × IsFalse (has_slots state.old slots.old)) }
     ensures answer { (result ≡ OK) ⊎ ((result ≡ NOTHING) ⊎ ((result ≡ BAD_ARGUMENT) ⊎ (result ≡ BAD_STATE))) }
@@ -238,7 +238,7 @@ fn complete_marked(
     requires kept { IsKept state.old slots.old }
     ensures kept { IsKept state.new slots.new }
     ensures same { StaysMade state.old state.new }
-    ensures window { window_limit state.new.ctrl ≡ window_limit state.old.ctrl }
+    ensures depths { depths_of state.new.ctrl ≡ depths_of state.old.ctrl }
     ensures left { own_of state.new.ctrl ≡ own_of state.old.ctrl }
     ensures bad_state { (result ≡ BAD_STATE) ↔ IsFalse (is_ctrl state.old) }
     ensures bad_argument { (result ≡ BAD_ARGUMENT) ↔ (IsTrue (is_ctrl state.old) × (IsFalse (has_slots state.old slots.old) ⊎ (7 < status.now.sct))) }
@@ -280,7 +280,7 @@ pub extern "C" fn nvmearb_ctrl_complete(
     requires kept { IsKept state.old slots.old }
     ensures kept { IsKept state.new slots.new }
     ensures same { StaysMade state.old state.new }
-    ensures window { window_limit state.new.ctrl ≡ window_limit state.old.ctrl }
+    ensures depths { depths_of state.new.ctrl ≡ depths_of state.old.ctrl }
     ensures bad_state { (result ≡ BAD_STATE) ↔ IsFalse (is_ctrl state.old) }
     ensures bad_argument { (result ≡ BAD_ARGUMENT) ↔ (IsTrue (is_ctrl state.old) × (IsFalse (has_slots state.old slots.old) ⊎ (7 < status.now.sct))) }
     ensures answer { (result ≡ OK) ⊎ ((result ≡ NOTHING) ⊎ ((result ≡ BAD_ARGUMENT) ⊎ (result ≡ BAD_STATE))) }
@@ -307,7 +307,7 @@ pub extern "C" fn nvmearb_ctrl_complete_with(
     requires kept { IsKept state.old slots.old }
     ensures kept { IsKept state.new slots.new }
     ensures same { StaysMade state.old state.new }
-    ensures window { window_limit state.new.ctrl ≡ window_limit state.old.ctrl }
+    ensures depths { depths_of state.new.ctrl ≡ depths_of state.old.ctrl }
     ensures bad_state { (result ≡ BAD_STATE) ↔ IsFalse (is_ctrl state.old) }
     ensures bad_argument { (result ≡ BAD_ARGUMENT) ↔ (IsTrue (is_ctrl state.old) × (IsFalse (has_slots state.old slots.old) ⊎ ((7 < status.now.sct) ⊎ (3 < marks)))) }
     ensures answer { (result ≡ OK) ⊎ ((result ≡ NOTHING) ⊎ ((result ≡ BAD_ARGUMENT) ⊎ (result ≡ BAD_STATE))) }
@@ -353,7 +353,7 @@ pub extern "C" fn nvmearb_ctrl_post(
     requires kept { IsKept state.old slots.old }
     ensures kept { IsKept state.new slots.new }
     ensures same { StaysMade state.old state.new }
-    ensures window { window_limit state.new.ctrl ≡ window_limit state.old.ctrl }
+    ensures depths { depths_of state.new.ctrl ≡ depths_of state.old.ctrl }
     ensures bad_state { (result ≡ BAD_STATE) ↔ IsFalse (is_ctrl state.old) }
     ensures bad_argument { (result ≡ BAD_ARGUMENT) ↔ (IsTrue (is_ctrl state.old) × IsFalse (has_slots state.old slots.old)) }
     ensures answer { (result ≡ OK) ⊎ ((result ≡ NOTHING) ⊎ ((result ≡ BAD_ARGUMENT) ⊎ (result ≡ BAD_STATE))) }
@@ -389,7 +389,7 @@ pub extern "C" fn nvmearb_ctrl_finish(
     requires kept { IsKept state.old slots.old }
     ensures kept { IsKept state.new slots.new }
     ensures same { StaysMade state.old state.new }
-    ensures window { window_limit state.new.ctrl ≡ window_limit state.old.ctrl }
+    ensures depths { depths_of state.new.ctrl ≡ depths_of state.old.ctrl }
     ensures bad_state { (result ≡ BAD_STATE) ↔ IsFalse (is_ctrl state.old) }
     ensures bad_argument { (result ≡ BAD_ARGUMENT) ↔ (IsTrue (is_ctrl state.old) × IsFalse (has_slots state.old slots.old)) }
     ensures answer { (result ≡ OK) ⊎ ((result ≡ NOTHING) ⊎ ((result ≡ BAD_ARGUMENT) ⊎ (result ≡ BAD_STATE))) }

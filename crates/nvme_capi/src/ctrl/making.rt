@@ -1,19 +1,19 @@
 // The making of a controller of C, and its regions.
-ghost use Rattle.std.specs.Prelude.{◌≡◌, ◌≢◌, ◌⊎◌, ◌↔◌, ◌&&◌, ℕ, Bool, true, false, List, length, Some, None, IsNone, IfSome, IsTrue, IsFalse};
+ghost use Rattle.std.specs.Prelude.{◌≡◌, ◌≢◌, ◌⊎◌, ◌↔◌, ◌&&◌, ℕ, Bool, true, false, List, length, slice_set, Some, None, IsNone, IfSome, IsTrue, IsFalse};
 ghost use Rattle.nvme_admin.specs.History.{Submission, Completion};
 ghost use Rattle.nvme_admin.specs.declared.region.AdminError.TheVariants.{Used, TooMany, Size};
 ghost use Rattle.nvme_log.specs.Rules.{FrontRules, sq_regions_of, cq_regions_of};
 ghost use Rattle.nvme_ctrl.specs.Own.{own_of, no_own, with_opcode, with_feature};
 ghost use Rattle.nvme_ctrl.specs.Notes.{Notes};
 ghost use Rattle.nvme_ctrl.specs.Standing.{Stands, IsController};
-ghost use Rattle.nvme_ctrl.specs.Calls.{window_limit};
+ghost use Rattle.nvme_ctrl.specs.Calls.{depths_of, equal_depths};
 ghost use Rattle.nvme_ctrl.specs.Making.{admin_fault, adding_fault, with_region, is_late};
 ghost use Rattle.nvme_ctrl.specs.declared.slot.Slot.{Slot};
-ghost use Rattle.nvme_capi.specs.Controllers.{is_ctrl, is_config, is_placement, IsMadeOf, IsMadeAnywhereOf, IsKept, StaysMade};
+ghost use Rattle.nvme_capi.specs.Controllers.{is_ctrl, has_depths, is_config, is_placement, IsMadeOf, IsMadeAnywhereOf, IsKept, StaysMade};
 ghost use Rattle.nvme_placing.specs.Telling.{is_ring_size};
 
 use crate::arbiter::mechanism_with;
-use crate::ctrl::state::{ConfigFields, CtrlState, MARK, PlacementFields, is_ctrl};
+use crate::ctrl::state::{ConfigFields, CtrlState, MARK, PlacementFields, is_ctrl, is_depth};
 use crate::results::{BAD_ARGUMENT, BAD_SIZE, BAD_STATE, OK, TOO_MANY, USED};
 use crate::table::{is_limit, refusal};
 use nvme_admin::{Limits, MAX_QSIZE};
@@ -21,11 +21,22 @@ use nvme_arbiter::Settings;
 use nvme_ctrl::{Controller, Slot};
 use nvme_placing::Placement;
 
+// Whether the depths of a configuration are in their ranges.
+fn has_depths(config: &ConfigFields) -> bool
+    ensures { result ≡ has_depths config.now }
+{
+    is_depth(config.depth) && is_depth(config.admin_depth)
+}
+
 // Whether the numbers of a configuration are in their ranges, and so many slots can be a pool.
 fn is_config(config: &ConfigFields, count: usize) -> bool
     ensures { result ≡ is_config config.now count }
 {
-    is_limit(config.nsq) && is_limit(config.ncq) && config.window > 0 && count > 0 && count < 65_536
+    is_limit(config.nsq)
+        && is_limit(config.ncq)
+        && has_depths(config)
+        && count > 0
+        && count < 65_536
 }
 
 /// Makes a controller with its admin regions alone, whose queues are open, and frees all slots.
@@ -42,7 +53,7 @@ pub extern "C" fn nvmearb_ctrl_init(
     ensures size { result ≡ BAD_SIZE → admin_fault config.now.asq config.now.acq ≡ Some Size }
     ensures made { result ≡ OK → admin_fault config.now.asq config.now.acq ≡ None }
     ensures stands { result ≡ OK → (sizes : List ℕ) → IsMadeOf config.now sizes state.new.ctrl slots.new }
-    ensures window { result ≡ OK → window_limit state.new.ctrl ≡ config.now.window }
+    ensures depths { result ≡ OK → depths_of state.new.ctrl ≡ slice_set (equal_depths config.now.depth) 0 config.now.admin_depth }
     ensures own { result ≡ OK → own_of state.new.ctrl ≡ no_own }
     ensures front { result ≡ OK → IsController state.new.ctrl slots.new }
     ensures ctrl { result ≡ OK → IsTrue (is_ctrl state.new) }
@@ -64,12 +75,13 @@ pub extern "C" fn nvmearb_ctrl_init(
         mechanism,
         Settings::from_cdw11(config.cdw11),
         limits,
-        config.window,
+        config.depth,
         config.asq,
         config.acq,
         slots,
     ) {
-        Ok(ctrl) => {
+        Ok(mut ctrl) => {
+            ctrl.set_depth(0, config.admin_depth);
             *state = CtrlState {
                 mark: MARK,
                 count,
@@ -119,7 +131,7 @@ pub extern "C" fn nvmearb_ctrl_init_anywhere(
     ensures size { result ≡ BAD_SIZE → (is_ring_size config.now.asq.slots && is_ring_size config.now.acq.slots) ≡ false }
     ensures made { result ≡ OK → (is_ring_size config.now.asq.slots && is_ring_size config.now.acq.slots) ≡ true }
     ensures stands { result ≡ OK → (sizes : List ℕ) → IsMadeAnywhereOf config.now placement.now sizes state.new.ctrl slots.new }
-    ensures window { result ≡ OK → window_limit state.new.ctrl ≡ config.now.window }
+    ensures depths { result ≡ OK → depths_of state.new.ctrl ≡ slice_set (equal_depths config.now.depth) 0 config.now.admin_depth }
     ensures own { result ≡ OK → own_of state.new.ctrl ≡ no_own }
     ensures front { result ≡ OK → IsController state.new.ctrl slots.new }
     ensures ctrl { result ≡ OK → IsTrue (is_ctrl state.new) }
@@ -145,12 +157,13 @@ pub extern "C" fn nvmearb_ctrl_init_anywhere(
         Settings::from_cdw11(config.cdw11),
         limits,
         placement,
-        config.window,
+        config.depth,
         config.asq,
         config.acq,
         slots,
     ) {
-        Ok(ctrl) => {
+        Ok(mut ctrl) => {
+            ctrl.set_depth(0, config.admin_depth);
             *state = CtrlState {
                 mark: MARK,
                 count,
@@ -180,7 +193,7 @@ pub extern "C" fn nvmearb_ctrl_add_sq_region(
     ensures added { (rules : FrontRules) (late : Bool) (notes : Notes) (pool : List Slot) → Stands rules late notes state.old.ctrl pool → result ≡ OK → adding_fault Submission address slots rules ≡ None }
     ensures number { (rules : FrontRules) (late : Bool) (notes : Notes) (pool : List Slot) → Stands rules late notes state.old.ctrl pool → result ≡ OK → number.new ≡ length (sq_regions_of rules) }
     ensures stands { (rules : FrontRules) (late : Bool) (notes : Notes) (pool : List Slot) → Stands rules late notes state.old.ctrl pool → result ≡ OK → Stands (with_region Submission address slots rules) (is_late rules late notes address) notes state.new.ctrl pool }
-    ensures window { window_limit state.new.ctrl ≡ window_limit state.old.ctrl }
+    ensures depths { depths_of state.new.ctrl ≡ depths_of state.old.ctrl }
     ensures own { own_of state.new.ctrl ≡ own_of state.old.ctrl }
     ensures same { StaysMade state.old state.new }
     ensures kept { (pool : List Slot) → IsKept state.old pool → IsKept state.new pool }
@@ -214,7 +227,7 @@ pub extern "C" fn nvmearb_ctrl_add_cq_region(
     ensures added { (rules : FrontRules) (late : Bool) (notes : Notes) (pool : List Slot) → Stands rules late notes state.old.ctrl pool → result ≡ OK → adding_fault Completion address slots rules ≡ None }
     ensures number { (rules : FrontRules) (late : Bool) (notes : Notes) (pool : List Slot) → Stands rules late notes state.old.ctrl pool → result ≡ OK → number.new ≡ length (cq_regions_of rules) }
     ensures stands { (rules : FrontRules) (late : Bool) (notes : Notes) (pool : List Slot) → Stands rules late notes state.old.ctrl pool → result ≡ OK → Stands (with_region Completion address slots rules) (is_late rules late notes address) notes state.new.ctrl pool }
-    ensures window { window_limit state.new.ctrl ≡ window_limit state.old.ctrl }
+    ensures depths { depths_of state.new.ctrl ≡ depths_of state.old.ctrl }
     ensures own { own_of state.new.ctrl ≡ own_of state.old.ctrl }
     ensures same { StaysMade state.old state.new }
     ensures kept { (pool : List Slot) → IsKept state.old pool → IsKept state.new pool }
@@ -240,7 +253,7 @@ pub extern "C" fn nvmearb_ctrl_own_opcode(state: &mut CtrlState, opcode: u8) -> 
     ensures answer { (result ≡ OK) ⊎ (result ≡ BAD_STATE) }
     ensures own { result ≡ OK → own_of state.new.ctrl ≡ with_opcode opcode (own_of state.old.ctrl) }
     ensures stands { (rules : FrontRules) (late : Bool) (notes : Notes) (pool : List Slot) → Stands rules late notes state.old.ctrl pool → Stands rules late notes state.new.ctrl pool }
-    ensures window { window_limit state.new.ctrl ≡ window_limit state.old.ctrl }
+    ensures depths { depths_of state.new.ctrl ≡ depths_of state.old.ctrl }
     ensures same { StaysMade state.old state.new }
     ensures kept { (pool : List Slot) → IsKept state.old pool → IsKept state.new pool }
     ensures unchanged { result ≢ OK → state.new ≡ state.old }
@@ -260,7 +273,7 @@ pub extern "C" fn nvmearb_ctrl_own_feature(state: &mut CtrlState, fid: u8) -> u3
     ensures answer { (result ≡ OK) ⊎ (result ≡ BAD_STATE) }
     ensures own { result ≡ OK → own_of state.new.ctrl ≡ with_feature fid (own_of state.old.ctrl) }
     ensures stands { (rules : FrontRules) (late : Bool) (notes : Notes) (pool : List Slot) → Stands rules late notes state.old.ctrl pool → Stands rules late notes state.new.ctrl pool }
-    ensures window { window_limit state.new.ctrl ≡ window_limit state.old.ctrl }
+    ensures depths { depths_of state.new.ctrl ≡ depths_of state.old.ctrl }
     ensures same { StaysMade state.old state.new }
     ensures kept { (pool : List Slot) → IsKept state.old pool → IsKept state.new pool }
     ensures unchanged { result ≢ OK → state.new ≡ state.old }

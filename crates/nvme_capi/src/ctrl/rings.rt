@@ -7,7 +7,7 @@ ghost use Rattle.nvme_log.specs.Queues.{open_sq, open_cq};
 ghost use Rattle.nvme_ctrl.specs.Own.{own_of};
 ghost use Rattle.nvme_ctrl.specs.Notes.{Notes, logged};
 ghost use Rattle.nvme_ctrl.specs.Standing.{Stands};
-ghost use Rattle.nvme_ctrl.specs.Calls.{window_limit, IsTailOf, TailRung, IsHeadOf, HeadRung, MayFetch, HasFetched};
+ghost use Rattle.nvme_ctrl.specs.Calls.{depths_of, depth_of, IsTailOf, TailRung, IsHeadOf, HeadRung, MayFetch, HasFetched};
 ghost use Rattle.nvme_ctrl.specs.declared.slot.Slot.{Slot};
 ghost use Rattle.nvme_capi.specs.Controllers.{is_ctrl, has_slots, IsKept, StaysMade};
 
@@ -27,7 +27,7 @@ pub extern "C" fn nvmearb_ctrl_sq_tail(state: &mut CtrlState, qid: u16, tail: u1
     ensures invalid { (rules : FrontRules) (late : Bool) (notes : Notes) (slots : List Slot) → Stands rules late notes state.old.ctrl slots → result ≡ BAD_ARGUMENT → IsTailOf rules notes qid tail → ⊥ }
     ensures valid { (rules : FrontRules) (late : Bool) (notes : Notes) (slots : List Slot) → Stands rules late notes state.old.ctrl slots → result ≡ OK → IsTailOf rules notes qid tail }
     ensures stands { (rules : FrontRules) (late : Bool) (notes : Notes) (slots : List Slot) → Stands rules late notes state.old.ctrl slots → result ≡ OK → TailRung rules late notes qid tail state.new.ctrl slots }
-    ensures window { window_limit state.new.ctrl ≡ window_limit state.old.ctrl }
+    ensures depths { depths_of state.new.ctrl ≡ depths_of state.old.ctrl }
     ensures same { StaysMade state.old state.new }
     ensures kept { (slots : List Slot) → IsKept state.old slots → IsKept state.new slots }
     ensures left { own_of state.new.ctrl ≡ own_of state.old.ctrl }
@@ -57,7 +57,7 @@ pub extern "C" fn nvmearb_ctrl_cq_head(state: &mut CtrlState, cqid: u16, head: u
     ensures invalid { (rules : FrontRules) (late : Bool) (notes : Notes) (slots : List Slot) → Stands rules late notes state.old.ctrl slots → result ≡ BAD_ARGUMENT → IsHeadOf rules notes cqid head → ⊥ }
     ensures valid { (rules : FrontRules) (late : Bool) (notes : Notes) (slots : List Slot) → Stands rules late notes state.old.ctrl slots → result ≡ OK → IsHeadOf rules notes cqid head }
     ensures stands { (rules : FrontRules) (late : Bool) (notes : Notes) (slots : List Slot) → Stands rules late notes state.old.ctrl slots → result ≡ OK → HeadRung rules late notes cqid head state.new.ctrl slots }
-    ensures window { window_limit state.new.ctrl ≡ window_limit state.old.ctrl }
+    ensures depths { depths_of state.new.ctrl ≡ depths_of state.old.ctrl }
     ensures same { StaysMade state.old state.new }
     ensures kept { (slots : List Slot) → IsKept state.old slots → IsKept state.new slots }
     ensures left { own_of state.new.ctrl ≡ own_of state.old.ctrl }
@@ -81,8 +81,8 @@ pub extern "C" fn nvmearb_ctrl_cq_head(state: &mut CtrlState, cqid: u16, head: u
 pub extern "C" fn nvmearb_ctrl_fetch(state: &CtrlState, qid: u16, slot: &mut u16) -> u32
     ensures bad_state { (result ≡ BAD_STATE) ↔ IsFalse (is_ctrl state.now) }
     ensures answer { (result ≡ OK) ⊎ ((result ≡ NOTHING) ⊎ (result ≡ BAD_STATE)) }
-    ensures may { (rules : FrontRules) (late : Bool) (notes : Notes) (slots : List Slot) → Stands rules late notes state.now.ctrl slots → result ≡ OK → MayFetch rules notes (window_limit state.now.ctrl) (length slots) qid slot.new }
-    ensures nothing { (rules : FrontRules) (late : Bool) (notes : Notes) (slots : List Slot) → Stands rules late notes state.now.ctrl slots → result ≡ NOTHING → (it : ℕ) → MayFetch rules notes (window_limit state.now.ctrl) (length slots) qid it → ⊥ }
+    ensures may { (rules : FrontRules) (late : Bool) (notes : Notes) (slots : List Slot) → Stands rules late notes state.now.ctrl slots → result ≡ OK → MayFetch rules notes (depth_of state.now.ctrl qid) (length slots) qid slot.new }
+    ensures nothing { (rules : FrontRules) (late : Bool) (notes : Notes) (slots : List Slot) → Stands rules late notes state.now.ctrl slots → result ≡ NOTHING → (it : ℕ) → MayFetch rules notes (depth_of state.now.ctrl qid) (length slots) qid it → ⊥ }
     ensures unchanged { result ≢ OK → slot.new ≡ slot.old }
 {
     if !is_ctrl(state) {
@@ -112,9 +112,9 @@ pub extern "C" fn nvmearb_ctrl_fetched(
     ensures bad_state { (result ≡ BAD_STATE) ↔ IsFalse (is_ctrl state.old) }
     ensures bad_argument { (result ≡ BAD_ARGUMENT) ↔ (IsTrue (is_ctrl state.old) × IsFalse (has_slots state.old slots.old)) }
     ensures answer { (result ≡ OK) ⊎ ((result ≡ NOTHING) ⊎ ((result ≡ BAD_ARGUMENT) ⊎ (result ≡ BAD_STATE))) }
-    ensures nothing { (rules : FrontRules) (late : Bool) (notes : Notes) → Stands rules late notes state.old.ctrl slots.old → result ≡ NOTHING → (slot : ℕ) → MayFetch rules notes (window_limit state.old.ctrl) (length slots.old) qid slot → ⊥ }
+    ensures nothing { (rules : FrontRules) (late : Bool) (notes : Notes) → Stands rules late notes state.old.ctrl slots.old → result ≡ NOTHING → (slot : ℕ) → MayFetch rules notes (depth_of state.old.ctrl qid) (length slots.old) qid slot → ⊥ }
     ensures stands { (rules : FrontRules) (late : Bool) (notes : Notes) → Stands rules late notes state.old.ctrl slots.old → result ≡ OK → (entry : Sqe) → IsSubmissionEntry bytes.now entry → HasFetched rules late notes qid entry cookie state.new.ctrl slots.new }
-    ensures window { window_limit state.new.ctrl ≡ window_limit state.old.ctrl }
+    ensures depths { depths_of state.new.ctrl ≡ depths_of state.old.ctrl }
     ensures left { own_of state.new.ctrl ≡ own_of state.old.ctrl }
     ensures unchanged { result ≢ OK → (state.new ≡ state.old) × (slots.new ≡ slots.old) }
 {

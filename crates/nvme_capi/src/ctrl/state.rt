@@ -1,6 +1,6 @@
 // A controller of C, and what its calls are given and write.
 ghost use Rattle.std.specs.Prelude.{◌≡◌};
-ghost use Rattle.nvme_capi.specs.Controllers.{is_ctrl, has_slots};
+ghost use Rattle.nvme_capi.specs.Controllers.{is_ctrl, is_depth, has_slots};
 
 use crate::answers::AnswerFields;
 use crate::states::PickFields;
@@ -11,6 +11,9 @@ use nvme_entry::Sqe;
 
 /// What `nvmearb_ctrl_init` of this interface writes before a controller, and nothing else does.
 pub const MARK: u64 = 0x6e76_6d65_6300_0000 + INTERFACE;
+
+/// The highest depth of a submission queue.
+pub const MAX_DEPTH: u16 = 4_095;
 
 /// `nvmearb_ctrl`: a mark, and a controller with the number of its slots.
 #[repr(C)]
@@ -40,8 +43,10 @@ pub struct ConfigFields {
     /// How many I/O queues of each kind can be allotted, 1 to 64.
     pub nsq: u16,
     pub ncq: u16,
-    /// At most so many commands of a queue wait.
-    pub window: u16,
+    /// The depth of each I/O submission queue, and that of the admin queue, 1 to `MAX_DEPTH`: at most so many of its
+    /// commands hold a slot.
+    pub depth: u16,
+    pub admin_depth: u16,
 }
 
 /// `nvmearb_placement`: what a Create may ask for where queues may lie anywhere in memory.
@@ -104,6 +109,13 @@ pub fn is_ctrl(state: &CtrlState) -> bool
     ensures { result ≡ is_ctrl state.now }
 {
     state.mark == MARK
+}
+
+/// Whether a number can be the depth of a submission queue.
+pub fn is_depth(depth: u16) -> bool
+    ensures { result ≡ is_depth depth }
+{
+    depth > 0 && depth <= MAX_DEPTH
 }
 
 /// Whether these are as many slots as the controller was made with.
