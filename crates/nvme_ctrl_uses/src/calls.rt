@@ -29,6 +29,9 @@ const CQ: u64 = 0x4000;
 
 const SECOND: u64 = 0x5000;
 
+// The depth of each queue: that of all slots.
+const DEPTH: u16 = 16;
+
 // What the device answers to a command that succeeds.
 const DONE: Answer = Answer {
     status: Status::SUCCESS,
@@ -172,7 +175,7 @@ fn prepared(
     let limits = Limits { nsq: 4, ncq: 4 };
     // (no limit on the burst)
     let settings = Settings::from_cdw11(7);
-    let mut ctrl = Controller::new(mechanism, settings, limits, 4, ASQ, ACQ, slots)?;
+    let mut ctrl = Controller::new(mechanism, settings, limits, DEPTH, ASQ, ACQ, slots)?;
     add_regions(&mut ctrl, slots)?;
     tail(rt, &mut ctrl, slots, 0, 2, true);
     fetch(rt, &mut ctrl, slots, 0, 0, &create_cq(10));
@@ -519,7 +522,7 @@ fn reset_leaves_nothing(rt: HostRuntime) -> Result<(), Fail> {
         mechanism,
         Settings::from_cdw11(0),
         limits,
-        4,
+        DEPTH,
         ASQ,
         ACQ,
         &mut slots,
@@ -552,7 +555,7 @@ fn anywhere(slots: &mut [Slot]) -> Result<Controller, AdminError>
         Settings::from_cdw11(7),
         Limits { nsq: 4, ncq: 4 },
         placement,
-        4,
+        DEPTH,
         ASQ,
         ACQ,
         slots,

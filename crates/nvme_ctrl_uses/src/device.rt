@@ -12,7 +12,7 @@ pub const STEPS: usize = 64;
 /// many again. A device that answers later passes how many more it can take then.
 pub const ROOM: u16 = 16;
 
-/// Fetches what the host submitted to a queue, until its window is full.
+/// Fetches what the host submitted to a queue, as far as its depth goes.
 pub fn fetch_queue(ctrl: &mut Controller, slots: &mut [Slot], memory: &Memory, qid: u16)
     requires front { IsController ctrl.old slots.old }
     ensures front { IsController ctrl.new slots.new }

@@ -7,8 +7,9 @@ use nvme_entry::{Sqe, Status};
 use nvme_placing::Placement;
 use std::alloc::Global;
 
-// How many commands of a queue may wait: as many as arbitration counts.
-const WINDOW: u16 = 256;
+// How many commands of a queue may hold a slot: as many as may wait, as many as arbitration counts, and as many as may be
+// outstanding.
+const DEPTH: u16 = 512;
 
 // As many slots as commands may wait and be picked: those of the windows of 64 I/O queues and the admin queue, and 256.
 const POOL: usize = 66 * 256;
@@ -69,7 +70,7 @@ impl Front {
             slots: ADMIN_SLOTS,
         };
         match Controller::anywhere(
-            mechanism, settings, limits, placement, WINDOW, ring, ring, &mut pool,
+            mechanism, settings, limits, placement, DEPTH, ring, ring, &mut pool,
         ) {
             Ok(controller) => Ok(Front { controller, pool }),
             Err(_) => Err(SimulationFault::Broken(Broken::Create)),

@@ -17,8 +17,8 @@ const CQS: u64 = 0x20_0000;
 
 const BETWEEN: u64 = 0x1000;
 
-// At most so many commands of a queue wait.
-const WINDOW: u16 = 256;
+// At most so many commands of a queue hold a slot: as many as wait at most, and as many as are outstanding.
+const DEPTH: u16 = 512;
 
 // The weights 4, 2 and 1, and a burst of 8.
 const CDW11: u32 = 0x0301_0003;
@@ -116,7 +116,7 @@ pub fn make(case: Case, slots: &mut [Slot]) -> Result<Controller, Fault>
         case.mechanism,
         Settings::from_cdw11(CDW11),
         Limits { nsq: 64, ncq: 64 },
-        WINDOW,
+        DEPTH,
         sq,
         cq,
         slots,
