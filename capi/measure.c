@@ -146,7 +146,7 @@ static void serve(uint16_t cqid, uint16_t head)
 /* Commands that go through a controller, so many with each doorbell write. */
 static void commands(uint32_t mechanism, uint16_t batch, const char *what)
 {
-    nvmearb_config config = {{1, COMMANDS}, {2, COMMANDS}, mechanism, 7, 1, 1, COMMANDS};
+    nvmearb_config config = {{1, COMMANDS}, {2, COMMANDS}, mechanism, 7, 1, 1, COMMANDS, COMMANDS};
     uint8_t bytes[NVMEARB_SQE_BYTES];
     uint16_t number, tail = 0;
     if (nvmearb_ctrl_init(&ctrl, slots, COMMANDS, &config) || nvmearb_ctrl_add_sq_region(&ctrl, 3, COMMANDS, &number) ||

@@ -619,11 +619,11 @@ uint32_t nvmearb_table_settings(const nvmearb_table *table, nvmearb_settings *se
 /*
  * A slot of a controller: it holds one command from its fetch until its completion is posted, and its number is the
  * command's tag. The caller keeps an array of them, whose content is the library's. Nothing is fetched while none is
- * free. With `window` slots for each submission region, the admin queue's included, and 256 more, one is free for each
- * command that may be fetched otherwise, while no queue is being deleted. Where queues may lie anywhere, take as many
- * for each submission queue that may be open: (nsq + 1) * window + 256; that these suffice isn't proved. With fewer,
- * commands of one queue may keep those of another from being fetched. Commands that a deletion drops hold their slots
- * until their completions are posted.
+ * free. At most as many commands of a submission queue hold a slot as its depth (nvmearb_ctrl_set_depth). With as many
+ * slots as the depths of the queues that may be open have together, admin_depth + nsq * depth, one is free for each
+ * command that may be fetched otherwise, while queues are being deleted too. With fewer, commands of one queue may keep
+ * those of another from being fetched. Commands that a deletion drops hold their slots until their completions are
+ * posted.
  */
 typedef struct nvmearb_slot {
     uint64_t words[10];
@@ -631,6 +631,9 @@ typedef struct nvmearb_slot {
 
 /* The most slots of a controller. */
 #define NVMEARB_MAX_SLOTS 65535
+
+/* The highest depth of a submission queue. */
+#define NVMEARB_MAX_DEPTH 4095
 
 /*
  * A controller. nvmearb_ctrl_init_anywhere or nvmearb_ctrl_init makes it. Its fields are the library's. It is valid if
@@ -662,7 +665,7 @@ typedef struct nvmearb_slot {
 typedef struct nvmearb_ctrl {
     uint64_t mark;
     size_t count; /* the number of its slots */
-    uint64_t words[748];
+    uint64_t words[764];
 } nvmearb_ctrl;
 
 /* What a controller is made with. */
@@ -671,7 +674,8 @@ typedef struct nvmearb_config {
     uint32_t mechanism;      /* CC.AMS 000b: NVMEARB_ROUND_ROBIN, 001b: NVMEARB_WEIGHTED */
     uint32_t cdw11;          /* the Arbitration feature; bits 07:03 are ignored */
     uint16_t nsq, ncq;       /* the most I/O submission and completion queues, 1 to NVMEARB_MAX_IO_QUEUES */
-    uint16_t window;         /* the most commands of a queue that are fetched and not picked; above 256 it is 256 */
+    uint16_t depth;          /* that of each I/O submission queue, 1 to NVMEARB_MAX_DEPTH (nvmearb_ctrl_set_depth) */
+    uint16_t admin_depth;    /* that of the admin queue, above the number of event requests that the device holds */
 } nvmearb_config;
 
 /* What a Create command may ask for where queues may lie anywhere in memory. */
@@ -767,8 +771,9 @@ uint32_t nvmearb_ctrl_init_anywhere(nvmearb_ctrl *ctrl, nvmearb_slot *slots, siz
  * NVMEARB_MAX_REGIONS of a kind, and no two have one address. A region is added before a Create of its address is
  * picked: of a controller whose device adds one later, docs/PROVED.md promises less.
  * NVMEARB_EARG if `count` isn't 1 to NVMEARB_MAX_SLOTS, `mechanism` is neither of the two, `nsq` or `ncq` isn't 1 to
- * NVMEARB_MAX_IO_QUEUES, or `window` is 0; otherwise the first of these: NVMEARB_ESIZE if `asq` doesn't have 2 to 4096
- * slots, NVMEARB_EUSED if `acq` has the address of `asq`, NVMEARB_ESIZE if `acq` doesn't have 2 to 4096 slots.
+ * NVMEARB_MAX_IO_QUEUES, or `depth` or `admin_depth` isn't 1 to NVMEARB_MAX_DEPTH; otherwise the first of these:
+ * NVMEARB_ESIZE if `asq` doesn't have 2 to 4096 slots, NVMEARB_EUSED if `acq` has the address of `asq`, NVMEARB_ESIZE if
+ * `acq` doesn't have 2 to 4096 slots.
  */
 uint32_t nvmearb_ctrl_init(nvmearb_ctrl *ctrl, nvmearb_slot *slots, size_t count, const nvmearb_config *config);
 
@@ -808,8 +813,19 @@ uint32_t nvmearb_ctrl_own_opcode(nvmearb_ctrl *ctrl, uint8_t opcode);
 uint32_t nvmearb_ctrl_own_feature(nvmearb_ctrl *ctrl, uint8_t fid);
 
 /*
+ * From now on at most `depth` commands of a submission queue hold a slot, each from its fetch until its completion is
+ * posted: those that wait, and those that are picked, with the device, or to be posted. This is meant for the time before
+ * the queue is created, which may be at any time, and the queue keeps its depth until the controller is made anew. Where
+ * more commands hold a slot already, nothing is fetched of the queue until fewer do. The depth of the admin queue has to
+ * be above the number of Asynchronous Event Requests that the device holds, or no admin command is fetched any more.
+ * NVMEARB_ESTATE if `ctrl` isn't valid; otherwise NVMEARB_EARG if `qid` is above NVMEARB_MAX_IO_QUEUES or `depth` isn't 1
+ * to NVMEARB_MAX_DEPTH.
+ */
+uint32_t nvmearb_ctrl_set_depth(nvmearb_ctrl *ctrl, uint16_t qid, uint16_t depth);
+
+/*
  * From now on no command of a submission queue is picked, if `on` is 1, or they are again, if it is 0: for a queue that
- * the device can't serve, say since a namespace of it is busy. What waits in it stays there, and up to the window it is
+ * the device can't serve, say since a namespace of it is busy. What waits in it stays there, and up to its depth it is
  * fetched as before; an Abort and a deletion still end it. Commands that were picked stay picked. The queue may be the
  * admin queue. A queue that is created anew isn't held.
  * NVMEARB_ESTATE if `ctrl` isn't valid; otherwise NVMEARB_EARG if `on` is above 1; otherwise NVMEARB_NONE if the queue
@@ -846,8 +862,8 @@ uint32_t nvmearb_ctrl_cq_head(nvmearb_ctrl *ctrl, uint16_t cqid, uint16_t head);
 /*
  * Writes the slot of the ring of a submission queue whose entry is fetched next.
  * NVMEARB_ESTATE if `ctrl` isn't valid; otherwise NVMEARB_NONE if the queue isn't open, the host submitted no more, as
- * many of its commands wait as the window or the ring allows, or no slot of `ctrl` is free. A queue isn't open any more
- * once its deletion began.
+ * many of its commands hold a slot as its depth, as many wait as its ring has slots less 1, or 256, or no slot of `ctrl`
+ * is free. A queue isn't open any more once its deletion began.
  */
 uint32_t nvmearb_ctrl_fetch(const nvmearb_ctrl *ctrl, uint16_t qid, uint16_t *slot);
 

@@ -9,7 +9,7 @@
 #define QUEUES 1 /* the I/O queues of a kind */
 #define RING 8   /* the slots of each ring */
 /* The slots of the controller: enough that commands of one queue never keep those of the other from being fetched. */
-#define COMMANDS ((QUEUES + 1) * RING + 256)
+#define COMMANDS ((QUEUES + 1) * RING)
 #define BLOCKS 16
 #define BLOCK 512
 #define PAGE 4096
@@ -42,7 +42,8 @@ static uint32_t enable(struct device *d, uint64_t asq, uint64_t acq)
         .cdw11 = 0x01000001, /* burst 2; weights: high 2, medium 1, low 1 */
         .nsq = QUEUES,
         .ncq = QUEUES,
-        .window = RING,
+        .depth = RING,
+        .admin_depth = RING,
     };
     nvmearb_placement placement = {.page = PAGE, .mqes = RING - 1, .vectors = 1};
     d->sqs[0] = asq, d->cqs[0] = acq;

@@ -26,7 +26,8 @@
 
 #define NVME_PAGE 4096u
 #define NVME_QUEUES NVMEARB_MAX_IO_QUEUES             /* the most I/O queues of a kind */
-#define NVME_COMMANDS ((NVME_QUEUES + 1) * 256 + 256) /* the slots of the controller */
+#define NVME_DEPTH 256                                /* the most commands of a queue that the controller holds */
+#define NVME_COMMANDS ((NVME_QUEUES + 1) * NVME_DEPTH) /* its slots */
 #define NVME_EVENT_REQUESTS 4                         /* the most Asynchronous Event Requests that are held */
 #define NVME_PICKED (256 - NVME_EVENT_REQUESTS)       /* the most commands that are picked while these are held */
 #define NVME_NAMESPACES 16                            /* the most namespaces */

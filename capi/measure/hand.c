@@ -47,7 +47,7 @@ void hand_init(hand_ctrl *ctrl, hand_slot *slots, size_t count, const nvmearb_co
     ctrl->mark = MARK;
     ctrl->count = count;
     ctrl->weighted = config->mechanism == NVMEARB_WEIGHTED;
-    ctrl->window = config->window < MOST_WAITING ? config->window : MOST_WAITING;
+    ctrl->depth = config->depth;
     ctrl->burst = config->cdw11 & 7;
     ctrl->weight[NVMEARB_HIGH] = (uint16_t)((config->cdw11 >> 24) + 1);
     ctrl->weight[NVMEARB_MEDIUM] = (uint16_t)((config->cdw11 >> 16 & 0xff) + 1);
@@ -60,7 +60,7 @@ void hand_init(hand_ctrl *ctrl, hand_slot *slots, size_t count, const nvmearb_co
 void hand_open(hand_ctrl *ctrl, hand_slot *slots, uint16_t qid, uint16_t ring, uint8_t priority)
 {
     ctrl->cq[qid] = (hand_cq){.slots = ring, .open = 1, .phase = 1};
-    ctrl->sq[qid] = (hand_sq){.slots = ring, .open = 1, .cqid = qid, .priority = priority};
+    ctrl->sq[qid] = (hand_sq){.slots = ring, .open = 1, .cqid = qid, .depth = ctrl->depth, .priority = priority};
     for (int creates = 0; creates < 2; creates++) {
         push(slots, &ctrl->free, pop(slots, &ctrl->free));
     }
@@ -98,14 +98,15 @@ uint32_t hand_cq_head(hand_ctrl *ctrl, uint16_t cqid, uint16_t head)
     return NVMEARB_OK;
 }
 
-/* Whether a command of the queue may be fetched: one is submitted, the window has room, and a slot is free. */
+/* Whether a command of the queue may be fetched: one is submitted, fewer hold a slot than its depth, and a slot is free. */
 static inline int is_fetchable(const hand_ctrl *ctrl, uint16_t qid)
 {
     if (qid >= NVMEARB_MAX_QUEUES || !ctrl->sq[qid].open || ctrl->free.len == 0) {
         return 0;
     }
     const hand_sq *sq = &ctrl->sq[qid];
-    return sq->head != sq->tail && sq->waiting < ctrl->window && sq->waiting < sq->slots - 1;
+    return sq->head != sq->tail && sq->waiting + sq->unposted < sq->depth && sq->waiting < MOST_WAITING &&
+           sq->waiting < sq->slots - 1;
 }
 
 uint32_t hand_fetch(const hand_ctrl *ctrl, uint16_t qid, uint16_t *slot)
@@ -241,6 +242,7 @@ uint32_t hand_pick(hand_ctrl *ctrl, hand_slot *slots, size_t count, uint16_t roo
     }
     serve(ctrl, &pick);
     ctrl->unposted = (uint16_t)(ctrl->unposted + pick.n);
+    ctrl->sq[pick.qid].unposted = (uint16_t)(ctrl->sq[pick.qid].unposted + pick.n);
     ctrl->picked = pick.n;
     ctrl->picked_qid = pick.qid;
     memset(step, 0, sizeof *step);
@@ -319,6 +321,7 @@ uint32_t hand_post(hand_ctrl *ctrl, hand_slot *slots, size_t count, uint16_t cqi
 #endif
     it->state = FREE;
     ctrl->unposted--;
+    ctrl->sq[it->sqid].unposted--;
     push(slots, &ctrl->free, tag);
     return NVMEARB_OK;
 }

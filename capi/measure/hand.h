@@ -25,7 +25,7 @@ typedef struct hand_chain {
 typedef struct hand_sq {
     uint16_t slots, head, tail;
     hand_chain fetched; /* what isn't taken: first what is picked, then what waits */
-    uint16_t waiting, cqid;
+    uint16_t waiting, unposted, depth, cqid;
     uint8_t open, priority;
 } hand_sq;
 
@@ -44,7 +44,7 @@ typedef struct hand_ctrl {
     hand_sq sq[NVMEARB_MAX_QUEUES];
     hand_cq cq[NVMEARB_MAX_QUEUES];
     hand_chain free;
-    uint16_t window, unposted, picked, picked_qid;
+    uint16_t depth, unposted, picked, picked_qid;
     uint8_t weighted, burst;
 } hand_ctrl;
 

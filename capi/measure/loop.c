@@ -20,6 +20,7 @@
 #endif
 
 #define POOL 4096
+#define DEPTH 512
 #define RING 64
 /* The weights 4, 2 and 1, and a burst of 8. */
 #define CDW11 0x03010003
@@ -151,7 +152,7 @@ static void loop_refuse_slots(void)
  */
 static uint64_t loop_make(const loop_case *of)
 {
-    nvmearb_config config = {{SQS, RING}, {CQS, RING}, of->mechanism, CDW11, 64, 64, NVMEARB_MAX_COUNT};
+    nvmearb_config config = {{SQS, RING}, {CQS, RING}, of->mechanism, CDW11, 64, 64, DEPTH, DEPTH};
     memset(&it, 0, sizeof it);
 #ifdef BY_HAND
     hand_init(&it.ctrl, it.slots, POOL, &config);

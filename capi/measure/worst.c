@@ -15,8 +15,10 @@
 
 #define QUEUES 64
 #define WINDOW NVMEARB_MAX_COUNT
+/* As many commands of a queue as wait at most, and as many as are outstanding. */
+#define DEPTH (WINDOW + 256)
 #define RING 4096
-/* As many slots as a controller with 64 queues and this window is to have. */
+/* As many slots as commands of 64 queues wait at most, and as are outstanding. */
 #define POOL ((QUEUES + 1) * WINDOW + 256)
 /* The weights 4, 2 and 1, and no burst. */
 #define CDW11 0x03010007
@@ -70,6 +72,7 @@ CALL(ctrl_add_sq_region, &ctrl, 0xf0000000u, RING, &number)
 CALL(ctrl_add_cq_region, &ctrl, 0xf1000000u, RING, &number)
 CALL(ctrl_own_opcode, &ctrl, NVMEARB_OPC_ABORT)
 CALL(ctrl_own_feature, &ctrl, 0xff)
+CALL(ctrl_set_depth, &ctrl, qid, n)
 CALL(ctrl_hold, &ctrl, qid, (uint8_t)on)
 CALL(ctrl_set_class, &ctrl, qid, n)
 CALL(ctrl_sq_tail, &ctrl, qid, n)
@@ -174,7 +177,7 @@ static void put_create_sq(uint16_t of)
 static void make(size_t of_slots)
 {
     pool = of_slots;
-    config = (nvmearb_config){{SQS, RING}, {CQS, RING}, mechanism, CDW11, QUEUES, QUEUES, WINDOW};
+    config = (nvmearb_config){{SQS, RING}, {CQS, RING}, mechanism, CDW11, QUEUES, QUEUES, DEPTH, DEPTH};
     memset(tails, 0, sizeof tails);
 }
 
@@ -356,6 +359,8 @@ static void count_queues(void)
         on = 0;
         COUNT(ctrl_hold, "", "");
         COUNT(ctrl_set_class, "", "");
+        n = DEPTH;
+        COUNT(ctrl_set_depth, "", "");
     }
 }
 

@@ -58,7 +58,8 @@ struct regions {
 
 static struct account {
     struct command commands[SLOTS];
-    unsigned slots, held, places, window, pending;
+    unsigned slots, held, places, pending;
+    uint16_t depths[QUEUES];         /* by identifier */
     int is_slow;                     /* the device hardly completes anything */
     int stirs;                       /* the host mostly creates and deletes queues, and seldom resets the controller */
     int is_anywhere;                 /* queues may lie anywhere, within the limits of `placement` */

@@ -3,8 +3,8 @@
 #include "tell.h"
 
 _Static_assert(sizeof(nvmearb_slot) == 80, "nvmearb_slot");
-_Static_assert(sizeof(nvmearb_ctrl) == 6000, "nvmearb_ctrl");
-_Static_assert(sizeof(nvmearb_config) == 48 && offsetof(nvmearb_config, window) == 44, "nvmearb_config");
+_Static_assert(sizeof(nvmearb_ctrl) == 6128, "nvmearb_ctrl");
+_Static_assert(sizeof(nvmearb_config) == 48 && offsetof(nvmearb_config, admin_depth) == 46, "nvmearb_config");
 _Static_assert(sizeof(nvmearb_asked) == 16 && offsetof(nvmearb_asked, interrupts) == 12, "nvmearb_asked");
 _Static_assert(sizeof(nvmearb_step) == 56 && offsetof(nvmearb_step, asked) == 40, "nvmearb_step");
 _Static_assert(sizeof(nvmearb_command) == 72 && offsetof(nvmearb_command, tag) == 68, "nvmearb_command");
@@ -33,7 +33,13 @@ static void wrong_configurations(void)
     CHECK(init_with(it, SLOTS) == NVMEARB_EARG);
     it = config, it.ncq = 65;
     CHECK(init_with(it, SLOTS) == NVMEARB_EARG);
-    it = config, it.window = 0;
+    it = config, it.depth = 0;
+    CHECK(init_with(it, SLOTS) == NVMEARB_EARG);
+    it.depth = 4096;
+    CHECK(init_with(it, SLOTS) == NVMEARB_EARG);
+    it = config, it.admin_depth = 0;
+    CHECK(init_with(it, SLOTS) == NVMEARB_EARG);
+    it.admin_depth = 4096;
     CHECK(init_with(it, SLOTS) == NVMEARB_EARG);
     it = config, it.asq.slots = 1, it.acq.address = ASQ;
     CHECK(init_with(it, SLOTS) == NVMEARB_ESIZE);
@@ -44,7 +50,8 @@ static void wrong_configurations(void)
     it.acq.slots = 4097;
     CHECK(init_with(it, SLOTS) == NVMEARB_ESIZE);
     CHECK(memcmp(&ctrl, &before, sizeof ctrl) == 0);
-    it.acq.slots = 2, it.nsq = 64, it.ncq = 64, it.window = 65535, it.mechanism = NVMEARB_WEIGHTED;
+    it.acq.slots = 2, it.nsq = 64, it.ncq = 64, it.depth = 4095, it.admin_depth = 4095;
+    it.mechanism = NVMEARB_WEIGHTED;
     CHECK(init_with(it, 1) == NVMEARB_OK);
     CHECK(nvmearb_ctrl_init(&ctrl, many, NVMEARB_MAX_SLOTS + 1, &it) == NVMEARB_EARG);
     CHECK(nvmearb_ctrl_init(&ctrl, many, NVMEARB_MAX_SLOTS, &it) == NVMEARB_OK);
@@ -187,24 +194,80 @@ static void two_deletions(void)
     CHECK(posted(0, 5, 6, 13, 1, success, 0) && none_to_post(0) && picks_none(NVMEARB_NONE));
 }
 
-/* The window, and a pool without a free slot. */
-static void windows_and_slots(void)
+/* The depth of the admin queue, and a pool without a free slot. A command holds its slot until its completion is posted. */
+static void depths_and_slots(void)
 {
     nvmearb_config it = config;
     uint8_t bytes[NVMEARB_SQE_BYTES];
+    nvmearb_step step;
+    nvmearb_post post;
     entry_of(NVMEARB_OPC_GET_FEATURES, 1, 0, NVMEARB_FID_ARBITRATION, 0, bytes);
-    it.window = 2;
+    it.admin_depth = 2;
     CHECK(nvmearb_ctrl_init(&ctrl, slots, 3, &it) == NVMEARB_OK && nvmearb_ctrl_sq_tail(&ctrl, 0, 7) == NVMEARB_OK);
-    for (int k = 0; k < 4; k++) { /* two fill the window, one more the slots */
-        uint32_t want = k == 2 || k == 3 ? NVMEARB_NONE : NVMEARB_OK;
-        CHECK(nvmearb_ctrl_fetched(&ctrl, slots, 3, 0, bytes, 1001) == want);
-        if (k == 2) {
-            nvmearb_step step;
-            CHECK(nvmearb_ctrl_pick(&ctrl, slots, 3, NVMEARB_NO_LIMIT, &step) == NVMEARB_OK && none_to_fetch(1));
-            CHECK(nvmearb_ctrl_fetched(&ctrl, slots, 3, 0, bytes, 1001) == NVMEARB_OK);
-            CHECK(nvmearb_ctrl_pick(&ctrl, slots, 3, NVMEARB_NO_LIMIT, &step) == NVMEARB_OK && none_to_fetch(0));
-        }
+    CHECK(nvmearb_ctrl_fetched(&ctrl, slots, 3, 0, bytes, 1001) == NVMEARB_OK);
+    CHECK(nvmearb_ctrl_fetched(&ctrl, slots, 3, 0, bytes, 1001) == NVMEARB_OK && none_to_fetch(0)); /* by the depth */
+    CHECK(nvmearb_ctrl_pick(&ctrl, slots, 3, NVMEARB_NO_LIMIT, &step) == NVMEARB_OK && none_to_fetch(0));
+    CHECK(nvmearb_ctrl_fetched(&ctrl, slots, 3, 0, bytes, 1001) == NVMEARB_NONE);
+    CHECK(nvmearb_ctrl_set_depth(&ctrl, 0, 4) == NVMEARB_OK);
+    CHECK(nvmearb_ctrl_fetched(&ctrl, slots, 3, 0, bytes, 1001) == NVMEARB_OK && none_to_fetch(0)); /* by the slots */
+    CHECK(nvmearb_ctrl_set_depth(&ctrl, 0, 1) == NVMEARB_OK);
+    for (int k = 0; k < 3; k++) { /* three hold a slot; the next one is fetched when none does any more */
+        CHECK(none_to_fetch(0) && nvmearb_ctrl_post(&ctrl, slots, 3, 0, &post) == NVMEARB_OK);
+        CHECK(nvmearb_ctrl_pick(&ctrl, slots, 3, NVMEARB_NO_LIMIT, &step) == (k < 2 ? NVMEARB_OK : NVMEARB_NONE));
     }
+    CHECK(nvmearb_ctrl_fetched(&ctrl, slots, 3, 0, bytes, 1001) == NVMEARB_OK && none_to_fetch(0));
+}
+
+/* The depths that there aren't, and those of queues that aren't open. */
+static void wrong_depths(void)
+{
+    nvmearb_ctrl before;
+    CHECK(is_prepared(NVMEARB_ROUND_ROBIN));
+    before = ctrl;
+    CHECK(nvmearb_ctrl_set_depth(&ctrl, 1, 0) == NVMEARB_EARG && nvmearb_ctrl_set_depth(&ctrl, 1, 4096) == NVMEARB_EARG);
+    CHECK(nvmearb_ctrl_set_depth(&ctrl, 65, 1) == NVMEARB_EARG && nvmearb_ctrl_set_depth(&ctrl, 65535, 1) == NVMEARB_EARG);
+    CHECK(memcmp(&ctrl, &before, sizeof ctrl) == 0);
+    CHECK(nvmearb_ctrl_set_depth(&ctrl, 64, 4095) == NVMEARB_OK && nvmearb_ctrl_set_depth(&ctrl, 64, 1) == NVMEARB_OK);
+    CHECK(nvmearb_ctrl_set_depth(&ctrl, 64, SLOTS) == NVMEARB_OK && memcmp(&ctrl, &before, sizeof ctrl) == 0);
+}
+
+/* A read goes through an I/O queue of 4 slots, up to where its completion is to be posted. */
+static int is_executed(uint16_t qid, uint16_t n, uint16_t cid)
+{
+    nvmearb_step step;
+    uint16_t tag;
+    return nvmearb_ctrl_sq_tail(&ctrl, qid, (n + 1) % 4) == NVMEARB_OK &&
+           fetched(qid, n % 4, NVMEARB_OPC_READ, cid, 0, 0, 0) &&
+           nvmearb_ctrl_pick(&ctrl, slots, SLOTS, 1, &step) == NVMEARB_OK && step.pick.qid == qid && taken(cid, &tag) &&
+           completes(tag, success, 0, NVMEARB_OK);
+}
+
+/*
+ * The host doesn't read what queue 1 posts: so its commands hold as many slots as its depth, and no more. Queue 2 and the
+ * admin queue go on. There are as many slots as all depths have together.
+ */
+static void a_host_that_reads_nothing(void)
+{
+    uint16_t number;
+    CHECK(is_prepared(NVMEARB_ROUND_ROBIN) && nvmearb_ctrl_set_depth(&ctrl, 0, 4) == NVMEARB_OK);
+    CHECK(nvmearb_ctrl_set_depth(&ctrl, 1, 6) == NVMEARB_OK && nvmearb_ctrl_set_depth(&ctrl, 2, 6) == NVMEARB_OK);
+    CHECK(nvmearb_ctrl_add_sq_region(&ctrl, 0x5000, 4, &number) == NVMEARB_OK);
+    CHECK(nvmearb_ctrl_add_cq_region(&ctrl, 0x6000, 4, &number) == NVMEARB_OK);
+    CHECK(nvmearb_ctrl_sq_tail(&ctrl, 0, 5) == NVMEARB_OK);
+    CHECK(fetched(0, 2, NVMEARB_OPC_CREATE_CQ, 12, 0x6000, 0x00030002, 1) && carried_out(NVMEARB_OPEN_CQ));
+    CHECK(fetched(0, 3, NVMEARB_OPC_CREATE_SQ, 13, 0x5000, 0x00030002, 0x00020001) && carried_out(NVMEARB_OPEN_SQ));
+    CHECK(posted(0, 2, 4, 12, 1, success, 0) && posted(0, 3, 4, 13, 1, success, 0));
+    for (uint16_t n = 0; n < 9; n++) { /* the ring has room for 3 completions, and 6 commands wait for it */
+        CHECK(is_executed(1, n, 40 + n));
+        CHECK(n < 3 ? posted(1, n, n + 1, 40 + n, 1, success, 0) : none_to_post(1));
+    }
+    CHECK(nvmearb_ctrl_sq_tail(&ctrl, 1, 2) == NVMEARB_OK && none_to_fetch(1));
+    for (uint16_t n = 0; n < 20; n++)
+        CHECK(is_executed(2, n, 60 + n) && posted(2, n % 4, (n + 1) % 4, 60 + n, n / 4 % 2 == 0, success, 0) &&
+              nvmearb_ctrl_cq_head(&ctrl, 2, (n + 1) % 4) == NVMEARB_OK);
+    CHECK(fetched(0, 4, NVMEARB_OPC_GET_FEATURES, 14, 0, NVMEARB_FID_ARBITRATION, 0) && carried_out(NVMEARB_DONE));
+    CHECK(none_to_fetch(1) && nvmearb_ctrl_cq_head(&ctrl, 1, 3) == NVMEARB_OK);
+    CHECK(posted(1, 3, 1, 43, 1, success, 0) && read_fetched(1, 49) && none_to_fetch(1));
 }
 
 /* What every call answers over a state and slots. */
@@ -228,7 +291,7 @@ struct call {
     uint32_t cookie;
 };
 /* The calls. Those that take no slots come first. */
-enum { ADD_SQ, ADD_CQ, OWN_OPCODE, OWN_FEATURE, HOLD, SET_CLASS, SQ_TAIL, CQ_HEAD };
+enum { ADD_SQ, ADD_CQ, OWN_OPCODE, OWN_FEATURE, SET_DEPTH, HOLD, SET_CLASS, SQ_TAIL, CQ_HEAD };
 enum { FETCH = CQ_HEAD + 1, SQ_OF, CQ_OF, WAITING, SEEN, WITHOUT_SLOTS };
 enum { FETCHED = WITHOUT_SLOTS, PEEK, PICK, TAKE, COMPLETE, COMPLETE_WITH, POST, FINISH, COMMAND, NAMED, WAITS, CALLS };
 
@@ -243,6 +306,8 @@ static uint32_t made(struct call *it, unsigned which)
         return nvmearb_ctrl_own_opcode(it->ctrl, it->bytes[0]);
     case OWN_FEATURE:
         return nvmearb_ctrl_own_feature(it->ctrl, it->bytes[40]); /* (Command Dword 10) */
+    case SET_DEPTH:
+        return nvmearb_ctrl_set_depth(it->ctrl, it->a, it->b);
     case HOLD:
         return nvmearb_ctrl_hold(it->ctrl, it->a, it->marks);
     case SET_CLASS:
@@ -346,7 +411,7 @@ static unsigned random_call(uint64_t *state, struct tally *tally)
     static const uint8_t often[CALLS] = {SQ_TAIL, SQ_TAIL, FETCH,    FETCHED,  FETCHED,       FETCHED, PEEK,
                                          PICK,    PICK,    TAKE,     TAKE,     TAKE,          POST,    POST,
                                          FINISH,  COMMAND, COMPLETE, COMPLETE, COMPLETE_WITH, NAMED,   HOLD,
-                                         HOLD,    SEEN,    WAITS};
+                                         HOLD,    SEEN,    WAITS,    SET_DEPTH};
     uint64_t word = drawn(state);
     struct call it = {.ctrl = &ctrl, .slots = slots, .count = SLOTS}, before;
     unsigned which = word & 1 ? often[(word >> 4) % CALLS] : (unsigned)(word >> 4) % CALLS, wrong = 0;
@@ -628,7 +693,9 @@ int main(void)
     rings_go_round();
     abort_and_deletion();
     two_deletions();
-    windows_and_slots();
+    depths_and_slots();
+    wrong_depths();
+    a_host_that_reads_nothing();
     marks();
     own_opcodes();
     own_features();

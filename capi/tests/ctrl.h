@@ -19,8 +19,8 @@ static nvmearb_ctrl ctrl;
 static nvmearb_slot slots[SLOTS], many[NVMEARB_MAX_SLOTS + 1];
 static const nvmearb_status success = {NVMEARB_SCT_GENERIC, NVMEARB_SC_SUCCESS};
 
-/* Admin queues of 8 slots, at most 4 I/O queues of a kind, no limit on the burst, a window of 4. */
-static const nvmearb_config config = {{ASQ, 8}, {ACQ, 8}, NVMEARB_ROUND_ROBIN, 7, 4, 4, 4};
+/* Admin queues of 8 slots, at most 4 I/O queues of a kind, no limit on the burst, depths of all slots. */
+static const nvmearb_config config = {{ASQ, 8}, {ACQ, 8}, NVMEARB_ROUND_ROBIN, 7, 4, 4, SLOTS, SLOTS};
 
 /* The bytes of an entry. */
 static inline void entry_of(uint8_t opcode, uint16_t cid, uint64_t prp1, uint32_t cdw10, uint32_t cdw11, uint8_t *bytes)

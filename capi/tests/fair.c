@@ -1,7 +1,7 @@
 /*
  * Whether it goes on for ever: controllers under fair hosts and devices of drawn sizes, under a fixed seed. A host that
  * submits, reads each completion at some time and rings its doorbells, and a device that ends each command at some time
- * and releases each queue that it holds, get every command back, each once, whatever the rings, the window, the burst,
+ * and releases each queue that it holds, get every command back, each once, whatever the rings, the depths, the burst,
  * the weights, the room of each pick, and the Asynchronous Event Requests that the device keeps all the while.
  *
  *   fair [COUNT [SEED]]
@@ -273,8 +273,8 @@ static void draw_script(void)
 static void begin(void)
 {
     static const nvmearb_placement placement = {4096, 4095, 1};
-    nvmearb_config config = {{0x1000, 0}, {0x2000, 0}, 1 + upto(2), (uint32_t)drawn(&seed), 64, 64, 256};
-    config.window = upto(2) ? some(256) : 256;
+    nvmearb_config config = {{0x1000, 0}, {0x2000, 0}, 1 + upto(2), (uint32_t)drawn(&seed), 64, 64, 256, 0};
+    config.depth = upto(2) ? some(2 * PLACES) : PLACES;
     config.cdw11 |= upto(3) ? 0 : 7; /* no burst limit */
     memset(sqs, 0, sizeof sqs);
     memset(cqs, 0, sizeof cqs);
@@ -288,7 +288,8 @@ static void begin(void)
     cqs[0] = (struct cq){.slots = draw_slots(), .phase = 1, .slowness = some(4)};
     draw_script();
     config.asq.slots = sqs[0].slots, config.acq.slots = cqs[0].slots;
-    count = (size_t)(nqueues + 1) * config.window + PLACES;
+    config.admin_depth = (uint16_t)(nevents + some(PLACES));
+    count = (size_t)nqueues * config.depth + config.admin_depth;
     MUST(nvmearb_ctrl_init_anywhere(&ctrl, pool, count, &config, &placement) == NVMEARB_OK);
     MUST(nvmearb_ctrl_own_opcode(&ctrl, EVENT_REQUEST) == NVMEARB_OK);
 }

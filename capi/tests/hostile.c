@@ -142,7 +142,7 @@ static struct {
 #define POOL room.slots, account.slots
 
 static struct {
-    uint64_t ok, none, busy, full, refused, passed, passed_aborts, named, held, classed, deletions, together, aborts;
+    uint64_t ok, none, busy, full, refused, passed, passed_aborts, named, deep, held, classed, deletions, together, aborts;
     uint64_t marked, created, made, cut;
     uint64_t anywhere, lies_anywhere, most, bad_sizes, bad_offsets, bad_vectors; /* where queues may lie anywhere */
 } tally;
@@ -179,7 +179,8 @@ static void begin(const nvmearb_config *config)
     account.cq_regions = (struct regions){1, {config->acq}, {1}};
     account.nsq = config->nsq, account.ncq = config->ncq;
     account.cdw11 = config->cdw11 & ~0xf8u;
-    account.window = config->window;
+    for (unsigned qid = 0; qid < QUEUES; qid++)
+        account.depths[qid] = qid ? config->depth : config->admin_depth;
     account.slots = upto(3) ? SLOTS : 1 + upto(SLOTS);
     account.stirs = account.is_anywhere && upto(5) == 0;
     account.is_slow = !account.stirs && upto(3) == 0;
@@ -195,9 +196,9 @@ static uint16_t draw_limit(void)
 /* The controller is made, as at the end of a reset. Nothing of before is left. */
 static int make(void)
 {
-    static const uint16_t windows[] = {1, 2, 16, 256, 300};
+    static const uint16_t depths[] = {1, 2, 16, 256, 300, 4095};
     nvmearb_config config = {{0x1000, (uint16_t)(2 + upto(40))}, {0x2000, (uint16_t)(2 + upto(40))}, 1 + upto(2),
-                             (uint32_t)drawn(&seed), draw_limit(), draw_limit(), windows[upto(5)]};
+                             (uint32_t)drawn(&seed), draw_limit(), draw_limit(), depths[upto(6)], depths[1 + upto(5)]};
     uint16_t number;
     begin(&config);
     draw_into(&seed, &room, sizeof room);
@@ -254,6 +255,17 @@ static int announces(void)
     }
     account.fids[fid] = 1;
     return is_right(nvmearb_ctrl_own_feature(CTRL, fid), NVMEARB_OK);
+}
+
+/* The device gives a queue another depth, whether or not it is open. */
+static int sets_depth(void)
+{
+    uint16_t qid = draw_qid(), depth = (uint16_t)(upto(20) ? 1 + upto(upto(2) ? 8 : 300) : upto(0x10000));
+    uint32_t want = qid < QUEUES && depth >= 1 && depth <= NVMEARB_MAX_DEPTH ? NVMEARB_OK : NVMEARB_EARG;
+    if (want == NVMEARB_OK)
+        account.depths[qid] = depth;
+    tally.deep += want == NVMEARB_OK;
+    return is_right(nvmearb_ctrl_set_depth(CTRL, qid, depth), want);
 }
 
 /* The device holds a queue, or holds it no longer. */
@@ -322,9 +334,8 @@ static int rings_head(void)
 /* Whether a command of this queue may be fetched. */
 static int may_fetch(const struct sq *sq)
 {
-    unsigned window = account.window > NVMEARB_MAX_COUNT ? NVMEARB_MAX_COUNT : account.window;
-    return sq && sq->fetched < sq->submitted && sq->waiting.n < window && sq->waiting.n + 1u < sq->slots &&
-           account.held < account.slots;
+    return sq && sq->fetched < sq->submitted && sq->unposted < account.depths[sq - account.sqs] &&
+           sq->waiting.n < NVMEARB_MAX_COUNT && sq->waiting.n + 1u < sq->slots && account.held < account.slots;
 }
 
 static uint16_t free_number(void)
@@ -769,6 +780,8 @@ static int call(void)
         return holds();
     if (which < 480)
         return sets_class();
+    if (which < 500)
+        return sets_depth();
     if (account.is_slow && which % 32)
         return calls[upto(IN_FRONT)]();
     return calls[upto(sizeof calls / sizeof *calls)]();
@@ -787,8 +800,8 @@ int main(int count, char **words)
            (uintmax_t)tally.created, (uintmax_t)tally.deletions, (uintmax_t)tally.aborts);
     printf("%ju commands passed on, %ju of them Aborts, %ju named, %ju marked\n", (uintmax_t)tally.passed,
            (uintmax_t)tally.passed_aborts, (uintmax_t)tally.named, (uintmax_t)tally.marked);
-    printf("%ju queues held, %ju classes set, %ju picks cut to the room\n", (uintmax_t)tally.held,
-           (uintmax_t)tally.classed, (uintmax_t)tally.cut);
+    printf("%ju queues held, %ju classes and %ju depths set, %ju picks cut to the room\n", (uintmax_t)tally.held,
+           (uintmax_t)tally.classed, (uintmax_t)tally.deep, (uintmax_t)tally.cut);
     printf("%ju controllers with queues anywhere: %ju Creates accepted, at most %ju of one; refused by size %ju, by "
            "address %ju, by vector %ju\n", (uintmax_t)tally.anywhere, (uintmax_t)tally.lies_anywhere,
            (uintmax_t)tally.most, (uintmax_t)tally.bad_sizes, (uintmax_t)tally.bad_offsets,
@@ -797,6 +810,6 @@ int main(int count, char **words)
     CHECK(tally.busy && tally.full && tally.created && tally.deletions && tally.together && tally.aborts);
     CHECK(tally.most > NVMEARB_MAX_REGIONS && tally.bad_sizes && tally.bad_offsets && tally.bad_vectors);
     CHECK(tally.passed && tally.marked && tally.passed_aborts && tally.named && tally.held && tally.classed);
-    CHECK(tally.cut);
+    CHECK(tally.cut && tally.deep);
     return told();
 }

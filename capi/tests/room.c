@@ -2,7 +2,7 @@
 #include "ctrl.h"
 #include "tell.h"
 
-enum { READS = 256, RING = READS + 1, POOL = 2 * READS + 256 };
+enum { READS = 256, RING = READS + 1, POOL = 3 * READS };
 
 /* What a pick is asked for and does. */
 static uint32_t picks(uint16_t room, nvmearb_step *step)
@@ -38,7 +38,7 @@ static int is_ready(nvmearb_command *held)
     nvmearb_step step;
     uint16_t number;
     int is_well;
-    it.window = READS;
+    it.depth = it.admin_depth = READS;
     is_well = nvmearb_ctrl_init(&ctrl, many, POOL, &it) == NVMEARB_OK &&
               nvmearb_ctrl_own_opcode(&ctrl, EVENT_REQUEST) == NVMEARB_OK &&
               nvmearb_ctrl_add_sq_region(&ctrl, SQ, RING, &number) == NVMEARB_OK &&
@@ -114,7 +114,7 @@ static void an_urgent_command(void)
     nvmearb_config it = config;
     nvmearb_step step;
     uint16_t number;
-    it.window = READS, it.mechanism = NVMEARB_WEIGHTED;
+    it.depth = it.admin_depth = READS, it.mechanism = NVMEARB_WEIGHTED;
     CHECK(nvmearb_ctrl_init(&ctrl, many, POOL, &it) == NVMEARB_OK);
     CHECK(nvmearb_ctrl_add_sq_region(&ctrl, SQ, 8, &number) == NVMEARB_OK);
     CHECK(nvmearb_ctrl_add_sq_region(&ctrl, 0x5000, 8, &number) == NVMEARB_OK);

@@ -14,7 +14,8 @@ enum {
     FREE_SLOTS = CQS + NVMEARB_MAX_REGIONS * CQ_SIZE
 };
 enum { HEAD = 2, TAIL = 4, FIRST = 6, LAST = 8, LENGTH = 10, CQID = 14 };
-enum { OUTSTANDING = FREE_SLOTS + 8, PICKED_COUNT = FREE_SLOTS + 10, DELETION = FREE_SLOTS + 14, DELETION_SIZE = 4 };
+enum { DEPTHS = FREE_SLOTS + 6, OUTSTANDING = DEPTHS + 2 * NVMEARB_MAX_QUEUES, PICKED_COUNT = OUTSTANDING + 2 };
+enum { DELETION = PICKED_COUNT + 4, DELETION_SIZE = 4 };
 enum { NEXT = 72, STATUS_TYPE = 74, SQID = 76, USED = 77 };
 
 /* The controller and its slots pass, and don't with another number in `bytes` of these. */

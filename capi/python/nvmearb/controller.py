@@ -27,7 +27,8 @@ class Config(NamedTuple):
     cdw11: int = 0
     nsq: int = 64
     ncq: int = 64
-    window: int = 256
+    depth: int = 256
+    admin_depth: int = 256
 
 
 class Placement(NamedTuple):
@@ -103,7 +104,7 @@ class Controller:
     def __init__(
         self, config: Config = Config(), placement: Placement = Placement(), slots: Optional[int] = None
     ) -> None:
-        count = min((config.nsq + 1) * config.window + 256, MAX_SLOTS) if slots is None else slots
+        count = min(config.admin_depth + config.nsq * config.depth, MAX_SLOTS) if slots is None else slots
         if not 1 <= count <= MAX_SLOTS:
             raise ValueError(f"slots is {count}, and not 1 to {MAX_SLOTS}")
         self._ctrl, self._slots = CtrlState(), (SlotState * count)()
@@ -112,7 +113,7 @@ class Controller:
     def reset(self, config: Config = Config(), placement: Placement = Placement()) -> None:
         """Makes the controller anew, as where CC.EN becomes 1: nothing of before is left."""
         in_range(32, cdw11=config.cdw11, page=placement.page)
-        in_range(16, nsq=config.nsq, ncq=config.ncq, window=config.window)
+        in_range(16, nsq=config.nsq, ncq=config.ncq, depth=config.depth, admin_depth=config.admin_depth)
         in_range(16, mqes=placement.mqes, vectors=placement.vectors)
         regions = []
         for address, slots in (config.asq, config.acq):
@@ -129,6 +130,11 @@ class Controller:
     def own_feature(self, fid: int) -> None:
         """From now on Set and Get Features of this feature identifier are the device's."""
         checked(self._alone("own_feature", u8(fid=fid)))
+
+    def set_depth(self, qid: int, depth: int) -> None:
+        """From now on at most `depth` commands of a submission queue hold a slot, each from its fetch until its completion is
+        posted."""
+        checked(self._alone("set_depth", u16(qid=qid), u16(depth=depth)))
 
     def hold(self, qid: int, on: bool) -> None:
         """Leaves a queue out of arbitration, or takes it in again."""

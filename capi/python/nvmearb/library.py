@@ -76,13 +76,13 @@ class SlotState(Structure):
 
 
 class CtrlState(Structure):
-    _fields_ = [("mark", c_uint64), ("count", c_size_t), ("words", c_uint64 * 748)]
+    _fields_ = [("mark", c_uint64), ("count", c_size_t), ("words", c_uint64 * 764)]
 
 
 class ConfigFields(Structure):
     _fields_ = [
         ("asq", RegionFields), ("acq", RegionFields), ("mechanism", c_uint32), ("cdw11", c_uint32), ("nsq", c_uint16),
-        ("ncq", c_uint16), ("window", c_uint16),
+        ("ncq", c_uint16), ("depth", c_uint16), ("admin_depth", c_uint16),
     ]
 
 

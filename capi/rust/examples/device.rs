@@ -11,7 +11,7 @@ use nvmearb::{Sqe, Status, Step, Verdict, CQE_BYTES, NO_LIMIT, SQE_BYTES};
 const RING: u16 = 8;
 /// The slots of the controller: enough that commands of one of the two queues never keep those of the other from being
 /// fetched.
-const COMMANDS: usize = 2 * RING as usize + 256;
+const COMMANDS: usize = 2 * RING as usize;
 /// Where the host puts its rings, by the identifiers of their queues.
 const SQS: [u64; 2] = [0x1000, 0x3000];
 const CQS: [u64; 2] = [0x2000, 0x4000];
@@ -46,7 +46,8 @@ impl Device {
             cdw11: 0x0100_0001,
             nsq: 1,
             ncq: 1,
-            window: RING,
+            depth: RING,
+            admin_depth: RING,
         };
         let placement = Placement { page: PAGE as u32, mqes: RING - 1, vectors: 1 };
         let ctrl = Controller::anywhere(&config, &placement, [Slot::EMPTY; COMMANDS])?;

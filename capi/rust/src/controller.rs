@@ -23,8 +23,10 @@ pub struct Config {
     pub nsq: u16,
     /// The most I/O completion queues, 1 to [`MAX_IO_QUEUES`](crate::MAX_IO_QUEUES).
     pub ncq: u16,
-    /// The most commands of a queue that are fetched and not picked; above 256 it is 256.
-    pub window: u16,
+    /// The depth of each I/O submission queue, 1 to [`MAX_DEPTH`](crate::MAX_DEPTH) ([`Controller::set_depth`]).
+    pub depth: u16,
+    /// That of the admin queue, above the number of event requests that the device holds.
+    pub admin_depth: u16,
 }
 
 impl Config {
@@ -36,7 +38,8 @@ impl Config {
             cdw11: self.cdw11,
             nsq: self.nsq,
             ncq: self.ncq,
-            window: self.window,
+            depth: self.depth,
+            admin_depth: self.admin_depth,
         }
     }
 }
@@ -191,10 +194,11 @@ impl Post {
 ///         cdw11: 7,
 ///         nsq: 4,
 ///         ncq: 4,
-///         window: 8,
+///         depth: 8,
+///         admin_depth: 8,
 ///     },
 ///     &Placement { page: 4096, mqes: 4095, vectors: 1 },
-///     [Slot::EMPTY; 5 * 8 + 256],
+///     [Slot::EMPTY; 5 * 8],
 /// )
 /// .expect("its numbers are in their ranges");
 /// let entry =
@@ -216,17 +220,18 @@ pub struct Controller<S> {
 
 impl<S: Slots> Controller<S> {
     /// A controller with its admin queues alone, which are open, on region 0 of each kind. One of the `slots` holds one
-    /// command from its fetch until its completion is posted, and nothing is fetched while none is free. With `window`
-    /// slots for each submission region, the admin queue's included, and 256 more, one is free for each command that may
-    /// be fetched otherwise, while no queue is being deleted. With fewer, commands of one queue may keep those of another
-    /// from being fetched. Commands that a deletion drops hold their slots until their completions are posted.
+    /// command from its fetch until its completion is posted, and nothing is fetched while none is free. At most as many
+    /// commands of a submission queue hold a slot as its depth. With as many slots as the depths of the queues that may
+    /// be open have together, `admin_depth + nsq * depth`, one is free for each command that may be fetched otherwise,
+    /// while queues are being deleted too. With fewer, commands of one queue may keep those of another from being
+    /// fetched. Commands that a deletion drops hold their slots until their completions are posted.
     ///
     /// The call takes some 34 KB of stack, and each other call 1 KB.
     ///
     /// [`Error::Argument`]: there aren't 1 to [`MAX_SLOTS`](crate::MAX_SLOTS) slots, `nsq` or `ncq` isn't 1 to
-    /// [`MAX_IO_QUEUES`](crate::MAX_IO_QUEUES), or `window` is 0. Otherwise the first of these: [`Error::Size`]: `asq`
-    /// doesn't have 2 to 4096 slots. [`Error::Used`]: `acq` has the address of `asq`. [`Error::Size`]: `acq` doesn't
-    /// have 2 to 4096 slots.
+    /// [`MAX_IO_QUEUES`](crate::MAX_IO_QUEUES), or `depth` or `admin_depth` isn't 1 to
+    /// [`MAX_DEPTH`](crate::MAX_DEPTH). Otherwise the first of these: [`Error::Size`]: `asq` doesn't have 2 to 4096
+    /// slots. [`Error::Used`]: `acq` has the address of `asq`. [`Error::Size`]: `acq` doesn't have 2 to 4096 slots.
     ///
     /// # Panics
     ///
@@ -251,7 +256,7 @@ impl<S: Slots> Controller<S> {
     }
 
     /// A controller whose queues may lie anywhere in memory, as [`Controller::new`] makes one whose queues lie on
-    /// regions. Take `(nsq + 1) * window + 256` slots; that these suffice isn't proved.
+    /// regions.
     ///
     /// The first of these that applies refuses a Create that isn't fused. [`Status::INVALID_QUEUE_SIZE`]: QSIZE is
     /// above `mqes`. [`Status::PRP_OFFSET_INVALID`]: PRP1 isn't a multiple of the page.
@@ -322,8 +327,22 @@ impl<S: Slots> Controller<S> {
         sure(checked(unsafe { sys::nvmearb_ctrl_own_feature(&mut self.ctrl, fid) }));
     }
 
+    /// From now on at most `depth` commands of a submission queue hold a slot, each from its fetch until its completion
+    /// is posted: those that wait, and those that are picked, with the device, or to be posted. This is meant for the
+    /// time before the queue is created, which may be at any time, and the queue keeps its depth until the controller is
+    /// made anew. Where more commands hold a slot already, nothing is fetched of the queue until fewer do. The depth of
+    /// the admin queue has to be above the number of Asynchronous Event Requests that the device holds, or no admin
+    /// command is fetched any more.
+    ///
+    /// [`Error::Argument`]: `qid` is above [`MAX_IO_QUEUES`](crate::MAX_IO_QUEUES), or `depth` isn't 1 to
+    /// [`MAX_DEPTH`](crate::MAX_DEPTH).
+    pub fn set_depth(&mut self, qid: u16, depth: u16) -> Result<(), Error> {
+        // SAFETY: references.
+        checked(unsafe { sys::nvmearb_ctrl_set_depth(&mut self.ctrl, qid, depth) })
+    }
+
     /// From now on no command of a submission queue is picked (`on`), or they are again. What waits in it stays there,
-    /// and up to the window it is fetched as before; an Abort and a deletion still end it. Commands that were picked
+    /// and up to its depth it is fetched as before; an Abort and a deletion still end it. Commands that were picked
     /// stay picked. The queue may be the admin queue. A queue that is created anew isn't held.
     ///
     /// [`Error::Missing`]: the queue isn't open or is closing.
@@ -362,8 +381,8 @@ impl<S: Slots> Controller<S> {
     }
 
     /// The slot of the ring of a submission queue whose entry is fetched next. None if the queue isn't open, the host
-    /// submitted no more, as many of its commands wait as the window or the ring allows, or no slot of the controller
-    /// is free. A queue isn't open any more once its deletion began.
+    /// submitted no more, as many of its commands hold a slot as its depth, as many wait as its ring has slots less 1,
+    /// or 256, or no slot of the controller is free. A queue isn't open any more once its deletion began.
     pub fn fetch(&self, qid: u16) -> Option<u16> {
         // SAFETY: references.
         sure(found(|slot| unsafe { sys::nvmearb_ctrl_fetch(&self.ctrl, qid, slot) }))

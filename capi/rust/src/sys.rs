@@ -303,13 +303,14 @@ pub struct nvmearb_slot {
 }
 
 pub const NVMEARB_MAX_SLOTS: usize = 65535;
+pub const NVMEARB_MAX_DEPTH: u16 = 4095;
 
 #[repr(C)]
 #[derive(Clone, Copy, Debug)]
 pub struct nvmearb_ctrl {
     pub mark: u64,
     pub count: usize,
-    pub words: [u64; 748],
+    pub words: [u64; 764],
 }
 
 #[repr(C)]
@@ -321,7 +322,8 @@ pub struct nvmearb_config {
     pub cdw11: u32,
     pub nsq: u16,
     pub ncq: u16,
-    pub window: u16,
+    pub depth: u16,
+    pub admin_depth: u16,
 }
 
 #[repr(C)]
@@ -403,7 +405,7 @@ const _: () = {
     assert!(size_of::<nvmearb_answer>() == 24);
     assert!(size_of::<nvmearb_queue>() == 8);
     assert!(size_of::<nvmearb_slot>() == 80);
-    assert!(size_of::<nvmearb_ctrl>() == 6000);
+    assert!(size_of::<nvmearb_ctrl>() == 6128);
     assert!(size_of::<nvmearb_config>() == 48);
     assert!(size_of::<nvmearb_placement>() == 8);
     assert!(size_of::<nvmearb_asked>() == 16);
@@ -463,6 +465,7 @@ extern "C" {
     pub fn nvmearb_ctrl_add_cq_region(ctrl: *mut nvmearb_ctrl, address: u64, slots: u16, number: *mut u16) -> u32;
     pub fn nvmearb_ctrl_own_opcode(ctrl: *mut nvmearb_ctrl, opcode: u8) -> u32;
     pub fn nvmearb_ctrl_own_feature(ctrl: *mut nvmearb_ctrl, fid: u8) -> u32;
+    pub fn nvmearb_ctrl_set_depth(ctrl: *mut nvmearb_ctrl, qid: u16, depth: u16) -> u32;
     pub fn nvmearb_ctrl_hold(ctrl: *mut nvmearb_ctrl, qid: u16, on: u8) -> u32;
     pub fn nvmearb_ctrl_set_class(ctrl: *mut nvmearb_ctrl, qid: u16, priority: u16) -> u32;
     pub fn nvmearb_ctrl_sq_tail(ctrl: *mut nvmearb_ctrl, qid: u16, tail: u16) -> u32;

@@ -17,7 +17,7 @@ const PLACEMENT: Placement = Placement { page: 0x1000, mqes: 7, vectors: 2 };
 fn config() -> Config {
     let admin = |address| Region { address, slots: ADMIN_SLOTS };
     let (asq, acq) = (admin(0x1000), admin(0x2000));
-    Config { asq, acq, mechanism: Mechanism::RoundRobin, cdw11: 7, nsq: 4, ncq: 4, window: 4 }
+    Config { asq, acq, mechanism: Mechanism::RoundRobin, cdw11: 7, nsq: 4, ncq: 4, depth: 16, admin_depth: 16 }
 }
 
 /// A controller, and the slot of the admin queues that comes next.

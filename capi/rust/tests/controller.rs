@@ -1,7 +1,7 @@
 // SPDX-License-Identifier: MIT
 //! A controller: each call, and each refusal. Values are the specification's.
 use nvmearb::admin_opcode::{ABORT, CREATE_CQ, CREATE_SQ, DELETE_SQ, GET_FEATURES, SET_FEATURES};
-use nvmearb::{boxed_slots, Slot, Step, Tag, Verdict, MAX_REGIONS, MAX_SLOTS, NO_LIMIT};
+use nvmearb::{boxed_slots, Slot, Step, Tag, Verdict, MAX_DEPTH, MAX_REGIONS, MAX_SLOTS, NO_LIMIT};
 use nvmearb::{
     feature, io_opcode, Config, Cqe, DoorbellError, Error, Marks, Mechanism, Pick, Priority, Region, Seen, Sqe, Status,
 };
@@ -17,10 +17,10 @@ const SLOTS: usize = 16;
 const IDENTIFY: u8 = 0x06;
 const EVENTS: u8 = 0x0b;
 
-/// Admin queues of 8 slots, at most 4 I/O queues of a kind, no limit on the burst, a window of 4.
+/// Admin queues of 8 slots, at most 4 I/O queues of a kind, no limit on the burst, depths of all slots.
 fn config(mechanism: Mechanism) -> Config {
     let (asq, acq) = (Region { address: ASQ, slots: 8 }, Region { address: ACQ, slots: 8 });
-    Config { asq, acq, mechanism, cdw11: 7, nsq: 4, ncq: 4, window: 4 }
+    Config { asq, acq, mechanism, cdw11: 7, nsq: 4, ncq: 4, depth: 16, admin_depth: 16 }
 }
 
 /// The entry of an opcode and a command identifier is read from a slot of a queue. Its cookie is 1000 and the
@@ -117,15 +117,24 @@ fn configurations_are_refused() {
         Controller::new(&it, boxed_slots(slots)).map(|_| ())
     };
     assert_eq!((with(|_| (), 0), with(|_| (), MAX_SLOTS + 1)), (Err(Error::Argument), Err(Error::Argument)));
-    let bad: [fn(&mut Config); 5] =
-        [|it| (it.nsq, it.asq.slots) = (0, 1), |it| it.nsq = 65, |it| it.ncq = 0, |it| it.ncq = 65, |it| it.window = 0];
+    let bad: [fn(&mut Config); 8] = [
+        |it| (it.nsq, it.asq.slots) = (0, 1),
+        |it| it.nsq = 65,
+        |it| it.ncq = 0,
+        |it| it.ncq = 65,
+        |it| it.depth = 0,
+        |it| it.depth = 4096,
+        |it| it.admin_depth = 0,
+        |it| it.admin_depth = 4096,
+    ];
     for change in bad {
         assert_eq!(with(change, SLOTS), Err(Error::Argument));
     }
     assert_eq!(with(|it| (it.asq.slots, it.acq.address) = (1, ASQ), SLOTS), Err(Error::Size));
     assert_eq!(with(|it| (it.acq.slots, it.acq.address) = (1, ASQ), SLOTS), Err(Error::Used));
     assert_eq!(with(|it| it.acq.slots = 4097, SLOTS), Err(Error::Size));
-    assert_eq!(with(|it| (it.asq.slots, it.acq.slots, it.window) = (4096, 2, 65535), 1), Ok(()));
+    assert_eq!(with(|it| (it.asq.slots, it.acq.slots) = (4096, 2), 1), Ok(()));
+    assert_eq!(with(|it| (it.depth, it.admin_depth) = (MAX_DEPTH, MAX_DEPTH), SLOTS), Ok(()));
     assert_eq!(with(|it| (it.nsq, it.ncq) = (64, 64), MAX_SLOTS), Ok(()));
 }
 
@@ -270,7 +279,7 @@ fn deletion_waits_for_its_commands() {
 fn reset_leaves_nothing_of_before() {
     let mut ctrl = prepared(Mechanism::Weighted);
     let mut refused = config(Mechanism::Weighted);
-    refused.window = 0;
+    refused.depth = 0;
     assert_eq!((ctrl.reset(&refused), ctrl.sq(1)), (Err(Error::Argument), Some(1)));
     assert_eq!(ctrl.reset(&config(Mechanism::RoundRobin)), Ok(()));
     assert_eq!((ctrl.sq(1), ctrl.cq(1), ctrl.fetch(0), ctrl.post(0)), (None, None, None, None));
@@ -339,24 +348,30 @@ fn announced_features_are_the_devices_and_a_reset_forgets_them() {
 }
 
 #[test]
-fn window_and_slots_are_limits() {
-    let two = Config { window: 2, ..config(Mechanism::RoundRobin) };
+fn depth_and_slots_are_limits() {
+    let two = Config { admin_depth: 2, ..config(Mechanism::RoundRobin) };
     let mut ctrl = Controller::new(&two, boxed_slots(3)).unwrap();
     let get = admin(GET_FEATURES, 1, 0, feature::ARBITRATION.into(), 0).to_bytes();
     assert_eq!(ctrl.sq_tail(0, 7), Ok(()));
     assert_eq!((ctrl.fetched(0, &get, 0), ctrl.fetched(0, &get, 0)), (Ok(()), Ok(())));
-    assert_eq!((ctrl.fetch(0), ctrl.waiting(0)), (None, Some(2))); // the window is full
+    assert_eq!((ctrl.fetch(0), ctrl.waiting(0)), (None, Some(2))); // as many as the depth
     carried_out(&mut ctrl);
-    assert_eq!(ctrl.fetched(0, &get, 0), Ok(()));
-    carried_out(&mut ctrl);
-    assert_eq!((ctrl.fetch(0), ctrl.waiting(0)), (None, Some(1))); // the slots are full
+    assert_eq!((ctrl.fetch(0), ctrl.waiting(0)), (None, Some(1))); // until a completion is posted
     assert!(ctrl.post(0).is_some());
-    assert_eq!(ctrl.fetch(0), Some(3));
+    assert_eq!((ctrl.fetch(0), ctrl.set_depth(0, 4)), (Some(2), Ok(())));
+    assert_eq!((ctrl.fetched(0, &get, 0), ctrl.fetched(0, &get, 0)), (Ok(()), Ok(())));
+    assert_eq!((ctrl.fetch(0), ctrl.waiting(0)), (None, Some(3))); // all slots hold one
+    carried_out(&mut ctrl);
+    assert!(ctrl.post(0).is_some());
+    assert_eq!(ctrl.fetch(0), Some(4));
+    for (qid, depth) in [(0, 0), (0, MAX_DEPTH + 1), (65, 1)] {
+        assert_eq!(ctrl.set_depth(qid, depth), Err(Error::Argument));
+    }
 }
 
 #[test]
 fn at_most_256_commands_have_no_completion_posted() {
-    let wide = Config { window: 256, ..config(Mechanism::RoundRobin) };
+    let wide = Config { depth: 512, ..config(Mechanism::RoundRobin) };
     let mut ctrl = Controller::new(&wide, boxed_slots(1024)).unwrap();
     assert_eq!((ctrl.add_sq_region(SQ, 512), ctrl.add_cq_region(CQ, 512)), (Ok(1), Ok(1)));
     assert_eq!(ctrl.sq_tail(0, 2), Ok(()));

@@ -51,7 +51,7 @@ structs! {
     nvmearb_queue { region, cqid, priority, closing }
     nvmearb_slot { words }
     nvmearb_ctrl { mark, count, words }
-    nvmearb_config { asq, acq, mechanism, cdw11, nsq, ncq, window }
+    nvmearb_config { asq, acq, mechanism, cdw11, nsq, ncq, depth, admin_depth }
     nvmearb_step { kind, answer, pick }
     nvmearb_command { entry, cookie, tag }
     nvmearb_post { bytes, cookie, tag, slot }
@@ -87,6 +87,7 @@ constants! {
     NVMEARB_ROUND_ROBIN NVMEARB_WEIGHTED
     NVMEARB_ADMIN NVMEARB_URGENT NVMEARB_HIGH NVMEARB_MEDIUM NVMEARB_LOW
     NVMEARB_MAX_QUEUES NVMEARB_MAX_COUNT NVMEARB_NO_LIMIT NVMEARB_MAX_REGIONS NVMEARB_MAX_IO_QUEUES NVMEARB_MAX_SLOTS
+    NVMEARB_MAX_DEPTH
     NVMEARB_DONE NVMEARB_OPEN_SQ NVMEARB_OPEN_CQ NVMEARB_BEGIN_DELETE NVMEARB_CLOSE_CQ NVMEARB_SET_ARBITRATION
     NVMEARB_ABORT
     NVMEARB_PICKED NVMEARB_CARRIED_OUT NVMEARB_PASSED NVMEARB_DNR NVMEARB_MORE

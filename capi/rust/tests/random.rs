@@ -59,7 +59,7 @@ struct Driven {
 impl Driven {
     fn new(mechanism: Mechanism) -> Driven {
         let (asq, acq) = (Region { address: 0x1000, slots: 8 }, Region { address: 0x2000, slots: 8 });
-        let config = Config { asq, acq, mechanism, cdw11: 2, nsq: 4, ncq: 4, window: 4 };
+        let config = Config { asq, acq, mechanism, cdw11: 2, nsq: 4, ncq: 4, depth: 16, admin_depth: 16 };
         let mut ctrl = Controller::new(&config, boxed_slots(24)).unwrap();
         for address in [0x3000, 0x4000, 0x5000] {
             ctrl.add_sq_region(address, 8).unwrap();

@@ -18,7 +18,7 @@ const FIRST_SLOT: usize = STATE + 6000;
 fn config() -> Config {
     let admin = |address| Region { address, slots: 8 };
     let (asq, acq) = (admin(0x1000), admin(0x2000));
-    Config { asq, acq, mechanism: Mechanism::Weighted, cdw11: 0, nsq: 4, ncq: 4, window: 4 }
+    Config { asq, acq, mechanism: Mechanism::Weighted, cdw11: 0, nsq: 4, ncq: 4, depth: 16, admin_depth: 16 }
 }
 
 /// Queues 1 are there. Read 20 is out, under the tag that is answered, 21 has a completion that is ready, and 22 waits.
