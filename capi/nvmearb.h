@@ -814,10 +814,11 @@ uint32_t nvmearb_ctrl_own_feature(nvmearb_ctrl *ctrl, uint8_t fid);
 
 /*
  * From now on at most `depth` commands of a submission queue hold a slot, each from its fetch until its completion is
- * posted: those that wait, and those that are picked, with the device, or to be posted. This is meant for the time before
- * the queue is created, which may be at any time, and the queue keeps its depth until the controller is made anew. Where
- * more commands hold a slot already, nothing is fetched of the queue until fewer do. The depth of the admin queue has to
- * be above the number of Asynchronous Event Requests that the device holds, or no admin command is fetched any more.
+ * posted: those that wait, and those that are picked, with the device, or to be posted. Call it before the queue is
+ * created: an identifier keeps its depth until the next call, or until the controller is made anew, whatever is created
+ * and deleted. Where more commands hold a slot already, nothing is fetched of the queue until fewer do. The depth of the
+ * admin queue has to be above the number of Asynchronous Event Requests that the device holds, or no admin command is
+ * fetched any more.
  * NVMEARB_ESTATE if `ctrl` isn't valid; otherwise NVMEARB_EARG if `qid` is above NVMEARB_MAX_IO_QUEUES or `depth` isn't 1
  * to NVMEARB_MAX_DEPTH.
  */

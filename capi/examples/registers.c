@@ -16,8 +16,7 @@ static void enable(struct nvme *d)
     nvmearb_region asq = {(uint64_t)r[ASQ_HIGH] << 32 | r[ASQ], (uint16_t)((r[AQA] & 0xfff) + 1)};
     nvmearb_region acq = {(uint64_t)r[ACQ_HIGH] << 32 | r[ACQ], (uint16_t)((r[AQA] >> 16 & 0xfff) + 1)};
     uint32_t ams = r[CC] >> 11 & 7, mechanism = d->is_weighted || ams ? NVMEARB_WEIGHTED : NVMEARB_ROUND_ROBIN;
-    nvmearb_config config = {asq,         acq,         mechanism,  NVME_ARBITRATION,
-                             NVME_QUEUES, NVME_QUEUES, NVME_DEPTH, NVME_DEPTH};
+    nvmearb_config config = {asq, acq, mechanism, NVME_ARBITRATION, NVME_QUEUES, NVME_QUEUES, NVME_DEPTH, NVME_DEPTH};
     nvmearb_placement placement = {NVME_PAGE, MQES, d->vectors};
     s->sqs[0] = (struct nvme_ring){.address = asq.address, .slots = asq.slots};
     s->cqs[0] = (struct nvme_ring){.address = acq.address, .slots = acq.slots, .has_interrupt = 1};

@@ -1,4 +1,4 @@
--- Depths: at most so many commands of a queue hold a slot of the pool, from their fetch to their post. (profile)
+-- Depths: the most commands of a queue that hold a slot of the pool, each from its fetch to its post. (profile)
 use Rattle.std.specs.Prelude.{◌≡◌, ℕ, ◌+◌, ◌<◌, ◌≤◌, Bool, false, not, List, length, Some, sum_by}
 use Rattle.nvme_arbiter.specs.Limits.{queue_limit}
 use Rattle.nvme_log.specs.declared.event.Event.TheVariants as event
@@ -22,7 +22,7 @@ abbrev pub IsFetchedInDepth : (ℕ → ℕ) → Notes → Note → Type 0
 IsFetchedInDepth depth before (Logged (event.Fetch r i entry)) = held_in (logged before) r < depth r
 IsFetchedInDepth depth before note = Unit {0}
 
--- the queue of a region, where it is open or closing, has the depth of its identifier
+-- where the queue of a region is open or closing, the region's depth is no more than that of the queue's identifier
 abbrev pub HasDepths : (depth depths : ℕ → ℕ) → Past → Type 0
 HasDepths depth depths past = (r q : ℕ) → qid_of_region past r ≡ Some q → is_closed_region past r ≡ false → depth r ≤ depths q
 

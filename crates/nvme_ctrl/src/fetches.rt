@@ -19,9 +19,10 @@ impl Controller {
 
     /// From now on at most `depth` commands of a submission queue hold a slot of the pool, each from its fetch to the posting
     /// of its completion: those that wait, and those that are picked, at the device, ready or aborted. Of an identifier above
-    /// 64 nothing changes. It is meant for the time before the queue is created: where more commands hold a slot, just the
-    /// next fetch waits until fewer do. The depth of the admin queue has to be above the number of event requests that the
-    /// device holds, else no admin command is fetched any more. (Base Specification, Asynchronous Event Request; profile)
+    /// 64 nothing changes. Call it before the queue is created: an identifier keeps its depth, whatever is created and
+    /// deleted. Where more commands hold a slot already, just the next fetch waits until fewer do. The depth of the admin
+    /// queue has to be above the number of event requests that the device holds, else no admin command is fetched any more.
+    /// (Base Specification, Asynchronous Event Request; profile)
     pub fn set_depth(&mut self, qid: u16, depth: u16)
         ensures depths { depths_of self.new ≡ slice_set (depths_of self.old) qid depth }
         ensures own { own_of self.new ≡ own_of self.old }

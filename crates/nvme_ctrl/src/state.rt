@@ -55,7 +55,7 @@ pub struct Controller {
     pub(crate) cqs: [CqState; MAX_REGIONS],
     /// The free slots.
     pub(crate) free: Chain,
-    /// The depth of each submission queue: at most so many of its commands hold a slot.
+    /// The depth of each submission queue, by its identifier: the most of its commands that hold a slot.
     pub(crate) depths: [u16; MAX_REGIONS],
     /// How many commands were picked, or aborted by an Abort command, and have no completion posted.
     pub(crate) outstanding: u16,

@@ -7,8 +7,7 @@ use nvme_entry::{Sqe, Status};
 use nvme_placing::Placement;
 use std::alloc::Global;
 
-// How many commands of a queue may hold a slot: as many as may wait, as many as arbitration counts, and as many as may be
-// outstanding.
+// The most commands of a queue that hold a slot: as many as arbitration counts, and as many as may be outstanding.
 const DEPTH: u16 = 512;
 
 // As many slots as commands may wait and be picked: those of the windows of 64 I/O queues and the admin queue, and 256.

@@ -17,7 +17,7 @@ const CQS: u64 = 0x20_0000;
 
 const BETWEEN: u64 = 0x1000;
 
-// At most so many commands of a queue hold a slot: as many as wait at most, and as many as are outstanding.
+// The most commands of a queue that hold a slot: as many as arbitration counts, and as many as may be outstanding.
 const DEPTH: u16 = 512;
 
 // The weights 4, 2 and 1, and a burst of 8.

@@ -43,8 +43,8 @@ pub struct ConfigFields {
     /// How many I/O queues of each kind can be allotted, 1 to 64.
     pub nsq: u16,
     pub ncq: u16,
-    /// The depth of each I/O submission queue, and that of the admin queue, 1 to `MAX_DEPTH`: at most so many of its
-    /// commands hold a slot.
+    /// The depth of each I/O submission queue, and that of the admin queue, 1 to `MAX_DEPTH`: the most commands of a queue
+    /// that hold a slot.
     pub depth: u16,
     pub admin_depth: u16,
 }
