@@ -1,4 +1,10 @@
+mod Beginnings
+mod Handling
 mod Hosted
+mod Machines
 mod Moves
+mod Plans
 mod Pools
 mod Progress
+mod Rooms
+mod Stepping

@@ -1,10 +1,16 @@
+pub mod Beginnings
 pub mod Counts
 pub mod Devices
 pub mod Fronts
+pub mod Handling
+pub mod Machines
 pub mod Passing
 pub mod Picks
+pub mod Plans
 pub mod Progress
 pub mod Ranks
 pub mod Simulations
 pub mod Stages
+pub mod Stepping
+pub mod Steps
 pub mod Times

@@ -1,17 +1,20 @@
--- What stands at each step of a simulation. (profile)
-use Rattle.std.specs.Prelude.{ℕ, Bool}
+-- What stands at each step of a simulation, and what a step leaves. (profile)
+use Rattle.std.specs.Prelude.{◌≡◌, ℕ, Bool, Option}
 use Rattle.nvme_log.specs.Rules.{FrontRules}
 use Rattle.nvme_ctrl.specs.Notes.{Notes}
+use Rattle.nvme_model.specs.declared.device.Pauses.{Pauses}
+use Rattle.nvme_model.specs.declared.model.End.{End}
 use Rattle.nvme_occupancy.specs.declared.occupancy.Occupancy.{Occupancy}
-use Rattle.nvme_simulation.specs.Devices.{room_in}
-use Rattle.nvme_simulation.specs.Fronts.{IsFront, StandsBy}
+use Rattle.nvme_simulation.specs.Devices.{IsBehind, IsDevice, device_in, room_in}
+use Rattle.nvme_simulation.specs.Fronts.{IsFront, StandsBy, StaysFront}
 use Rattle.nvme_simulation.specs.Times.{now_of}
 use Rattle.nvme_simulation.specs.declared.hosts.Hosts.{Hosts}
 use Rattle.nvme_simulation.specs.declared.simulation.Simulation.{Simulation}
 
--- the controller stands at some log
-abbrev pub IsSimulation : Simulation → Type 0
-IsSimulation s = IsFront s.machine.front
+-- the controller stands at some log, and the device is one after some calls
+pub record IsSimulation (s : Simulation) : Type 0 where
+  pub front : IsFront s.machine.front
+  pub device : IsDevice (device_in s.machine.device)
 
 -- at these notes
 abbrev pub StandsAt : FrontRules → Bool → Notes → Simulation → Type 0
@@ -31,3 +34,19 @@ occupancy_of s = s.occupancy
 -- its hosts, with their commands
 abbrev pub hosts_of : Simulation → Hosts
 hosts_of s = s.machine.hosts
+
+-- when no more commands come
+abbrev pub end_of : Simulation → End
+end_of s = s.end
+
+-- whether the next step is a pick, or tells that there is none
+abbrev pub picks_of : Simulation → Bool
+picks_of s = s.picks
+
+-- it is a simulation of the same model: its controller arbitrates as before, its device was called, and the rest is the same
+pub record IsSameModel (before after : Simulation) : Type 0 where
+  pub front : StaysFront before.machine.front after.machine.front
+  pub device : IsBehind (device_in before.machine.device) (device_in after.machine.device)
+  pub end : after.end ≡ before.end
+  pub pauses : after.pauses ≡ before.pauses
+  pub warm_up : after.warm_up ≡ before.warm_up

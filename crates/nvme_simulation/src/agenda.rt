@@ -21,12 +21,15 @@ pub(crate) struct Agenda {
 }
 
 impl Agenda {
-    ghost use Rattle.std.specs.Prelude.{◌≡◌, ◌≤◌, IfSome};
+    ghost use Rattle.std.specs.Prelude.{◌≡◌, ◌≤◌, ◌<◌, ◌+◌, Some, None, IsErr, option_map};
+    ghost use Rattle.nvme_clock.specs.Held.{nothing, popped};
+    ghost use Rattle.nvme_simulation.specs.Plans.{Follows, events_of};
+    ghost use Rattle.nvme_simulation.specs.Steps.{cost, cost_at, cost_in};
     ghost use Rattle.nvme_simulation.specs.Times.{now_of};
 
     // No event, at time 0.
     pub(crate) fn new(alloc: Global) -> Agenda
-        ensures { now_of result ≡ 0 }
+        ensures { events_of result ≡ nothing }
     {
         Agenda {
             events: EventQueue::new(alloc),
@@ -35,14 +38,18 @@ impl Agenda {
 
     // The time of the last event that came, or 0.
     pub(crate) fn now(&self) -> u64
-        ensures { result ≡ now_of self.now }
+        ensures value { result ≡ now_of self.now }
+        ensures below { now_of self.now < 0x1_0000_0000_0000_0000 }
     {
         self.events.time()
     }
 
     // An event comes at a time, if that is below 2^64 picoseconds.
+    #[tactic(auto, using(crate::proofs::Plans::follows_same, crate::proofs::Plans::follows_self, crate::proofs::Plans::follows_pushed))]
     pub(crate) fn plan(&mut self, at: Option<u64>, event: Event) -> Result<(), SimulationFault>
-        ensures { now_of self.new ≡ now_of self.old }
+        ensures follows { Follows (events_of self.old) (events_of self.new) }
+        ensures cost { cost_in self.new ≤ cost_in self.old + cost_at at event }
+        ensures some { at ≡ None → IsErr result }
     {
         let Some(at) = at else {
             return Err(SimulationFault::TooLong);
@@ -57,7 +64,10 @@ impl Agenda {
 
     // The next event, whose time it is then.
     pub(crate) fn pop(&mut self) -> Option<Event>
-        ensures { now_of self.old ≤ now_of self.new }
+        ensures value { (option_map (λ e. e.what) (popped (events_of self.old)).0) ≡ result }
+        ensures rest { events_of self.new ≡ (popped (events_of self.old)).1 }
+        ensures forward { now_of self.old ≤ now_of self.new }
+        ensures cost { (event : Event) → result ≡ Some event → cost_in self.old ≡ cost_in self.new + cost (now_of self.new) event }
     {
         let event = self.events.pop()?;
         Some(event.what)

@@ -1,13 +1,19 @@
 // The first events.
-ghost use Rattle.std.specs.Prelude.{◌≤◌, ◌<◌};
+ghost use Rattle.std.specs.Prelude.{◌≡◌, ◌≤◌, ◌<◌};
+ghost use Rattle.nvme_simulation.specs.Beginnings.{StayUnused};
+ghost use Rattle.nvme_simulation.specs.Times.{now_of};
 
 use crate::agenda::{Agenda, Event};
 use crate::fault::SimulationFault;
 use crate::hosts::Hosts;
-use nvme_model::Pauses;
+use nvme_model::{Device, Pauses};
 
 // The first commands of a queue.
-fn begin_queue(agenda: &mut Agenda, hosts: &mut Hosts, qid: u16) -> Result<(), SimulationFault> {
+#[tactic(auto, using(crate::proofs::Plans::follows_time, crate::proofs::Beginnings::unused_self))]
+fn begin_queue(agenda: &mut Agenda, hosts: &mut Hosts, qid: u16) -> Result<(), SimulationFault>
+    ensures time { now_of agenda.new ≡ now_of agenda.old }
+    ensures hosts { StayUnused hosts.old hosts.new }
+{
     for _ in 0..hosts.at_start(qid) {
         agenda.plan(Some(0), Event::Arrival(qid))?;
     }
@@ -19,7 +25,11 @@ fn begin_queue(agenda: &mut Agenda, hosts: &mut Hosts, qid: u16) -> Result<(), S
 }
 
 // The first commands of all queues.
-pub(crate) fn begin_queues(agenda: &mut Agenda, hosts: &mut Hosts) -> Result<(), SimulationFault> {
+#[tactic(auto, using(crate::proofs::Beginnings::unused_self, crate::proofs::Beginnings::unused_then))]
+pub(crate) fn begin_queues(agenda: &mut Agenda, hosts: &mut Hosts) -> Result<(), SimulationFault>
+    ensures time { now_of agenda.new ≡ now_of agenda.old }
+    ensures hosts { StayUnused hosts.old hosts.new }
+{
     for qid in 1..=hosts.count() {
         begin_queue(agenda, hosts, qid)?;
     }
@@ -33,14 +43,16 @@ fn first_pause(pauses: &Pauses, channel: usize, count: usize) -> u64
     ((u128::from(pauses.every) * (channel as u128 + 1)) / count as u128) as u64
 }
 
-// The first pauses of so many channels.
-pub(crate) fn begin_pauses(
-    agenda: &mut Agenda,
-    pauses: &Pauses,
-    count: usize,
-) -> Result<(), SimulationFault> {
-    for channel in 0..count {
-        let first = first_pause(pauses, channel, count);
+// The first pauses of the channels of a device, if they have any.
+#[tactic(auto, using(crate::proofs::Plans::follows_time))]
+pub(crate) fn begin_pauses(agenda: &mut Agenda, device: &Device) -> Result<(), SimulationFault>
+    ensures time { now_of agenda.new ≡ now_of agenda.old }
+{
+    let Some(pauses) = device.pauses else {
+        return Ok(());
+    };
+    for channel in 0..device.channels {
+        let first = first_pause(&pauses, channel, device.channels);
         agenda.plan(Some(first), Event::Pause(channel))?;
     }
     Ok(())

@@ -46,11 +46,14 @@ fn taken_of(number: u64) -> Taken {
 }
 
 impl Runs {
-    ghost use Rattle.std.specs.Prelude.{◌≡◌};
-    ghost use Rattle.nvme_simulation.specs.Devices.{room_in};
+    ghost use Rattle.std.specs.Prelude.{◌≡◌, ◌≤◌, ◌+◌, IfOk, OnOk};
+    ghost use Rattle.nvme_channels.specs.Devices.{new_device};
+    ghost use Rattle.nvme_simulation.specs.Devices.{IsBehind, device_in, room_in};
 
     // A device whose channels are idle.
-    pub(crate) fn new(alloc: Global, device: &Device) -> Result<Runs, SimulationFault> {
+    pub(crate) fn new(alloc: Global, device: &Device) -> Result<Runs, SimulationFault>
+        ensures { IfOk result (λ r. device_in r ≡ new_device device.now.placement device.now.depth device.now.channels) }
+    {
         let channels = match Channels::new(alloc, device.channels, device.placement, device.depth) {
             Ok(channels) => channels,
             Err(ChannelsFault::Memory) => return Err(SimulationFault::Memory),
@@ -76,7 +79,9 @@ impl Runs {
     }
 
     // A command starts, if one does.
-    fn note(&mut self, start: Option<Start>) -> Option<Started> {
+    fn note(&mut self, start: Option<Start>) -> Option<Started>
+        ensures { self.new.channels ≡ self.old.channels }
+    {
         let start = start?;
         let taken = taken_of(start.number);
         if start.channel < self.running.len() {
@@ -96,7 +101,10 @@ impl Runs {
         taken: Taken,
         block: u64,
         service: u64,
-    ) -> Result<Option<Started>, SimulationFault> {
+    ) -> Result<Option<Started>, SimulationFault>
+        ensures behind { IsBehind (device_in self.old) (device_in self.new) }
+        ensures room { OnOk result (room_in self.new + 1 ≡ room_in self.old) }
+    {
         match self.channels.take(now, number_of(taken), block, service) {
             Ok(start) => Ok(self.note(start)),
             Err(fault) => Err(fault_of(fault)),
@@ -108,7 +116,10 @@ impl Runs {
         &mut self,
         now: u64,
         channel: usize,
-    ) -> Result<(Taken, Option<Started>), SimulationFault> {
+    ) -> Result<(Taken, Option<Started>), SimulationFault>
+        ensures behind { IsBehind (device_in self.old) (device_in self.new) }
+        ensures room { room_in self.new ≤ room_in self.old + 1 }
+    {
         let Some(Some(taken)) = self.running.get(channel).copied() else {
             return Err(SimulationFault::Broken(Broken::Command));
         };
@@ -119,7 +130,10 @@ impl Runs {
     }
 
     // No command starts on a channel until it is resumed.
-    pub(crate) fn pause(&mut self, channel: usize) -> Result<(), SimulationFault> {
+    pub(crate) fn pause(&mut self, channel: usize) -> Result<(), SimulationFault>
+        ensures behind { IsBehind (device_in self.old) (device_in self.new) }
+        ensures room { room_in self.new ≤ room_in self.old }
+    {
         match self.channels.pause(channel) {
             Ok(()) => Ok(()),
             Err(fault) => Err(fault_of(fault)),
@@ -131,7 +145,10 @@ impl Runs {
         &mut self,
         now: u64,
         channel: usize,
-    ) -> Result<Option<Started>, SimulationFault> {
+    ) -> Result<Option<Started>, SimulationFault>
+        ensures behind { IsBehind (device_in self.old) (device_in self.new) }
+        ensures room { room_in self.new ≤ room_in self.old }
+    {
         match self.channels.resume(now, channel) {
             Ok(start) => Ok(self.note(start)),
             Err(fault) => Err(fault_of(fault)),

@@ -1,6 +1,6 @@
 // The Creates of the queues. (Base Specification, Create I/O Completion Queue, Create I/O Submission Queue)
 ghost use Rattle.std.specs.Prelude.{◌≤◌, ◌<◌, ◌^◌};
-ghost use Rattle.nvme_simulation.specs.Fronts.{IsFront};
+ghost use Rattle.nvme_simulation.specs.Fronts.{IsFront, StaysFront};
 
 use crate::fault::{Broken, SimulationFault};
 use crate::front::{ADMIN_SLOTS, Front};
@@ -80,7 +80,7 @@ impl AdminHost {
     // The admin queue has a command: the controller reads it.
     fn submit(&mut self, front: &mut Front, command: &Sqe) -> Result<(), SimulationFault>
         requires front { IsFront front.old }
-        ensures front { IsFront front.new }
+        ensures front { StaysFront front.old front.new }
     {
         let next = if self.slot >= ADMIN_SLOTS - 1 {
             0
@@ -103,7 +103,7 @@ impl AdminHost {
     // Its completion comes, which tells success.
     fn collect(&mut self, front: &mut Front) -> Result<(), SimulationFault>
         requires front { IsFront front.old }
-        ensures front { IsFront front.new }
+        ensures front { StaysFront front.old front.new }
     {
         let Some(post) = front.post(0) else {
             return Err(SimulationFault::Broken(Broken::Completion));
@@ -120,7 +120,7 @@ impl AdminHost {
     // A command is carried out.
     fn carry_out(&mut self, front: &mut Front, command: &Sqe) -> Result<(), SimulationFault>
         requires front { IsFront front.old }
-        ensures front { IsFront front.new }
+        ensures front { StaysFront front.old front.new }
     {
         self.submit(front, command)?;
         match front.pick(1) {
@@ -138,7 +138,7 @@ impl AdminHost {
         class: Class,
     ) -> Result<(), SimulationFault>
         requires front { IsFront front.old }
-        ensures front { IsFront front.new }
+        ensures front { StaysFront front.old front.new }
     {
         self.carry_out(front, &completion_queue(qid, slots))?;
         self.carry_out(front, &submission_queue(qid, slots, class))

@@ -244,6 +244,7 @@ impl Flight {
         ensures done { IfSome result (λ f. f.times.done ≡ done) }
         ensures queue { IfSome result (λ f. f.queue ≡ queue) }
         ensures number { IfSome result (λ f. f.number ≡ number) }
+        ensures channel { IfSome result (λ f. f.channel ≡ channel) }
     {
         let times = Times::new(self.came, self.submitted, self.picked, self.started, done)?;
         Some(Finished {

@@ -44,7 +44,7 @@ impl Front {
     ghost use Rattle.nvme_ctrl.specs.Notes.{Notes};
     ghost use Rattle.nvme_ctrl.specs.Steps.{IsNextPick, IsNextWithin};
     ghost use Rattle.nvme_ctrl.specs.declared.picks.Step.TheVariants as step;
-    ghost use Rattle.nvme_simulation.specs.Fronts.{IsFront, StandsBy};
+    ghost use Rattle.nvme_simulation.specs.Fronts.{IsFront, IsFrontOf, StandsBy, StaysFront};
 
     // A controller with its admin queues alone.
     pub(crate) fn new(
@@ -52,7 +52,7 @@ impl Front {
         mechanism: Mechanism,
         settings: Settings,
     ) -> Result<Front, SimulationFault>
-        ensures front { IfOk result IsFront }
+        ensures front { IfOk result (IsFrontOf mechanism settings) }
     {
         let mut pool = Vec::new(alloc);
         if pool.resize(POOL, Slot::free()).is_err() {
@@ -79,7 +79,7 @@ impl Front {
     // The host rings a submission doorbell. False where the controller refuses it.
     pub(crate) fn submit(&mut self, qid: u16, tail: u16) -> bool
         requires front { IsFront self.old }
-        ensures front { IsFront self.new }
+        ensures front { StaysFront self.old self.new }
     {
         self.controller.sq_tail(qid, tail)
     }
@@ -92,7 +92,7 @@ impl Front {
     // That slot was read.
     pub(crate) fn fetched(&mut self, qid: u16, entry: &Sqe, cookie: u32) -> bool
         requires front { IsFront self.old }
-        ensures front { IsFront self.new }
+        ensures front { StaysFront self.old self.new }
     {
         self.controller.fetched(&mut self.pool, qid, entry, cookie)
     }
@@ -105,7 +105,7 @@ impl Front {
     // The next pick, where the device has room for so many commands.
     pub(crate) fn pick(&mut self, room: u16) -> Step
         requires front { IsFront self.old }
-        ensures front { IsFront self.new }
+        ensures front { StaysFront self.old self.new }
         ensures idle { result ≡ step.Idle → (rules : FrontRules) (late : Bool) (notes : Notes) → StandsBy rules late notes self.old → IsNextPick rules notes None }
         ensures picked { (pick : Pick) → result ≡ step.Picked pick → (rules : FrontRules) (late : Bool) (notes : Notes) → StandsBy rules late notes self.old → IsNextWithin rules notes room (Some pick) }
     {
@@ -115,7 +115,7 @@ impl Front {
     // The device takes the next command that is picked, which is of this queue.
     pub(crate) fn take(&mut self, qid: u16) -> Option<Taken>
         requires front { IsFront self.old }
-        ensures front { IsFront self.new }
+        ensures front { StaysFront self.old self.new }
     {
         let tag = self.controller.take(&mut self.pool)?;
         let number = self.controller.cookie(&self.pool, tag);
@@ -125,7 +125,7 @@ impl Front {
     // The device answers a command. False where it has no such command.
     pub(crate) fn complete(&mut self, tag: u16) -> bool
         requires front { IsFront self.old }
-        ensures front { IsFront self.new }
+        ensures front { StaysFront self.old self.new }
     {
         self.controller.complete(&mut self.pool, tag, DONE)
     }
@@ -133,7 +133,7 @@ impl Front {
     // The next completion of a completion queue is posted.
     pub(crate) fn post(&mut self, cqid: u16) -> Option<Post>
         requires front { IsFront self.old }
-        ensures front { IsFront self.new }
+        ensures front { StaysFront self.old self.new }
     {
         self.controller.post(&mut self.pool, cqid)
     }
@@ -141,7 +141,7 @@ impl Front {
     // The host rings a completion doorbell. False where the controller refuses it.
     pub(crate) fn read(&mut self, cqid: u16, head: u16) -> bool
         requires front { IsFront self.old }
-        ensures front { IsFront self.new }
+        ensures front { StaysFront self.old self.new }
     {
         self.controller.cq_head(cqid, head)
     }

@@ -30,3 +30,15 @@ pub enum Happening {
     /// All commands that came are done, and no more come.
     Over,
 }
+
+impl Happening {
+    ghost use Rattle.std.specs.Prelude.{◌≡◌};
+    ghost use Rattle.nvme_simulation.specs.Plans.{is_pick};
+
+    // Whether commands were picked.
+    pub(crate) fn is_pick(&self) -> bool
+        ensures { result ≡ is_pick self.now }
+    {
+        matches!(self, Happening::Picked(_))
+    }
+}

@@ -48,7 +48,8 @@ pub(crate) struct Host {
 }
 
 impl Host {
-    ghost use Rattle.std.specs.Prelude.{◌≡◌, None, IfSome, true};
+    ghost use Rattle.std.specs.Prelude.{◌≡◌, None, IfOk, IfSome, true};
+    ghost use Rattle.nvme_simulation.specs.Beginnings.{IsUnused, load_in, load_of};
     ghost use Rattle.nvme_simulation.specs.Progress.{EndsOne, GoOn};
     ghost use Rattle.nvme_simulation.specs.Stages.{AllDone};
 
@@ -58,7 +59,10 @@ impl Host {
         seed: u64,
         qid: u16,
         queue: Queue,
-    ) -> Result<Host, SimulationFault> {
+    ) -> Result<Host, SimulationFault>
+        ensures load { IfOk result (λ h. load_of h ≡ load_in queue) }
+        ensures none { IfOk result IsUnused }
+    {
         let Queue {
             slots,
             arrivals,
@@ -111,6 +115,7 @@ impl Host {
     // When a command comes behind one that came at this time, or behind a completion at this time.
     pub(crate) fn next_after(&mut self, time: u64) -> Option<u64>
         ensures flights { self.new.flights ≡ self.old.flights }
+        ensures load { load_of self.new ≡ load_of self.old }
     {
         self.arrivals.next_after(time, &mut self.streams.arrivals)
     }

@@ -1,6 +1,6 @@
 // The hosts of all queues, by the identifiers of their queues.
-ghost use Rattle.std.specs.Prelude.{◌≡◌, ◌<◌, ◌+◌, IfSome, OnOk, true, vec_len};
-ghost use Rattle.nvme_simulation.specs.Fronts.{IsFront};
+ghost use Rattle.std.specs.Prelude.{◌≡◌, ◌<◌, ◌+◌, IfOk, IfSome, OnOk, true, vec_len};
+ghost use Rattle.nvme_simulation.specs.Fronts.{IsFront, StaysFront};
 
 use crate::creates::AdminHost;
 use crate::fault::{Broken, SimulationFault};
@@ -20,6 +20,7 @@ pub(crate) struct Hosts {
 const NO_COMMAND: SimulationFault = SimulationFault::Broken(Broken::Command);
 
 impl Hosts {
+    ghost use Rattle.nvme_simulation.specs.Beginnings.{AreHostsOf, StayUnused};
     ghost use Rattle.nvme_simulation.specs.Progress.{AllGoOn, AreDone, OneEnds};
 
     // The hosts of queues, of the identifiers 1, 2 and so on, which are created.
@@ -30,7 +31,8 @@ impl Hosts {
         queues: Vec<Queue>,
     ) -> Result<Hosts, SimulationFault>
         requires front { IsFront front.old }
-        ensures front { IsFront front.new }
+        ensures front { StaysFront front.old front.new }
+        ensures hosts { IfOk result (λ h. AreHostsOf queues.items h.all.items) }
     {
         let mut all = Vec::new(alloc);
         let mut admin = AdminHost::new();
@@ -38,9 +40,9 @@ impl Hosts {
             let qid = (all.len() % 65_535) as u16 + 1;
             admin.create(front, qid, queue.slots, queue.class)?;
             let host = Host::new(alloc, seed, qid, queue)?;
-            if all.push(host).is_err() {
+            let Ok(()) = all.push(host) else {
                 return Err(SimulationFault::Memory);
-            }
+            };
         }
         Ok(Hosts { all })
     }
@@ -95,6 +97,7 @@ impl Hosts {
     // When a command of a queue comes behind this time.
     pub(crate) fn next_after(&mut self, qid: u16, time: u64) -> Option<u64>
         ensures goes { AllGoOn self.old self.new }
+        ensures unused { StayUnused self.old self.new }
     {
         let place = self.place(qid)?;
         self.all[place].next_after(time)

@@ -22,37 +22,37 @@ pub(crate) struct Machine {
 const NO_COMMAND: SimulationFault = SimulationFault::Broken(Broken::Command);
 
 impl Machine {
-    ghost use Rattle.std.specs.Prelude.{◌≡◌, ℕ, Bool, IfOk};
+    ghost use Rattle.std.specs.Prelude.{◌≡◌, ◌≤◌, ◌<◌, ◌+◌, ◌-◌, ◌*◌, ℕ, Bool, IfOk, OnOk};
     ghost use Rattle.nvme_log.specs.Rules.{FrontRules};
     ghost use Rattle.nvme_ctrl.specs.Notes.{Notes};
     ghost use Rattle.nvme_simulation.specs.Picks.{IsLawful, IsTimed};
+    ghost use Rattle.nvme_model.specs.declared.model.End.{End};
     ghost use Rattle.nvme_occupancy.specs.declared.occupancy.Occupancy.{Occupancy};
     ghost use Rattle.nvme_simulation.specs.Counts.{Counts};
     ghost use Rattle.nvme_simulation.specs.Devices.{room_in};
     ghost use Rattle.nvme_simulation.specs.Fronts.{IsFront, StandsBy};
+    ghost use Rattle.nvme_simulation.specs.Machines.{Goes, Works};
     ghost use Rattle.nvme_simulation.specs.Passing.{Passes};
-    ghost use Rattle.nvme_simulation.specs.Progress.{AllGoOn, OneEnds};
+    ghost use Rattle.nvme_simulation.specs.Plans.{IsOfPicks};
+    ghost use Rattle.nvme_simulation.specs.Progress.{OneEnds};
+    ghost use Rattle.nvme_simulation.specs.Steps.{cost_with, picked_in};
     ghost use Rattle.nvme_simulation.specs.Times.{now_of};
 
     // A host submits all commands that its ring has room for, and the controller reads what it may.
-    #[tactic(auto, using(crate::proofs::Hosted::all_then, crate::proofs::Hosted::all_stay))]
     pub(crate) fn submit(&mut self, qid: u16) -> Result<(), SimulationFault>
         requires front { IsFront self.old.front }
-        ensures front { IsFront self.new.front }
-        ensures time { now_of self.new.agenda ≡ now_of self.old.agenda }
-        ensures goes { AllGoOn self.old.hosts self.new.hosts }
+        ensures goes { Goes self.old self.new }
+        ensures cost { cost_with self.new ≡ cost_with self.old }
     {
         self.ring(qid)?;
         self.fetch(qid)
     }
 
     // A host puts all commands into its ring that it has room for, and rings the doorbell where it did.
-    #[tactic(auto, using(crate::proofs::Hosted::all_then, crate::proofs::Hosted::all_stay))]
     fn ring(&mut self, qid: u16) -> Result<(), SimulationFault>
         requires front { IsFront self.old.front }
-        ensures front { IsFront self.new.front }
-        ensures time { now_of self.new.agenda ≡ now_of self.old.agenda }
-        ensures goes { AllGoOn self.old.hosts self.new.hosts }
+        ensures goes { Goes self.old self.new }
+        ensures cost { cost_with self.new ≡ cost_with self.old }
     {
         let Some(tail) = self.hosts.submit(self.agenda.now(), qid) else {
             return Ok(());
@@ -65,12 +65,10 @@ impl Machine {
     }
 
     // The controller reads a command of a queue, if it may. Whether it did.
-    #[tactic(auto, using(crate::proofs::Hosted::all_then, crate::proofs::Hosted::all_stay))]
     fn fetch_one(&mut self, qid: u16) -> Result<bool, SimulationFault>
         requires front { IsFront self.old.front }
-        ensures front { IsFront self.new.front }
-        ensures time { now_of self.new.agenda ≡ now_of self.old.agenda }
-        ensures goes { AllGoOn self.old.hosts self.new.hosts }
+        ensures goes { Goes self.old self.new }
+        ensures cost { cost_with self.new ≡ cost_with self.old }
     {
         let Some(slot) = self.front.next_slot(qid) else {
             return Ok(false);
@@ -84,12 +82,10 @@ impl Machine {
     }
 
     // The controller reads all commands of a queue that it may.
-    #[tactic(auto, using(crate::proofs::Hosted::all_then, crate::proofs::Hosted::all_stay))]
     fn fetch(&mut self, qid: u16) -> Result<(), SimulationFault>
         requires front { IsFront self.old.front }
-        ensures front { IsFront self.new.front }
-        ensures time { now_of self.new.agenda ≡ now_of self.old.agenda }
-        ensures goes { AllGoOn self.old.hosts self.new.hosts }
+        ensures goes { Goes self.old self.new }
+        ensures cost { cost_with self.new ≡ cost_with self.old }
     {
         for _turn in 0..u16::MAX {
             if !self.fetch_one(qid)? {
@@ -100,12 +96,10 @@ impl Machine {
     }
 
     // A command starts on a channel, if one does.
-    #[tactic(auto, using(crate::proofs::Hosted::all_then, crate::proofs::Hosted::all_stay))]
     fn start(&mut self, started: Option<Started>) -> Result<(), SimulationFault>
         requires front { IsFront self.old.front }
-        ensures front { IsFront self.new.front }
-        ensures time { now_of self.new.agenda ≡ now_of self.old.agenda }
-        ensures goes { AllGoOn self.old.hosts self.new.hosts }
+        ensures goes { Goes self.old self.new }
+        ensures cost { cost_with self.new ≤ cost_with self.old + 2 }
     {
         let Some(started) = started else {
             return Ok(());
@@ -118,12 +112,10 @@ impl Machine {
     }
 
     // The device takes a command of a queue that is picked.
-    #[tactic(auto, using(crate::proofs::Hosted::all_then, crate::proofs::Hosted::all_stay))]
     fn take(&mut self, qid: u16) -> Result<(), SimulationFault>
         requires front { IsFront self.old.front }
-        ensures front { IsFront self.new.front }
-        ensures time { now_of self.new.agenda ≡ now_of self.old.agenda }
-        ensures goes { AllGoOn self.old.hosts self.new.hosts }
+        ensures goes { Goes self.old self.new }
+        ensures cost { OnOk result (cost_with self.new + 1 ≤ cost_with self.old) }
     {
         let now = self.agenda.now();
         let Some(taken) = self.front.take(qid) else {
@@ -137,12 +129,10 @@ impl Machine {
     }
 
     // The device takes the commands of a pick.
-    #[tactic(auto, using(crate::proofs::Hosted::all_then, crate::proofs::Hosted::all_stay))]
     fn take_all(&mut self, pick: &Pick) -> Result<(), SimulationFault>
         requires front { IsFront self.old.front }
-        ensures front { IsFront self.new.front }
-        ensures time { now_of self.new.agenda ≡ now_of self.old.agenda }
-        ensures goes { AllGoOn self.old.hosts self.new.hosts }
+        ensures goes { Goes self.old self.new }
+        ensures cost { OnOk result (cost_with self.new + pick.now.n ≤ cost_with self.old) }
     {
         for _turn in 0..pick.n {
             self.take(pick.qid)?;
@@ -152,27 +142,28 @@ impl Machine {
 
     // The next pick, whose commands the device takes. Then the controller reads what its window has room for. Or that no
     // command can be picked: none waits, or the device has no room.
-    #[tactic(auto, using(crate::proofs::Hosted::all_then, crate::proofs::Hosted::all_stay))]
     pub(crate) fn pick(&mut self) -> Result<Happening, SimulationFault>
         requires front { IsFront self.old.front }
-        ensures front { IsFront self.new.front }
-        ensures time { now_of self.new.agenda ≡ now_of self.old.agenda }
+        ensures goes { Goes self.old self.new }
+        ensures cost { IfOk result (λ h. cost_with self.new + picked_in h ≤ cost_with self.old) }
+        ensures of_picks { IfOk result IsOfPicks }
         ensures timed { IfOk result (IsTimed (now_of self.old.agenda)) }
-        ensures counts { (now : ℕ) (occupancy : Occupancy) → IfOk result (Counts now occupancy occupancy) }
+        ensures counts { (end : End) (now : ℕ) (occupancy : Occupancy) → IfOk result (Counts end now occupancy occupancy) }
         ensures lawful { (rules : FrontRules) (late : Bool) (notes : Notes) → StandsBy rules late notes self.old.front → IfOk result (IsLawful rules notes (room_in self.old.device)) }
-        ensures goes { AllGoOn self.old.hosts self.new.hosts }
         ensures passes { IfOk result (Passes self.old.hosts self.new.hosts) }
     {
         let room = self.device.room();
+        if room == 0 {
+            return Ok(Happening::Settled);
+        }
         match self.front.pick(room) {
-            Step::Picked(pick) => {
+            Step::Picked(pick) if pick.n > 0 => {
                 let at = self.agenda.now();
                 self.take_all(&pick)?;
                 self.fetch(pick.qid)?;
                 Ok(Happening::Picked(Picked { at, room, pick }))
             }
             Step::Idle => Ok(Happening::Settled),
-            Step::Full if room == 0 => Ok(Happening::Settled),
             _ => Err(SimulationFault::Broken(Broken::Device)),
         }
     }
@@ -191,12 +182,10 @@ impl Machine {
     }
 
     // The device answers a command, and its completion comes to its host, which reads it.
-    #[tactic(auto, using(crate::proofs::Hosted::all_then, crate::proofs::Hosted::all_stay))]
     fn collect(&mut self, taken: Taken) -> Result<(), SimulationFault>
         requires front { IsFront self.old.front }
-        ensures front { IsFront self.new.front }
-        ensures time { now_of self.new.agenda ≡ now_of self.old.agenda }
-        ensures goes { AllGoOn self.old.hosts self.new.hosts }
+        ensures goes { Goes self.old self.new }
+        ensures cost { cost_with self.new ≡ cost_with self.old }
     {
         if !self.front.complete(taken.tag) {
             return Err(NO_COMMAND);
@@ -217,64 +206,68 @@ impl Machine {
         }
     }
 
-    // The command that runs on a channel ends, and another one may start there.
-    pub(crate) fn finish(&mut self, channel: usize) -> Result<(Taken, Flight), SimulationFault>
+    // The command that runs on a channel ends, another one may start there, and the host has the completion.
+    fn end(&mut self, channel: usize) -> Result<Taken, SimulationFault>
         requires front { IsFront self.old.front }
-        ensures front { IsFront self.new.front }
-        ensures time { now_of self.new.agenda ≡ now_of self.old.agenda }
-        ensures ends { IfOk result (λ done. OneEnds done.0.qid done.0.number self.old.hosts self.new.hosts) }
+        ensures goes { Goes self.old self.new }
+        ensures cost { OnOk result (cost_with self.new ≤ cost_with self.old + 5) }
     {
         let (taken, started) = self.device.finish(self.agenda.now(), channel)?;
         self.start(started)?;
         self.collect(taken)?;
+        Ok(taken)
+    }
+
+    // The command that runs on a channel is done.
+    pub(crate) fn finish(&mut self, channel: usize) -> Result<(Taken, Flight), SimulationFault>
+        requires front { IsFront self.old.front }
+        ensures works { Works self.old self.new }
+        ensures cost { OnOk result (cost_with self.new ≤ cost_with self.old + 5) }
+        ensures ends { IfOk result (λ done. OneEnds done.0.qid done.0.number self.old.hosts self.new.hosts) }
+    {
+        let taken = self.end(channel)?;
         let flight = self.hosts.finish(taken.qid, taken.number)?;
         Ok((taken, flight))
     }
 
     // No command starts on a channel until it goes on, after this time.
-    #[tactic(auto, using(crate::proofs::Hosted::all_then, crate::proofs::Hosted::all_stay))]
     pub(crate) fn pause(&mut self, channel: usize, length: u64) -> Result<(), SimulationFault>
         requires front { IsFront self.old.front }
-        ensures front { IsFront self.new.front }
-        ensures time { now_of self.new.agenda ≡ now_of self.old.agenda }
-        ensures goes { AllGoOn self.old.hosts self.new.hosts }
+        ensures goes { Goes self.old self.new }
+        ensures below { now_of self.old.agenda < 0x1_0000_0000_0000_0000 }
+        ensures cost { OnOk result (cost_with self.new ≤ cost_with self.old + 4 * (0x1_0000_0000_0000_0000 - (now_of self.old.agenda + length))) }
     {
-        self.device.pause(channel)?;
         let end = self.agenda.now().checked_add(length);
+        self.device.pause(channel)?;
         self.agenda.plan(end, Event::Resume(channel))
     }
 
     // A channel goes on, and a command may start there.
-    #[tactic(auto, using(crate::proofs::Hosted::all_then, crate::proofs::Hosted::all_stay))]
     pub(crate) fn resume(&mut self, channel: usize) -> Result<(), SimulationFault>
         requires front { IsFront self.old.front }
-        ensures front { IsFront self.new.front }
-        ensures time { now_of self.new.agenda ≡ now_of self.old.agenda }
-        ensures goes { AllGoOn self.old.hosts self.new.hosts }
+        ensures goes { Goes self.old self.new }
+        ensures below { now_of self.old.agenda < 0x1_0000_0000_0000_0000 }
+        ensures cost { cost_with self.new ≤ cost_with self.old + 2 }
     {
         let started = self.device.resume(self.agenda.now(), channel)?;
         self.start(started)
     }
 
     // The next command of a queue comes behind this time.
-    #[tactic(auto, using(crate::proofs::Hosted::all_then, crate::proofs::Hosted::all_stay))]
     pub(crate) fn follow(&mut self, qid: u16, time: u64) -> Result<(), SimulationFault>
         requires front { IsFront self.old.front }
-        ensures front { IsFront self.new.front }
-        ensures time { now_of self.new.agenda ≡ now_of self.old.agenda }
-        ensures goes { AllGoOn self.old.hosts self.new.hosts }
+        ensures goes { Goes self.old self.new }
+        ensures cost { cost_with self.new ≤ cost_with self.old + 2 }
     {
         let next = self.hosts.next_after(qid, time);
         self.agenda.plan(next, Event::Arrival(qid))
     }
 
     // A command of a queue comes, and the next one behind it, but where that waits for a completion.
-    #[tactic(auto, using(crate::proofs::Hosted::all_then, crate::proofs::Hosted::all_stay))]
     pub(crate) fn come(&mut self, qid: u16, counts: bool) -> Result<(), SimulationFault>
         requires front { IsFront self.old.front }
-        ensures front { IsFront self.new.front }
-        ensures time { now_of self.new.agenda ≡ now_of self.old.agenda }
-        ensures goes { AllGoOn self.old.hosts self.new.hosts }
+        ensures goes { Goes self.old self.new }
+        ensures cost { cost_with self.new ≤ cost_with self.old + 2 }
     {
         let now = self.agenda.now();
         self.hosts.come(now, qid, counts)?;

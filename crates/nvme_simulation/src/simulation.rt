@@ -27,28 +27,32 @@ pub struct Simulation {
 }
 
 impl Simulation {
-    ghost use Rattle.std.specs.Prelude.{◌≡◌, ◌≤◌, ℕ, Bool, IfOk, OnOk};
+    ghost use Rattle.std.specs.Prelude.{◌≡◌, ◌≤◌, ◌+◌, ◌-◌, ◌*◌, Bool, true, false, IfOk, OnOk};
     ghost use Rattle.nvme_log.specs.Rules.{FrontRules};
     ghost use Rattle.nvme_ctrl.specs.Notes.{Notes};
     ghost use Rattle.nvme_occupancy.specs.Occupancies.{Comes, Leaves};
-    ghost use Rattle.nvme_simulation.specs.Counts.{Counts};
-    ghost use Rattle.nvme_simulation.specs.Passing.{Passes};
-    ghost use Rattle.nvme_simulation.specs.Progress.{AllGoOn};
-    ghost use Rattle.nvme_simulation.specs.Picks.{IsLawful, IsTimed};
-    ghost use Rattle.nvme_simulation.specs.Simulations.{IsSimulation, StandsAt, hosts_of, occupancy_of, room_at, time_of};
+    ghost use Rattle.nvme_simulation.specs.Beginnings.{IsNewOf};
+    ghost use Rattle.nvme_simulation.specs.Counts.{may_come};
+    ghost use Rattle.nvme_simulation.specs.Fronts.{IsFront};
+    ghost use Rattle.nvme_simulation.specs.Handling.{Handles, IsOver, Stays};
+    ghost use Rattle.nvme_simulation.specs.Machines.{Goes};
+    ghost use Rattle.nvme_simulation.specs.Picks.{IsLawful};
+    ghost use Rattle.nvme_simulation.specs.Simulations.{IsSameModel, IsSimulation, StandsAt, occupancy_of, picks_of, room_at, time_of};
+    ghost use Rattle.nvme_simulation.specs.Stepping.{HasStepped};
+    ghost use Rattle.nvme_simulation.specs.Steps.{cost_with};
+    ghost use Rattle.nvme_simulation.specs.declared.agenda.Event.TheVariants as event;
 
     /// A simulation of a model, at time 0. Its queues are created, and no command came.
     pub fn new(alloc: Global, model: Model) -> Result<Simulation, SimulationFault>
         ensures stands { IfOk result IsSimulation }
+        ensures begins { IfOk result (IsNewOf model) }
     {
         let mut front = Front::new(alloc, model.mechanism, model.settings)?;
         let device = Runs::new(alloc, &model.device)?;
         let mut hosts = Hosts::new(alloc, &mut front, model.seed, model.queues)?;
         let mut agenda = Agenda::new(alloc);
         begin_queues(&mut agenda, &mut hosts)?;
-        if let Some(pauses) = model.device.pauses {
-            begin_pauses(&mut agenda, &pauses, model.device.channels)?;
-        }
+        begin_pauses(&mut agenda, &model.device)?;
         Ok(Simulation {
             machine: Machine {
                 front,
@@ -71,7 +75,9 @@ impl Simulation {
     }
 
     /// Whether the next step is a pick, or tells that there is none.
-    pub fn picks(&self) -> bool {
+    pub fn picks(&self) -> bool
+        ensures { result ≡ picks_of self.now }
+    {
         self.picks
     }
 
@@ -96,7 +102,9 @@ impl Simulation {
     }
 
     // Whether one more command may come now.
-    fn may_come(&self) -> bool {
+    fn may_come(&self) -> bool
+        ensures { result ≡ may_come self.now.end (time_of self.now) self.now.occupancy }
+    {
         let in_time = match self.end.time {
             Some(end) => self.machine.agenda.now() < end,
             None => true,
@@ -106,7 +114,7 @@ impl Simulation {
 
     // A command more is in the system now.
     fn count_one_more(&mut self) -> Result<(), SimulationFault>
-        ensures machine { self.new.machine ≡ self.old.machine }
+        ensures rest { self.new ≡ record self.old { occupancy = self.new.occupancy } }
         ensures comes { OnOk result (Comes (time_of self.old) self.old.occupancy self.new.occupancy) }
     {
         match self.occupancy.comes(self.machine.agenda.now()) {
@@ -117,7 +125,7 @@ impl Simulation {
 
     // A command less is in the system now.
     fn count_one_less(&mut self) -> Result<(), SimulationFault>
-        ensures machine { self.new.machine ≡ self.old.machine }
+        ensures rest { self.new ≡ record self.old { occupancy = self.new.occupancy } }
         ensures leaves { OnOk result (Leaves (time_of self.old) self.old.occupancy self.new.occupancy) }
     {
         match self.occupancy.leaves(self.machine.agenda.now()) {
@@ -128,19 +136,16 @@ impl Simulation {
 
     // A command comes to a host, if one may.
     fn arrive(&mut self, qid: u16) -> Result<Happening, SimulationFault>
-        requires stands { IsSimulation self.old }
-        ensures stands { IsSimulation self.new }
-        ensures time { time_of self.new ≡ time_of self.old }
-        ensures timed { IfOk result (IsTimed (time_of self.new)) }
-        ensures counts { IfOk result (Counts (time_of self.new) self.old.occupancy self.new.occupancy) }
-        ensures no_pick { (rules : FrontRules) (notes : Notes) (room : ℕ) → IfOk result (IsLawful rules notes room) }
-        ensures passes { IfOk result (Passes (hosts_of self.old) (hosts_of self.new)) }
+        requires front { IsFront self.old.machine.front }
+        ensures stays { Stays self.old self.new }
+        ensures handles { IfOk result (Handles (event.Arrival qid) self.old self.new) }
     {
-        if self.may_come() {
-            let counts = self.occupancy.came >= self.warm_up;
-            self.count_one_more()?;
-            self.machine.come(qid, counts)?;
+        if !self.may_come() {
+            return Ok(Happening::Came { queue: qid });
         }
+        let counts = self.occupancy.came >= self.warm_up;
+        self.count_one_more()?;
+        self.machine.come(qid, counts)?;
         Ok(Happening::Came { queue: qid })
     }
 
@@ -151,7 +156,8 @@ impl Simulation {
         channel: usize,
         flight: &Flight,
     ) -> Result<Finished, SimulationFault>
-        ensures machine { self.new.machine ≡ self.old.machine }
+        ensures rest { self.new ≡ record self.old { occupancy = self.new.occupancy } }
+        ensures channel { IfOk result (λ f. f.channel ≡ channel) }
         ensures done { IfOk result (λ f. f.times.done ≡ time_of self.old) }
         ensures leaves { IfOk result (λ f. Leaves (time_of self.old) self.old.occupancy self.new.occupancy) }
         ensures queue { IfOk result (λ f. f.queue ≡ taken.qid) }
@@ -168,13 +174,11 @@ impl Simulation {
     }
 
     // A closed host has a completion: its next command comes when it thought, if one may come.
-    #[tactic(auto, using(crate::proofs::Hosted::all_stay))]
     fn think(&mut self, qid: u16) -> Result<(), SimulationFault>
-        requires stands { IsSimulation self.old }
-        ensures stands { IsSimulation self.new }
-        ensures time { time_of self.new ≡ time_of self.old }
-        ensures occupancy { self.new.occupancy ≡ self.old.occupancy }
-        ensures goes { AllGoOn (hosts_of self.old) (hosts_of self.new) }
+        requires front { IsFront self.old.machine.front }
+        ensures goes { Goes self.old.machine self.new.machine }
+        ensures rest { self.new ≡ record self.old { machine = self.new.machine } }
+        ensures cost { cost_with self.new.machine ≤ cost_with self.old.machine + 2 }
     {
         if !self.machine.hosts.is_closed(qid) || !self.may_come() {
             return Ok(());
@@ -186,13 +190,9 @@ impl Simulation {
     // The command that runs on a channel ends. Its host submits what waited for a slot, and where it is closed, its next
     // command comes when it thought.
     fn finish(&mut self, channel: usize) -> Result<Happening, SimulationFault>
-        requires stands { IsSimulation self.old }
-        ensures stands { IsSimulation self.new }
-        ensures time { time_of self.new ≡ time_of self.old }
-        ensures timed { IfOk result (IsTimed (time_of self.new)) }
-        ensures counts { IfOk result (Counts (time_of self.new) self.old.occupancy self.new.occupancy) }
-        ensures no_pick { (rules : FrontRules) (notes : Notes) (room : ℕ) → IfOk result (IsLawful rules notes room) }
-        ensures passes { IfOk result (Passes (hosts_of self.old) (hosts_of self.new)) }
+        requires front { IsFront self.old.machine.front }
+        ensures stays { Stays self.old self.new }
+        ensures handles { IfOk result (Handles (event.End channel) self.old self.new) }
     {
         let (taken, flight) = self.machine.finish(channel)?;
         let command = self.tell(taken, channel, &flight)?;
@@ -211,47 +211,49 @@ impl Simulation {
 
     // A channel pauses.
     fn pause(&mut self, channel: usize) -> Result<Happening, SimulationFault>
-        requires stands { IsSimulation self.old }
-        ensures stands { IsSimulation self.new }
-        ensures time { time_of self.new ≡ time_of self.old }
-        ensures timed { IfOk result (IsTimed (time_of self.new)) }
-        ensures counts { IfOk result (Counts (time_of self.new) self.old.occupancy self.new.occupancy) }
-        ensures no_pick { (rules : FrontRules) (notes : Notes) (room : ℕ) → IfOk result (IsLawful rules notes room) }
-        ensures passes { IfOk result (Passes (hosts_of self.old) (hosts_of self.new)) }
+        requires front { IsFront self.old.machine.front }
+        ensures stays { Stays self.old self.new }
+        ensures handles { IfOk result (Handles (event.Pause channel) self.old self.new) }
     {
-        if let Some(pauses) = self.pauses {
-            self.machine.pause(channel, pauses.length)?;
-        }
+        let Some(pauses) = self.pauses else {
+            return Err(SimulationFault::Broken(Broken::Device));
+        };
+        self.machine.pause(channel, pauses.length)?;
         Ok(Happening::Paused { channel })
+    }
+
+    // The next pause of a channel that goes on now is planned, unless all is over.
+    fn plan_pause(&mut self, channel: usize) -> Result<(), SimulationFault>
+        requires front { IsFront self.old.machine.front }
+        ensures goes { Goes self.old.machine self.new.machine }
+        ensures rest { self.new ≡ record self.old { machine = self.new.machine } }
+        ensures cost { OnOk result (cost_with self.new.machine ≤ cost_with self.old.machine + 4 * (0x1_0000_0000_0000_0000 - (time_of self.old + 1))) }
+    {
+        let Some(pauses) = self.pauses else {
+            return Ok(());
+        };
+        if self.is_over() {
+            return Ok(());
+        }
+        let rest = pauses.every - pauses.length;
+        let next = self.machine.agenda.now().checked_add(rest);
+        self.machine.agenda.plan(next, Event::Pause(channel))
     }
 
     // A channel goes on. Its next pause comes, unless all is over.
     fn resume(&mut self, channel: usize) -> Result<Happening, SimulationFault>
-        requires stands { IsSimulation self.old }
-        ensures stands { IsSimulation self.new }
-        ensures time { time_of self.new ≡ time_of self.old }
-        ensures timed { IfOk result (IsTimed (time_of self.new)) }
-        ensures counts { IfOk result (Counts (time_of self.new) self.old.occupancy self.new.occupancy) }
-        ensures no_pick { (rules : FrontRules) (notes : Notes) (room : ℕ) → IfOk result (IsLawful rules notes room) }
-        ensures passes { IfOk result (Passes (hosts_of self.old) (hosts_of self.new)) }
+        requires front { IsFront self.old.machine.front }
+        ensures stays { Stays self.old self.new }
+        ensures handles { IfOk result (Handles (event.Resume channel) self.old self.new) }
     {
         self.machine.resume(channel)?;
-        if let Some(pauses) = self.pauses {
-            if !self.is_over() {
-                let rest = pauses.every - pauses.length;
-                let next = self.machine.agenda.now().checked_add(rest);
-                self.machine.agenda.plan(next, Event::Pause(channel))?;
-            }
-        }
+        self.plan_pause(channel)?;
         Ok(Happening::Resumed { channel })
     }
 
     // The end, where no event is to come: all that came is done.
     fn over(&self) -> Result<Happening, SimulationFault>
-        ensures timed { IfOk result (IsTimed (time_of self.now)) }
-        ensures counts { IfOk result (Counts (time_of self.now) self.now.occupancy self.now.occupancy) }
-        ensures no_pick { (rules : FrontRules) (notes : Notes) (room : ℕ) → IfOk result (IsLawful rules notes room) }
-        ensures passes { IfOk result (Passes (hosts_of self.now) (hosts_of self.now)) }
+        ensures { IfOk result (IsOver self.now) }
     {
         if self.occupancy.count() == 0 && self.machine.hosts.are_done() {
             Ok(Happening::Over)
@@ -262,13 +264,9 @@ impl Simulation {
 
     // An event comes.
     fn come(&mut self, event: Event) -> Result<Happening, SimulationFault>
-        requires stands { IsSimulation self.old }
-        ensures stands { IsSimulation self.new }
-        ensures time { time_of self.new ≡ time_of self.old }
-        ensures timed { IfOk result (IsTimed (time_of self.new)) }
-        ensures counts { IfOk result (Counts (time_of self.new) self.old.occupancy self.new.occupancy) }
-        ensures no_pick { (rules : FrontRules) (notes : Notes) (room : ℕ) → IfOk result (IsLawful rules notes room) }
-        ensures passes { IfOk result (Passes (hosts_of self.old) (hosts_of self.new)) }
+        requires front { IsFront self.old.machine.front }
+        ensures stays { Stays self.old self.new }
+        ensures handles { IfOk result (Handles event self.old self.new) }
     {
         match event {
             Event::Arrival(qid) => self.arrive(qid),
@@ -280,13 +278,12 @@ impl Simulation {
 
     // The next event comes.
     fn advance(&mut self) -> Result<Happening, SimulationFault>
-        requires stands { IsSimulation self.old }
-        ensures stands { IsSimulation self.new }
+        requires front { IsFront self.old.machine.front }
+        requires no_picks { picks_of self.old ≡ false }
+        ensures same { IsSameModel self.old self.new }
         ensures forward { time_of self.old ≤ time_of self.new }
-        ensures timed { IfOk result (IsTimed (time_of self.new)) }
-        ensures counts { IfOk result (Counts (time_of self.new) self.old.occupancy self.new.occupancy) }
-        ensures no_pick { (rules : FrontRules) (notes : Notes) (room : ℕ) → IfOk result (IsLawful rules notes room) }
-        ensures passes { IfOk result (Passes (hosts_of self.old) (hosts_of self.new)) }
+        ensures steps { IfOk result (HasStepped self.old self.new) }
+        ensures lawful { (rules : FrontRules) (late : Bool) (notes : Notes) → StandsAt rules late notes self.old → IfOk result (IsLawful rules notes (room_at self.old)) }
     {
         let Some(event) = self.machine.agenda.pop() else {
             return self.over();
@@ -297,16 +294,15 @@ impl Simulation {
 
     // The next pick, or none.
     fn pick(&mut self) -> Result<Happening, SimulationFault>
-        requires stands { IsSimulation self.old }
-        ensures stands { IsSimulation self.new }
-        ensures time { time_of self.new ≡ time_of self.old }
-        ensures timed { IfOk result (IsTimed (time_of self.new)) }
+        requires front { IsFront self.old.machine.front }
+        requires picks { picks_of self.old ≡ true }
+        ensures same { IsSameModel self.old self.new }
+        ensures forward { time_of self.old ≤ time_of self.new }
+        ensures steps { IfOk result (HasStepped self.old self.new) }
         ensures lawful { (rules : FrontRules) (late : Bool) (notes : Notes) → StandsAt rules late notes self.old → IfOk result (IsLawful rules notes (room_at self.old)) }
-        ensures counts { IfOk result (Counts (time_of self.new) self.old.occupancy self.new.occupancy) }
-        ensures passes { IfOk result (Passes (hosts_of self.old) (hosts_of self.new)) }
     {
         let happening = self.machine.pick()?;
-        self.picks = matches!(happening, Happening::Picked(_));
+        self.picks = happening.is_pick();
         Ok(happening)
     }
 
@@ -314,11 +310,10 @@ impl Simulation {
     pub fn step(&mut self) -> Result<Happening, SimulationFault>
         requires stands { IsSimulation self.old }
         ensures stands { IsSimulation self.new }
+        ensures same { IsSameModel self.old self.new }
         ensures forward { time_of self.old ≤ time_of self.new }
-        ensures timed { IfOk result (IsTimed (time_of self.new)) }
+        ensures steps { IfOk result (HasStepped self.old self.new) }
         ensures lawful { (rules : FrontRules) (late : Bool) (notes : Notes) → StandsAt rules late notes self.old → IfOk result (IsLawful rules notes (room_at self.old)) }
-        ensures counts { IfOk result (Counts (time_of self.new) self.old.occupancy self.new.occupancy) }
-        ensures passes { IfOk result (Passes (hosts_of self.old) (hosts_of self.new)) }
     {
         if self.picks {
             self.pick()

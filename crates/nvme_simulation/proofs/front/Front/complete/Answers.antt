@@ -1,5 +1,24 @@
-use Rattle.nvme_simulation.proofs.Pools.{at_pool}
+use Rattle.std.proofs.Common.{List, inl, inr, sym, subst}
+use Rattle.std.proofs.lemmas.Bool.{cases_Bool}
+use Rattle.nvme_ctrl.specs.Standing.{IsController}
+use Rattle.nvme_ctrl.specs.declared.slot.Slot.{Slot}
+use Rattle.nvme_ctrl.specs.declared.state.Controller.{Controller}
+use Rattle.nvme_simulation.specs.Fronts.{Arbitrates}
+use Rattle.nvme_simulation.proofs.Pools.{answered, at_pool, unchanged}
 use Rattle.nvme_simulation.proofs.front.Front.complete.Goals as goal
 
 pub returns : goal.returns
-returns c = record { front = at_pool c.complete.new.self c.args.self.now.pool _ c.complete.new.slots c.deref_mut.ensures.value c.complete.ensures.size c.complete.ensures.front }
+returns c =
+    let value = c.deref_mut.ensures.value in
+    let made = c.complete.new.self in
+    record {
+      front = record {
+        is = at_pool (λ (xs : List Slot). IsController made xs) c.args.self.now.pool _ c.complete.new.slots value c.complete.ensures.size c.complete.ensures.front;
+        arbitrates = λ m s a. at_pool (λ (xs : List Slot). Arbitrates m s made xs) c.args.self.now.pool _ c.complete.new.slots value c.complete.ensures.size
+        (let stood = subst (λ (xs : List Slot). Arbitrates m s c.args.self.now.controller xs) (sym value) a in
+        elim (cases_Bool c.complete.result) [
+          | inl done ↦ answered m s _ _ _ _ stood _ _ _ (c.complete.ensures.stands stood.rules stood.late stood.notes stood.stands done)
+          | inr refused ↦ unchanged m s _ _ _ _ (c.complete.ensures.refused refused) stood
+        ]);
+      };
+    }

@@ -1,5 +1,19 @@
-use Rattle.nvme_simulation.proofs.Pools.{at_pool}
+use Rattle.std.proofs.Common.{List, sym, subst}
+use Rattle.nvme_ctrl.specs.Standing.{IsController}
+use Rattle.nvme_ctrl.specs.declared.slot.Slot.{Slot}
+use Rattle.nvme_simulation.specs.Fronts.{Arbitrates}
+use Rattle.nvme_simulation.proofs.Pools.{again, at_pool, told}
 use Rattle.nvme_simulation.proofs.front.Front.post.Goals as goal
 
 pub returns : goal.returns
-returns c = record { front = at_pool c.post.new.self c.args.self.now.pool _ c.post.new.slots c.deref_mut.ensures.value c.post.ensures.size c.post.ensures.front }
+returns c =
+    let value = c.deref_mut.ensures.value in
+    record {
+      front = record {
+        is = at_pool (λ (xs : List Slot). IsController c.post.new.self xs) c.args.self.now.pool _ c.post.new.slots value c.post.ensures.size c.post.ensures.front;
+        arbitrates = λ m s a. at_pool (λ (xs : List Slot). Arbitrates m s c.post.new.self xs) c.args.self.now.pool _ c.post.new.slots value c.post.ensures.size
+        (let stood = subst (λ (xs : List Slot). Arbitrates m s c.args.self.now.controller xs) (sym value) a in
+        told m s _ _ _ _ _ c.post.result c.post.ensures.none (c.post.ensures.stands stood.rules stood.late stood.notes stood.stands)
+        (λ x h. again m s _ _ _ _ stood _ h.stands) stood);
+      };
+    }

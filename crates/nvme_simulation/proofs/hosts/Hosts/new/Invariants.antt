@@ -1,5 +1,13 @@
-use Rattle.nvme_simulation.specs.Fronts.{IsFront}
+use Rattle.std.proofs.Common.{◌≡◌, ◌++◌, All}
+use Rattle.std.specs.Prelude.{map}
+use Rattle.std.specs.Vec.Iter.{into_iter_items}
+use Rattle.nvme_simulation.specs.Beginnings.{IsUnused, load_in, load_of}
+use Rattle.nvme_simulation.specs.Fronts.{StaysFront}
 use Rattle.nvme_simulation.proofs.hosts.Hosts.new.Given as goal
 
 abbrev pub invariant-loop-queue : goal.invariant-loop-queue
-invariant-loop-queue l = IsFront l.front
+invariant-loop-queue l = record {
+  front : StaysFront l.fn.front l.front;
+  loads : map load_of l.all.items ++ map load_in (into_iter_items l.queue-iterator) ≡ map load_in l.fn.queues.items;
+  none : All IsUnused l.all.items;
+}

@@ -1,5 +1,17 @@
-use Rattle.nvme_simulation.proofs.Hosted.{all_then, one_after}
+use Rattle.nvme_simulation.proofs.Hosted.{one_after}
+use Rattle.nvme_simulation.proofs.Machines.{works}
 use Rattle.nvme_simulation.proofs.machine.Machine.finish.Goals as goal
 
+pub returns-in_err-taken-clause-works : goal.returns-in_err-taken-clause-works
+returns-in_err-taken-clause-works c = works _ _ c.end.ensures.goes
+
+pub returns-in_err-flight-clause-works : goal.returns-in_err-flight-clause-works
+returns-in_err-flight-clause-works c =
+    let w = works c.args.self.now c.end.new.self c.end.ensures.goes in record { front = w.front; events = w.events; device = w.device }
+
+pub returns-clause-works : goal.returns-clause-works
+returns-clause-works c =
+    let w = works c.args.self.now c.end.new.self c.end.ensures.goes in record { front = w.front; events = w.events; device = w.device }
+
 pub returns-clause-ends : goal.returns-clause-ends
-returns-clause-ends c = one_after _ _ _ _ _ (all_then _ _ _ c.start.ensures.goes c.collect.ensures.goes) c.in_ok-flight.ensures.ends
+returns-clause-ends c = one_after _ _ _ _ _ c.end.ensures.goes.hosts c.in_ok-flight.ensures.ends

@@ -1,16 +1,95 @@
-use Rattle.std.proofs.Common.{ℕ, sym, subst}
-use Rattle.nvme_simulation.specs.declared.machine.Machine.{Machine}
+use Rattle.std.proofs.Common.{◌≡◌, ◌∙◌, ◌≤◌, ◌+◌, ℕ, Some, sym, ap, subst, arith}
+use Rattle.nvme_occupancy.specs.Occupancies.{Leaves}
+use Rattle.nvme_occupancy.specs.declared.occupancy.Occupancy.{Occupancy}
+use Rattle.nvme_simulation.specs.Handling.{Stays}
 use Rattle.nvme_simulation.specs.Progress.{AllGoOn, OneEnds}
-use Rattle.nvme_simulation.specs.Simulations.{hosts_of}
+use Rattle.nvme_simulation.specs.Simulations.{hosts_of, time_of}
+use Rattle.nvme_simulation.specs.Steps.{cost_with}
+use Rattle.nvme_simulation.specs.declared.agenda.Event.TheVariants.{End}
+use Rattle.nvme_simulation.specs.declared.machine.Machine.{Machine}
+use Rattle.nvme_simulation.specs.declared.simulation.Simulation.{Simulation}
+use Rattle.nvme_simulation.proofs.Handling.{left_behind, stays_goes, stays_machine, stays_occupancy, stays_then, stays_time}
 use Rattle.nvme_simulation.proofs.Hosted.{all_then, one_before}
+use Rattle.nvme_simulation.proofs.Machines.{works}
 use Rattle.nvme_simulation.proofs.simulation.Simulation.finish.Goals as goal
 
-pub returns-clause-passes : goal.returns-clause-passes
-returns-clause-passes c =
-    let kept : AllGoOn c.finish.new.self.hosts (hosts_of c.think.new.self) =
-    subst (λ (m : Machine). AllGoOn m.hosts (hosts_of c.think.new.self)) c.tell.ensures.machine c.think.ensures.goes in
-    let after : AllGoOn c.finish.new.self.hosts c.submit.new.self.hosts = all_then _ _ _ kept c.submit.ensures.goes in
-    let ends : OneEnds c.in_ok-taken.taken.qid c.in_ok-taken.taken.number c.args.self.now.machine.hosts c.submit.new.self.hosts =
-    one_before _ _ _ _ _ c.in_ok-taken.ensures.ends after in
-    subst (λ (q : ℕ). OneEnds q c.in_ok-command.command.number c.args.self.now.machine.hosts c.submit.new.self.hosts) (sym c.in_ok-command.ensures.queue)
-    (subst (λ (n : ℕ). OneEnds c.in_ok-taken.taken.qid n c.args.self.now.machine.hosts c.submit.new.self.hosts) (sym c.in_ok-command.ensures.number) ends)
+pub returns-in_err-taken-clause-stays : goal.returns-in_err-taken-clause-stays
+returns-in_err-taken-clause-stays c = stays_machine _ _ c.finish.ensures.works
+
+pub returns-in_err-command-clause-stays : goal.returns-in_err-command-clause-stays
+returns-in_err-command-clause-stays c = 
+    let old = c.args.self.now in
+    let ended = record old { machine = c.finish.new.self } in
+    let first : Stays old ended = stays_machine old c.finish.new.self c.finish.ensures.works in
+    let told = c.tell.new.self in
+    let second : Stays old told = stays_then old ended told first (stays_occupancy ended told c.finish.ensures.works.front.is c.tell.ensures.rest) in
+    second
+
+pub returns-in_err-think-clause-stays : goal.returns-in_err-think-clause-stays
+returns-in_err-think-clause-stays c = 
+    let old = c.args.self.now in
+    let ended = record old { machine = c.finish.new.self } in
+    let first : Stays old ended = stays_machine old c.finish.new.self c.finish.ensures.works in
+    let told = c.tell.new.self in
+    let second : Stays old told = stays_then old ended told first (stays_occupancy ended told c.finish.ensures.works.front.is c.tell.ensures.rest) in
+    let thought = c.think.new.self in
+    let third : Stays old thought = stays_then old told thought second (stays_goes told thought c.think.ensures.goes c.think.ensures.rest) in
+    third
+
+pub returns-in_err-submit-clause-stays : goal.returns-in_err-submit-clause-stays
+returns-in_err-submit-clause-stays c = 
+    let old = c.args.self.now in
+    let ended = record old { machine = c.finish.new.self } in
+    let first : Stays old ended = stays_machine old c.finish.new.self c.finish.ensures.works in
+    let told = c.tell.new.self in
+    let second : Stays old told = stays_then old ended told first (stays_occupancy ended told c.finish.ensures.works.front.is c.tell.ensures.rest) in
+    let thought = c.think.new.self in
+    let third : Stays old thought = stays_then old told thought second (stays_goes told thought c.think.ensures.goes c.think.ensures.rest) in
+    let after = record thought { machine = c.submit.new.self } in
+    let stays : Stays old after = stays_then old thought after third (stays_machine thought c.submit.new.self (works _ _ c.submit.ensures.goes)) in
+    stays
+
+pub returns-clause-stays : goal.returns-clause-stays
+returns-clause-stays c = 
+    let old = c.args.self.now in
+    let ended = record old { machine = c.finish.new.self } in
+    let first : Stays old ended = stays_machine old c.finish.new.self c.finish.ensures.works in
+    let told = c.tell.new.self in
+    let second : Stays old told = stays_then old ended told first (stays_occupancy ended told c.finish.ensures.works.front.is c.tell.ensures.rest) in
+    let thought = c.think.new.self in
+    let third : Stays old thought = stays_then old told thought second (stays_goes told thought c.think.ensures.goes c.think.ensures.rest) in
+    let after = record thought { machine = c.submit.new.self } in
+    let stays : Stays old after = stays_then old thought after third (stays_machine thought c.submit.new.self (works _ _ c.submit.ensures.goes)) in
+    stays
+
+pub returns-clause-handles : goal.returns-clause-handles
+returns-clause-handles c = 
+    let old = c.args.self.now in
+    let ended = record old { machine = c.finish.new.self } in
+    let first : Stays old ended = stays_machine old c.finish.new.self c.finish.ensures.works in
+    let told = c.tell.new.self in
+    let second : Stays old told = stays_then old ended told first (stays_occupancy ended told c.finish.ensures.works.front.is c.tell.ensures.rest) in
+    let thought = c.think.new.self in
+    let third : Stays old thought = stays_then old told thought second (stays_goes told thought c.think.ensures.goes c.think.ensures.rest) in
+    let after = record thought { machine = c.submit.new.self } in
+    let stays : Stays old after = stays_then old thought after third (stays_machine thought c.submit.new.self (works _ _ c.submit.ensures.goes)) in
+    let machine : told.machine ≡ c.finish.new.self = ap (λ (s : Simulation). s.machine) c.tell.ensures.rest in
+    let occupancy : thought.occupancy ≡ told.occupancy = ap (λ (s : Simulation). s.occupancy) c.think.ensures.rest in
+    let leaves = c.in_ok-command.ensures.leaves in
+    let now : time_of after ≡ time_of ended = stays_time old after stays ∙ sym (stays_time old ended first) in
+    record {
+      tells = ap (λ (channel : ℕ). Some (End channel)) c.in_ok-command.ensures.channel;
+      timed = c.in_ok-command.ensures.done ∙ sym now;
+      counts = subst (λ (o : Occupancy). Leaves (time_of after) old.occupancy o) (sym occupancy) (subst (λ (t : ℕ). Leaves t old.occupancy told.occupancy) (sym now) leaves);
+      passes =
+          let goes : AllGoOn c.finish.new.self.hosts (hosts_of thought) = subst (λ (m : Machine). AllGoOn m.hosts (hosts_of thought)) machine c.think.ensures.goes.hosts in
+          let behind : AllGoOn c.finish.new.self.hosts (hosts_of after) = all_then _ _ _ goes c.submit.ensures.goes.hosts in
+          let ends : OneEnds c.in_ok-taken.taken.qid c.in_ok-taken.taken.number (hosts_of old) (hosts_of after) = one_before _ _ _ _ _ c.in_ok-taken.ensures.ends behind in
+          subst (λ (q : ℕ). OneEnds q c.in_ok-command.command.number (hosts_of old) (hosts_of after)) (sym c.in_ok-command.ensures.queue)
+          (subst (λ (n : ℕ). OneEnds c.in_ok-taken.taken.qid n (hosts_of old) (hosts_of after)) (sym c.in_ok-command.ensures.number) ends);
+      cost =
+          let ends = c.in_ok-taken.ensures.cost in
+          let thinks : cost_with thought.machine ≤ cost_with c.finish.new.self + 2 = subst (λ (m : Machine). cost_with thought.machine ≤ cost_with m + 2) machine c.think.ensures.cost in
+          let submits = c.submit.ensures.cost in
+          omega (arith, left_behind old after stays, ends, thinks, submits, leaves.came, leaves.left, ap (λ (o : Occupancy). o.came) occupancy, ap (λ (o : Occupancy). o.left) occupancy, told.occupancy.no_more_left);
+    }

@@ -1,0 +1,109 @@
+-- What a step leaves, and what comes of an event.
+use Rattle.std.proofs.Common.{◌≡◌, ◌∙◌, ◌≤◌, ◌<◌, ℕ, ◌+◌, ◌-◌, ◌*◌, ◌&&◌, Bool, true, false, cond, nat_lt, Option, Some, None, option_map, refl, sym, ap, subst, arith}
+use Rattle.std.proofs.lemmas.Bool.Decides.{nat_tests}
+use Rattle.nvme_clock.specs.Held.{Held}
+use Rattle.nvme_clock.specs.declared.events.Event.{Event as Timed}
+use Rattle.nvme_log.specs.Rules.{FrontRules}
+use Rattle.nvme_ctrl.specs.Notes.{Notes}
+use Rattle.nvme_model.specs.declared.model.End.{End}
+use Rattle.nvme_occupancy.specs.Occupancies.{Comes}
+use Rattle.nvme_occupancy.specs.declared.occupancy.Occupancy.{Occupancy}
+use Rattle.nvme_simulation.specs.Counts.{ComesIf, may_come}
+use Rattle.nvme_simulation.specs.Devices.{IsDevice, device_in}
+use Rattle.nvme_simulation.specs.Fronts.{IsFront}
+use Rattle.nvme_simulation.specs.Handling.{Stays}
+use Rattle.nvme_simulation.specs.Machines.{Goes, Works}
+use Rattle.nvme_simulation.specs.Picks.{IsLawful}
+use Rattle.nvme_simulation.specs.Plans.{Follows, IsFirst, cause, picks_behind}
+use Rattle.nvme_simulation.specs.Simulations.{IsSameModel, IsSimulation, time_of}
+use Rattle.nvme_simulation.specs.Steps.{cost_with, steps_left}
+use Rattle.nvme_simulation.specs.declared.agenda.Event.{Event}
+use Rattle.nvme_simulation.specs.declared.happening.Happening.{Happening}
+use Rattle.nvme_simulation.specs.declared.happening.Happening.TheVariants.{Came, Picked, Settled, Finished, Paused, Resumed, Over}
+use Rattle.nvme_simulation.specs.declared.machine.Machine.{Machine}
+use Rattle.nvme_simulation.specs.declared.simulation.Simulation.{Simulation}
+use Rattle.nvme_simulation.proofs.Machines.{goes_self, works, works_then, works_time}
+use Rattle.nvme_simulation.proofs.Rooms.{device_then}
+
+works_self : (m : Machine) → IsFront m.front → Works m m
+works_self m is = works m m (goes_self m is)
+
+pub stays_self : (s : Simulation) → IsFront s.machine.front → Stays s s
+stays_self s is = record { works = works_self s.machine is; rest = refl }
+
+pub stays_machine : (a : Simulation) (m : Machine) → Works a.machine m → Stays a (record a { machine = m })
+stays_machine a m w = record { works = w; rest = refl }
+
+pub stays_occupancy : (a b : Simulation) → IsFront a.machine.front → b ≡ record a { occupancy = b.occupancy } → Stays a b
+stays_occupancy a b is e =
+    let same : b.machine ≡ a.machine = ap (λ (s : Simulation). s.machine) e in
+    record {
+      works = subst (λ (m : Machine). Works a.machine m) (sym same) (works_self a.machine is);
+      rest = e ∙ ap (λ (m : Machine). record a { machine = m; occupancy = b.occupancy }) (sym same);
+    }
+
+pub stays_goes : (a b : Simulation) → Goes a.machine b.machine → b ≡ record a { machine = b.machine } → Stays a b
+stays_goes a b g e = record {
+  works = works a.machine b.machine g;
+  rest = e ∙ ap (λ (o : Occupancy). record a { machine = b.machine; occupancy = o }) (sym (ap (λ (s : Simulation). s.occupancy) e));
+}
+
+pub stays_then : (a b c : Simulation) → Stays a b → Stays b c → Stays a c
+stays_then a b c first second = record {
+  works = works_then a.machine b.machine c.machine first.works second.works;
+  rest = second.rest ∙ ap (λ (s : Simulation). record s { machine = c.machine; occupancy = c.occupancy }) first.rest;
+}
+
+pub stays_time : (a b : Simulation) → Stays a b → time_of b ≡ time_of a
+stays_time a b s = works_time a.machine b.machine s.works
+
+-- what is left of its steps
+pub left_behind : (a b : Simulation) → Stays a b
+    → steps_left b ≡ cost_with b.machine + cond a.picks 1 0 + 9 * (a.end.commands - b.occupancy.came) + 7 * (b.occupancy.came - b.occupancy.left)
+left_behind a b s = ap steps_left s.rest
+
+pub came_if : (end : End) (t u : ℕ) (o p : Occupancy) → u ≡ t → may_come end t o ≡ true → Comes t o p → ComesIf (may_come end u o) u o p
+came_if end t u o p same may comes = rw (same, may) comes
+
+pub below_end : (b : Bool) (m n : ℕ) → (b && nat_lt m n) ≡ true → m < n
+below_end true m n is = grind (arith, nat_tests)
+below_end false m n is = absurd (cc is)
+
+pub same_model : (a b : Simulation) → Stays a b → IsSameModel a b
+same_model a b s = record {
+  front = s.works.front;
+  device = s.works.device;
+  end = ap (λ (x : Simulation). x.end) s.rest;
+  pauses = ap (λ (x : Simulation). x.pauses) s.rest;
+  warm_up = ap (λ (x : Simulation). x.warm_up) s.rest;
+}
+
+pub stands_on : (a b : Simulation) → IsSameModel a b → IsSimulation a → IsSimulation b
+stands_on a b s is = record { front = s.front.is; device = device_then (device_in a.machine.device) (device_in b.machine.device) is.device s.device }
+
+-- what an event makes happen is no pick
+pub event_lawful : (event : Event) (h : Happening) → cause h ≡ Some event → (rules : FrontRules) (notes : Notes) (room : ℕ) → IsLawful rules notes room h
+event_lawful event (Picked p) is rules notes room = absurd (cc is)
+event_lawful event Settled is rules notes room = absurd (cc is)
+event_lawful event (Came queue) is rules notes room = tt
+event_lawful event (Finished command counts) is rules notes room = tt
+event_lawful event (Paused channel) is rules notes room = tt
+event_lawful event (Resumed channel) is rules notes room = tt
+event_lawful event Over is rules notes room = tt
+
+pub over_lawful : (h : Happening) → h ≡ Over → (rules : FrontRules) (notes : Notes) (room : ℕ) → IsLawful rules notes room h
+over_lawful h is rules notes room = subst (λ (x : Happening). IsLawful rules notes room x) (sym is) tt
+
+pub event_picks : (event : Event) (h : Happening) (before : Bool) → cause h ≡ Some event → picks_behind h before ≡ true
+event_picks event Settled before is = absurd (cc is)
+event_picks event Over before is = absurd (cc is)
+event_picks event (Came queue) before is = refl
+event_picks event (Picked p) before is = refl
+event_picks event (Finished command counts) before is = refl
+event_picks event (Paused channel) before is = refl
+event_picks event (Resumed channel) before is = refl
+
+pub first_comes : (p : Option (Timed Event) × Held Event) (what : Event) (after : Held Event) (h : Happening) → option_map (λ (e : Timed Event). e.what) p.0 ≡ Some what
+    → cause h ≡ Some what → Follows p.1 after → IsFirst p after h
+first_comes (None, rest) what after h is tells follows = absurd (cc is)
+first_comes (Some e, rest) what after h is tells follows = (tells ∙ sym is, follows)

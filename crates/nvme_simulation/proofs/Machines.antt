@@ -1,0 +1,72 @@
+-- How machines go on.
+use Rattle.std.proofs.Common.{◌≡◌, ◌≤◌, ◌<◌, ℕ, ◌+◌, ◌-◌, ◌*◌, Option, Some, None, Result, Ok, Err, arith}
+use Rattle.std.specs.Prelude.{OnOk, SomeIff}
+use Rattle.nvme_simulation.specs.Devices.{IsBehind, device_in}
+use Rattle.nvme_simulation.specs.Fronts.{IsFront, StaysFront}
+use Rattle.nvme_simulation.specs.Machines.{Goes, Works}
+use Rattle.nvme_simulation.specs.Plans.{Follows, events_of}
+use Rattle.nvme_simulation.specs.Progress.{AllGoOn}
+use Rattle.nvme_simulation.specs.Steps.{cost_at}
+use Rattle.nvme_simulation.specs.Times.{now_of}
+use Rattle.nvme_simulation.specs.declared.agenda.Event.TheVariants.{Arrival, Pause}
+use Rattle.nvme_simulation.specs.declared.front.Front.{Front}
+use Rattle.nvme_simulation.specs.declared.machine.Machine.{Machine}
+use Rattle.nvme_simulation.proofs.Hosted.{all_stay, all_then}
+use Rattle.nvme_simulation.proofs.Plans.{follows_self, follows_then, follows_time}
+use Rattle.nvme_simulation.proofs.Rooms.{behind_none, behind_then}
+
+pub front_stays : (f : Front) → IsFront f → StaysFront f f
+front_stays f is = record { is = is; arbitrates = λ m s a. a }
+
+pub front_then : (a b c : Front) → StaysFront a b → StaysFront b c → StaysFront a c
+front_then a b c first second = record { is = second.is; arbitrates = λ m s it. second.arbitrates m s (first.arbitrates m s it) }
+
+pub goes_front : (a b : Machine) → AllGoOn a.hosts b.hosts → StaysFront a.front b.front → b.agenda ≡ a.agenda → b.device ≡ a.device → Goes a b
+goes_front a b hosts front agenda device = record {
+  front = front;
+  hosts = hosts;
+  events = rw agenda (follows_self (events_of a.agenda));
+  device = rw device (behind_none (device_in a.device));
+}
+
+pub goes_self : (a : Machine) → IsFront a.front → Goes a a
+goes_self a is = record {
+  front = front_stays a.front is;
+  hosts = all_stay a.hosts;
+  events = follows_self (events_of a.agenda);
+  device = behind_none (device_in a.device);
+}
+
+pub goes_then : (a b c : Machine) → Goes a b → Goes b c → Goes a c
+goes_then a b c first second = record {
+  front = front_then a.front b.front c.front first.front second.front;
+  hosts = all_then a.hosts b.hosts c.hosts first.hosts second.hosts;
+  events = follows_then (events_of a.agenda) (events_of b.agenda) (events_of c.agenda) first.events second.events;
+  device = behind_then (device_in a.device) (device_in b.device) (device_in c.device) first.device second.device;
+}
+
+pub works : (a b : Machine) → Goes a b → Works a b
+works a b g = record { front = g.front; events = g.events; device = g.device }
+
+pub works_then : (a b c : Machine) → Works a b → Works b c → Works a c
+works_then a b c first second = record {
+  front = front_then a.front b.front c.front first.front second.front;
+  events = follows_then (events_of a.agenda) (events_of b.agenda) (events_of c.agenda) first.events second.events;
+  device = behind_then (device_in a.device) (device_in b.device) (device_in c.device) first.device second.device;
+}
+
+pub works_time : (a b : Machine) → Works a b → now_of b.agenda ≡ now_of a.agenda
+works_time a b w = follows_time (events_of a.agenda) (events_of b.agenda) w.events
+
+pub arrival_costs : (at : Option ℕ) (qid : ℕ) → cost_at at (Arrival qid) ≤ 2
+arrival_costs None qid = omega arith
+arrival_costs (Some at) qid = omega arith
+
+pub pause_costs : (at : Option ℕ) (P : Type 0) (time now channel : ℕ) → SomeIff at P time → now < time
+    → cost_at at (Pause channel) ≤ 4 * (0x1_0000_0000_0000_0000 - (now + 1))
+pause_costs None P time now channel is later = omega arith
+pause_costs (Some t) P time now channel is later = omega (arith, is.1, later)
+
+pub on_ok : {T E P : Type 0} (r : Result T E) → P → OnOk r P
+on_ok (Ok x) p = p
+on_ok (Err e) p = tt

@@ -1,0 +1,92 @@
+-- What a step makes happen.
+use Rattle.std.proofs.Common.{◌≡◌, ◌∙◌, ◌≤◌, ℕ, ◌+◌, Bool, true, false, cond, Option, Some, None, option_map, Result, Ok, Err, inl, inr, refl, sym, ap, subst, arith}
+use Rattle.std.specs.Prelude.{IfOk}
+use Rattle.nvme_clock.specs.Held.{Held, popped}
+use Rattle.nvme_clock.specs.declared.events.Event.{Event as Timed}
+use Rattle.nvme_simulation.specs.Counts.{Counts}
+use Rattle.nvme_simulation.specs.Handling.{Handles, IsOver, Stays}
+use Rattle.nvme_simulation.specs.Machines.{Goes}
+use Rattle.nvme_simulation.specs.Passing.{Passes}
+use Rattle.nvme_simulation.specs.Picks.{IsTimed}
+use Rattle.nvme_simulation.specs.Plans.{Follows, IsFirst, IsNext, IsOfPicks, events_of, is_pick, picks_behind}
+use Rattle.nvme_simulation.specs.Stepping.{HasStepped}
+use Rattle.nvme_simulation.specs.Steps.{cost, cost_in, cost_with, picked_in, steps_left}
+use Rattle.nvme_simulation.specs.Times.{now_of}
+use Rattle.nvme_simulation.specs.declared.agenda.Agenda.{Agenda}
+use Rattle.nvme_simulation.specs.declared.agenda.Event.{Event}
+use Rattle.nvme_simulation.specs.declared.happening.Happening.{Happening}
+use Rattle.nvme_simulation.specs.declared.happening.Happening.TheVariants.{Came, Picked, Settled, Finished, Paused, Resumed, Over}
+use Rattle.nvme_simulation.specs.declared.machine.Machine.{Machine}
+use Rattle.nvme_simulation.specs.declared.simulation.Simulation.{Simulation}
+use Rattle.nvme_simulation.specs.Simulations.{time_of}
+use Rattle.nvme_simulation.proofs.Handling.{event_picks, first_comes}
+
+pub if_ok : {T E : Type 0} (P Q : T → Type 0) (r : Result T E) → ((x : T) → P x → Q x) → IfOk r P → IfOk r Q
+if_ok P Q (Ok x) f p = f x p
+if_ok P Q (Err e) f p = tt
+
+-- the simulation after a pick, or after none
+abbrev pub picked : Simulation → Machine → Happening → Simulation
+picked a m h = record a { machine = m; picks = is_pick h }
+
+pub pick_steps : (a : Simulation) (m : Machine) (h : Happening) → a.picks ≡ true → Goes a.machine m → cost_with m + picked_in h ≤ cost_with a.machine → IsOfPicks h
+    → IsTimed (now_of m.agenda) h → Counts a.end (now_of m.agenda) a.occupancy a.occupancy h → Passes a.machine.hosts m.hosts h → HasStepped a (picked a m h) h
+pick_steps a m (Picked p) picks goes costs is timed counts passes = record {
+  next = rw picks (is, goes.events);
+  picks = refl;
+  timed = timed;
+  counts = counts;
+  passes = passes;
+  falls = inr (let was : ◌≡◌ {A = ℕ} (cond a.picks 1 0) 1 = ap (λ (b : Bool). cond b 1 0) picks in omega (arith, costs, was));
+}
+pick_steps a m Settled picks goes costs is timed counts passes = record {
+  next = rw picks (is, goes.events);
+  picks = refl;
+  timed = timed;
+  counts = counts;
+  passes = passes;
+  falls = inr (let was : ◌≡◌ {A = ℕ} (cond a.picks 1 0) 1 = ap (λ (b : Bool). cond b 1 0) picks in omega (arith, costs, was));
+}
+pick_steps a m (Came queue) picks goes costs is timed counts passes = absurd is
+pick_steps a m (Finished command counting) picks goes costs is timed counts passes = absurd is
+pick_steps a m (Paused channel) picks goes costs is timed counts passes = absurd is
+pick_steps a m (Resumed channel) picks goes costs is timed counts passes = absurd is
+pick_steps a m Over picks goes costs is timed counts passes = absurd is
+
+-- the simulation whose first event comes
+abbrev pub reached : Simulation → Agenda → Simulation
+reached a g = record a { machine = record a.machine { agenda = g }; picks = true }
+
+pub event_steps : (a b : Simulation) (g : Agenda) (event : Event) (h : Happening) → a.picks ≡ false
+    → option_map (λ (e : Timed Event). e.what) (popped (events_of a.machine.agenda)).0 ≡ Some event → events_of g ≡ (popped (events_of a.machine.agenda)).1
+    → cost_in a.machine.agenda ≡ cost_in g + cost (now_of g) event → Stays (reached a g) b → Handles event (reached a g) b h → HasStepped a b h
+event_steps a b g event h picks what rest costs stays handles = record {
+  next = rw picks (first_comes (popped (events_of a.machine.agenda)) event (events_of b.machine.agenda) h what handles.tells
+  (subst (λ (before : Held Event). Follows before (events_of b.machine.agenda)) rest stays.works.events));
+  picks = ap (λ (s : Simulation). s.picks) stays.rest ∙ sym (event_picks event h a.picks handles.tells);
+  timed = handles.timed;
+  counts = handles.counts;
+  passes = handles.passes;
+  falls = inr (let was : ◌≡◌ {A = ℕ} (cond a.picks 1 0) 0 = ap (λ (b : Bool). cond b 1 0) picks in omega (arith, handles.cost, costs, was));
+}
+
+first_none : (p : Option (Timed Event) × Held Event) (after : Held Event) (h : Happening) → option_map (λ (e : Timed Event). e.what) p.0 ≡ None → h ≡ Over
+    → after ≡ p.1 → IsFirst p after h
+first_none (None, rest) after h none over is = (over, is)
+first_none (Some e, rest) after h none over is = absurd (cc none)
+
+-- the simulation where no event was to come
+abbrev pub at_end : Simulation → Agenda → Simulation
+at_end a g = record a { machine = record a.machine { agenda = g } }
+
+pub over_steps : (a : Simulation) (g : Agenda) (h : Happening) → a.picks ≡ false
+    → option_map (λ (e : Timed Event). e.what) (popped (events_of a.machine.agenda)).0 ≡ None → events_of g ≡ (popped (events_of a.machine.agenda)).1
+    → IsOver (at_end a g) h → HasStepped a (at_end a g) h
+over_steps a g h picks none rest is = record {
+  next = rw picks (first_none (popped (events_of a.machine.agenda)) (events_of g) h none is.0 rest);
+  picks = subst (λ (x : Happening). a.picks ≡ picks_behind x a.picks) (sym is.0) refl;
+  timed = subst (λ (x : Happening). IsTimed (now_of g) x) (sym is.0) tt;
+  counts = is.1;
+  passes = is.2;
+  falls = inl is.0;
+}

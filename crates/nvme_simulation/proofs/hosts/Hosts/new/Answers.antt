@@ -1,0 +1,32 @@
+use Rattle.std.proofs.Common.{rules, arith}
+use Rattle.nvme_simulation.proofs.Beginnings.{none_left, none_more, one_more}
+use Rattle.nvme_simulation.proofs.Machines.{front_stays, front_then}
+use Rattle.nvme_simulation.proofs.hosts.Hosts.new.Goals as goal
+
+pub loop-queue-init : goal.loop-queue-init
+loop-queue-init c = record { front = front_stays _ c.requires.front; loads = search rules; none = search rules }
+
+pub create-requires : goal.create-requires
+create-requires c = record { front = c.loop-queue.invariant.front.is }
+
+pub returns-in_err-create-clause-front : goal.returns-in_err-create-clause-front
+returns-in_err-create-clause-front c = front_then _ _ _ c.loop-queue.invariant.front c.create.ensures.front
+
+pub returns-in_err-host-clause-front : goal.returns-in_err-host-clause-front
+returns-in_err-host-clause-front c = front_then _ _ _ c.loop-queue.invariant.front c.create.ensures.front
+
+pub returns-in_default-clause-front : goal.returns-in_default-clause-front
+returns-in_default-clause-front c = front_then _ _ _ c.loop-queue.invariant.front c.create.ensures.front
+
+pub loop-queue-preserved : goal.loop-queue-preserved
+loop-queue-preserved c = record {
+  front = front_then _ _ _ c.loop-queue.invariant.front c.create.ensures.front;
+  loads = one_more _ _ c.in_ok-host.host _ _ c.in-Some.queue _ c.in-Ok.ensures.items c.in-Some.ensures.steps.0 c.in_ok-host.ensures.load c.loop-queue.invariant.loads;
+  none = none_more _ _ c.in_ok-host.host c.in-Ok.ensures.items c.loop-queue.invariant.none c.in_ok-host.ensures.none;
+}
+
+pub returns-clause-front : goal.returns-clause-front
+returns-clause-front c = c.loop-queue.invariant.front
+
+pub returns-clause-hosts : goal.returns-clause-hosts
+returns-clause-hosts c = record { loads = none_left _ _ _ (omega (arith, c.in-None.ensures.steps.0, c.loop-queue.queue-iterator.rest.ok.0)) c.loop-queue.invariant.loads; none = c.loop-queue.invariant.none }

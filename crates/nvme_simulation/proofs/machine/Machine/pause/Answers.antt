@@ -1,0 +1,20 @@
+use Rattle.nvme_simulation.proofs.Machines.{front_stays}
+use Rattle.nvme_simulation.proofs.Hosted.{all_stay}
+use Rattle.nvme_simulation.proofs.Plans.{follows_self}
+use Rattle.nvme_simulation.proofs.machine.Machine.pause.Goals as goal
+
+pub returns-in_err-pause-clause-goes : goal.returns-in_err-pause-clause-goes
+returns-in_err-pause-clause-goes c = record {
+  front = front_stays _ c.requires.front;
+  hosts = all_stay _;
+  events = follows_self _;
+  device = c.pause.ensures.behind;
+}
+
+pub returns-clause-goes : goal.returns-clause-goes
+returns-clause-goes c = record {
+  front = front_stays _ c.requires.front;
+  hosts = all_stay _;
+  events = c.plan.ensures.follows;
+  device = c.pause.ensures.behind;
+}

@@ -1,0 +1,26 @@
+use Rattle.std.proofs.Common.{arith}
+use Rattle.nvme_simulation.proofs.Hosted.{all_stay}
+use Rattle.nvme_simulation.proofs.Machines.{front_stays, goes_self, on_ok, pause_costs}
+use Rattle.nvme_simulation.specs.Simulations.{time_of}
+use Rattle.nvme_simulation.proofs.Rooms.{behind_none}
+use Rattle.nvme_simulation.proofs.simulation.Simulation.plan_pause.Goals as goal
+
+pub returns-in_default-clause-goes : goal.returns-in_default-clause-goes
+returns-in_default-clause-goes c = goes_self _ c.requires.front
+
+pub returns-then-is_over-clause-goes : goal.returns-then-is_over-clause-goes
+returns-then-is_over-clause-goes c = goes_self _ c.requires.front
+
+pub returns-clause-goes : goal.returns-clause-goes
+returns-clause-goes c = record {
+  front = front_stays _ c.requires.front;
+  hosts = all_stay _;
+  events = c.plan.ensures.follows;
+  device = behind_none _;
+}
+
+pub returns-clause-cost : goal.returns-clause-cost
+returns-clause-cost c =
+    let costs = c.plan.ensures.cost in
+    let later = c.in-Some.pauses.apart in
+    on_ok c.plan.result (omega (arith, costs, pause_costs _ _ _ (time_of c.args.self.now) c.args.channel c.checked_add-next.ensures (omega (arith, later, c.now.ensures.value))))

@@ -1,0 +1,23 @@
+-- What a step makes happen. (profile)
+use Rattle.std.specs.Prelude.{◌≡◌}
+use Rattle.nvme_simulation.specs.Counts.{Counts}
+use Rattle.nvme_simulation.specs.Passing.{Passes}
+use Rattle.nvme_simulation.specs.Picks.{IsTimed}
+use Rattle.nvme_simulation.specs.Plans.{IsNext, events_of, picks_behind}
+use Rattle.nvme_simulation.specs.Simulations.{end_of, hosts_of, occupancy_of, picks_of, time_of}
+use Rattle.nvme_simulation.specs.Steps.{IsStepLess}
+use Rattle.nvme_simulation.specs.declared.happening.Happening.{Happening}
+use Rattle.nvme_simulation.specs.declared.simulation.Simulation.{Simulation}
+
+pub record HasStepped (before after : Simulation) (h : Happening) : Type 0 where
+  -- a pick, or the first event, and what is planned then
+  pub next : IsNext (picks_of before) (events_of before.machine.agenda) (events_of after.machine.agenda) h
+  pub picks : picks_of after ≡ picks_behind h (picks_of before)
+  -- it is told with its time
+  pub timed : IsTimed (time_of after) h
+  -- how many came and are done
+  pub counts : Counts (end_of before) (time_of after) (occupancy_of before) (occupancy_of after) h
+  -- how far each command is
+  pub passes : Passes (hosts_of before) (hosts_of after) h
+  -- fewer steps are left
+  pub falls : IsStepLess before after h
