@@ -1,5 +1,5 @@
 -- What a step leaves, and what comes of an event.
-use Rattle.std.proofs.Common.{◌≡◌, ◌∙◌, ◌≤◌, ◌<◌, ℕ, ◌+◌, ◌-◌, ◌*◌, ◌&&◌, Bool, true, false, cond, nat_lt, Option, Some, None, option_map, refl, sym, ap, subst, arith}
+use Rattle.std.proofs.Common.{◌≡◌, ◌∙◌, ◌<◌, ℕ, ◌+◌, ◌-◌, ◌*◌, ◌&&◌, Bool, true, false, cond, nat_lt, Option, Some, None, option_map, refl, sym, ap, subst, arith}
 use Rattle.std.proofs.lemmas.Bool.Decides.{nat_tests}
 use Rattle.nvme_clock.specs.Held.{Held}
 use Rattle.nvme_clock.specs.declared.events.Event.{Event as Timed}
@@ -9,7 +9,7 @@ use Rattle.nvme_model.specs.declared.model.End.{End}
 use Rattle.nvme_occupancy.specs.Occupancies.{Comes}
 use Rattle.nvme_occupancy.specs.declared.occupancy.Occupancy.{Occupancy}
 use Rattle.nvme_simulation.specs.Counts.{ComesIf, may_come}
-use Rattle.nvme_simulation.specs.Devices.{IsDevice, device_in}
+use Rattle.nvme_simulation.specs.Devices.{device_in}
 use Rattle.nvme_simulation.specs.Fronts.{IsFront}
 use Rattle.nvme_simulation.specs.Handling.{Stays}
 use Rattle.nvme_simulation.specs.Machines.{Goes, Works}

@@ -1,10 +1,10 @@
 -- How machines go on.
 use Rattle.std.proofs.Common.{◌≡◌, ◌≤◌, ◌<◌, ℕ, ◌+◌, ◌-◌, ◌*◌, Option, Some, None, Result, Ok, Err, arith}
 use Rattle.std.specs.Prelude.{OnOk, SomeIff}
-use Rattle.nvme_simulation.specs.Devices.{IsBehind, device_in}
+use Rattle.nvme_simulation.specs.Devices.{device_in}
 use Rattle.nvme_simulation.specs.Fronts.{IsFront, StaysFront}
 use Rattle.nvme_simulation.specs.Machines.{Goes, Works}
-use Rattle.nvme_simulation.specs.Plans.{Follows, events_of}
+use Rattle.nvme_simulation.specs.Plans.{events_of}
 use Rattle.nvme_simulation.specs.Progress.{AllGoOn}
 use Rattle.nvme_simulation.specs.Steps.{cost_at}
 use Rattle.nvme_simulation.specs.Times.{now_of}

@@ -8,9 +8,9 @@ use Rattle.nvme_simulation.specs.Handling.{Handles, IsOver, Stays}
 use Rattle.nvme_simulation.specs.Machines.{Goes}
 use Rattle.nvme_simulation.specs.Passing.{Passes}
 use Rattle.nvme_simulation.specs.Picks.{IsTimed}
-use Rattle.nvme_simulation.specs.Plans.{Follows, IsFirst, IsNext, IsOfPicks, events_of, is_pick, picks_behind}
+use Rattle.nvme_simulation.specs.Plans.{Follows, IsFirst, IsOfPicks, events_of, is_pick, picks_behind}
 use Rattle.nvme_simulation.specs.Stepping.{HasStepped}
-use Rattle.nvme_simulation.specs.Steps.{cost, cost_in, cost_with, picked_in, steps_left}
+use Rattle.nvme_simulation.specs.Steps.{cost, cost_in, cost_with, picked_in}
 use Rattle.nvme_simulation.specs.Times.{now_of}
 use Rattle.nvme_simulation.specs.declared.agenda.Agenda.{Agenda}
 use Rattle.nvme_simulation.specs.declared.agenda.Event.{Event}
@@ -18,7 +18,6 @@ use Rattle.nvme_simulation.specs.declared.happening.Happening.{Happening}
 use Rattle.nvme_simulation.specs.declared.happening.Happening.TheVariants.{Came, Picked, Settled, Finished, Paused, Resumed, Over}
 use Rattle.nvme_simulation.specs.declared.machine.Machine.{Machine}
 use Rattle.nvme_simulation.specs.declared.simulation.Simulation.{Simulation}
-use Rattle.nvme_simulation.specs.Simulations.{time_of}
 use Rattle.nvme_simulation.proofs.Handling.{event_picks, first_comes}
 
 pub if_ok : {T E : Type 0} (P Q : T → Type 0) (r : Result T E) → ((x : T) → P x → Q x) → IfOk r P → IfOk r Q
@@ -62,7 +61,7 @@ pub event_steps : (a b : Simulation) (g : Agenda) (event : Event) (h : Happening
     → cost_in a.machine.agenda ≡ cost_in g + cost (now_of g) event → Stays (reached a g) b → Handles event (reached a g) b h → HasStepped a b h
 event_steps a b g event h picks what rest costs stays handles = record {
   next = rw picks (first_comes (popped (events_of a.machine.agenda)) event (events_of b.machine.agenda) h what handles.tells
-  (subst (λ (before : Held Event). Follows before (events_of b.machine.agenda)) rest stays.works.events));
+      (subst (λ (before : Held Event). Follows before (events_of b.machine.agenda)) rest stays.works.events));
   picks = ap (λ (s : Simulation). s.picks) stays.rest ∙ sym (event_picks event h a.picks handles.tells);
   timed = handles.timed;
   counts = handles.counts;

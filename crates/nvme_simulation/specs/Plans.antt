@@ -1,5 +1,5 @@
 -- The events to come. (profile)
-use Rattle.std.specs.Prelude.{◌≡◌, ◌⊎◌, ℕ, Bool, true, false, List, [], ◌∷◌, Option, Some, None}
+use Rattle.std.specs.Prelude.{◌≡◌, ℕ, Bool, true, false, List, [], ◌∷◌, Option, Some, None}
 use Rattle.nvme_clock.specs.Held.{Held, held, popped, pushed}
 use Rattle.nvme_clock.specs.declared.events.Event.{Event as Timed}
 use Rattle.nvme_simulation.specs.declared.agenda.Agenda.{Agenda}

@@ -2,7 +2,7 @@
 use Rattle.std.specs.Prelude.{◌≡◌, ◌⊎◌, ◌<◌, ℕ, ◌+◌, ◌-◌, ◌*◌, if◌then◌else◌, Option, Some, None, sum_by}
 use Rattle.nvme_clock.specs.declared.events.Event.{Event as Timed}
 use Rattle.nvme_simulation.specs.Devices.{room_in}
-use Rattle.nvme_simulation.specs.Plans.{Plan, events_of}
+use Rattle.nvme_simulation.specs.Plans.{events_of}
 use Rattle.nvme_simulation.specs.declared.agenda.Agenda.{Agenda}
 use Rattle.nvme_simulation.specs.declared.agenda.Event.{Event}
 use Rattle.nvme_simulation.specs.declared.agenda.Event.TheVariants.{Arrival, End, Pause, Resume}

@@ -1,4 +1,4 @@
-use Rattle.std.proofs.Common.{Some, arith, sym, subst, Option, ℕ, ◌≤◌, ◌+◌}
+use Rattle.std.proofs.Common.{arith, sym, subst, Option, ℕ, ◌≤◌, ◌+◌}
 use Rattle.nvme_simulation.proofs.Plans.{follows_pushed, pushed_cost}
 use Rattle.nvme_simulation.specs.Plans.{events_of}
 use Rattle.nvme_simulation.specs.Steps.{cost_at, cost_in}

@@ -1,6 +1,6 @@
 use Rattle.std.proofs.Common.{◌≡◌, ◌∙◌, ◌≤◌, ◌+◌, ap, sym, subst}
 use Rattle.nvme_channels.specs.Devices.{Device, device_of, room_of}
-use Rattle.nvme_channels.specs.Runs.{Step, Finish}
+use Rattle.nvme_channels.specs.Runs.{Finish}
 use Rattle.nvme_channels.specs.Steps.{finish_of}
 use Rattle.nvme_simulation.specs.Devices.{device_in}
 use Rattle.nvme_simulation.proofs.Rooms.{behind_none, behind_one, finish_room}

@@ -1,5 +1,5 @@
 use Rattle.std.proofs.Common.{ap}
-use Rattle.nvme_channels.specs.Runs.{Step, Pause}
+use Rattle.nvme_channels.specs.Runs.{Pause}
 use Rattle.nvme_simulation.proofs.Rooms.{behind_one}
 use Rattle.nvme_simulation.proofs.channels.Runs.pause.Goals as goal
 

@@ -1,6 +1,6 @@
 use Rattle.std.proofs.Common.{◌≡◌, ◌∙◌, ◌≤◌, ap, sym, subst}
 use Rattle.nvme_channels.specs.Devices.{Device, device_of, room_of}
-use Rattle.nvme_channels.specs.Runs.{Step, Resume}
+use Rattle.nvme_channels.specs.Runs.{Resume}
 use Rattle.nvme_channels.specs.Steps.{resume_of}
 use Rattle.nvme_simulation.specs.Devices.{device_in}
 use Rattle.nvme_simulation.proofs.Rooms.{behind_one, resume_room}

@@ -1,6 +1,6 @@
 use Rattle.std.proofs.Common.{◌≡◌, ◌∙◌, ◌+◌, ◌<◌, length, ap, sym, arith}
 use Rattle.nvme_channels.specs.Devices.{Device, device_of, room_of}
-use Rattle.nvme_channels.specs.Runs.{Step, Take}
+use Rattle.nvme_channels.specs.Runs.{Take}
 use Rattle.nvme_channels.specs.Steps.{take_of}
 use Rattle.nvme_simulation.specs.Devices.{device_in}
 use Rattle.nvme_simulation.proofs.Rooms.{behind_one, take_room}

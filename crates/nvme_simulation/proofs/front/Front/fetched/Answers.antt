@@ -2,7 +2,6 @@ use Rattle.std.proofs.Common.{List, inl, inr, sym, subst}
 use Rattle.std.proofs.lemmas.Bool.{cases_Bool}
 use Rattle.nvme_ctrl.specs.Standing.{IsController}
 use Rattle.nvme_ctrl.specs.declared.slot.Slot.{Slot}
-use Rattle.nvme_ctrl.specs.declared.state.Controller.{Controller}
 use Rattle.nvme_simulation.specs.Fronts.{Arbitrates}
 use Rattle.nvme_simulation.proofs.Pools.{fetched, at_pool, unchanged}
 use Rattle.nvme_simulation.proofs.front.Front.fetched.Goals as goal
@@ -15,10 +14,10 @@ returns c =
       front = record {
         is = at_pool (λ (xs : List Slot). IsController made xs) c.args.self.now.pool _ c.fetched.new.slots value c.fetched.ensures.size c.fetched.ensures.front;
         arbitrates = λ m s a. at_pool (λ (xs : List Slot). Arbitrates m s made xs) c.args.self.now.pool _ c.fetched.new.slots value c.fetched.ensures.size
-        (let stood = subst (λ (xs : List Slot). Arbitrates m s c.args.self.now.controller xs) (sym value) a in
-        elim (cases_Bool c.fetched.result) [
-          | inl done ↦ fetched m s _ _ _ _ stood _ _ _ (c.fetched.ensures.stands stood.rules stood.late stood.notes stood.stands done)
-          | inr refused ↦ unchanged m s _ _ _ _ (c.fetched.ensures.refused refused) stood
-        ]);
+            (let stood = subst (λ (xs : List Slot). Arbitrates m s c.args.self.now.controller xs) (sym value) a in
+            elim (cases_Bool c.fetched.result) [
+              | inl done ↦ fetched m s _ _ _ _ stood _ _ _ (c.fetched.ensures.stands stood.rules stood.late stood.notes stood.stands done)
+              | inr refused ↦ unchanged m s _ _ _ _ (c.fetched.ensures.refused refused) stood
+            ]);
       };
     }

@@ -7,12 +7,12 @@ use Rattle.nvme_simulation.proofs.front.Front.new.Goals as goal
 pub returns-in-Ok : goal.returns-in-Ok
 returns-in-Ok c = record {
   front = at_pool (λ (xs : List Slot). Arbitrates c.args.mechanism c.args.settings c.in-Ok.controller xs) c.resize.new.self _ c.anywhere.new.slots
-  c.deref_mut.ensures.value c.in-Ok.ensures.size (record {
-    rules = _;
-    late = _;
-    notes = [];
-    stands = c.in-Ok.ensures.stands [];
-    mechanism_is = refl;
-    settings_are = refl;
-  });
+      c.deref_mut.ensures.value c.in-Ok.ensures.size (record {
+        rules = _;
+        late = _;
+        notes = [];
+        stands = c.in-Ok.ensures.stands [];
+        mechanism_is = refl;
+        settings_are = refl;
+      });
 }

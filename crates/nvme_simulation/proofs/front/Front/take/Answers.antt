@@ -12,9 +12,9 @@ returns-in_err-tag c =
       front = record {
         is = at_pool (λ (xs : List Slot). IsController c.take.new.self xs) c.args.self.now.pool _ c.take.new.slots value c.take.ensures.size c.take.ensures.front;
         arbitrates = λ m s a. at_pool (λ (xs : List Slot). Arbitrates m s c.take.new.self xs) c.args.self.now.pool _ c.take.new.slots value c.take.ensures.size
-        (let stood = subst (λ (xs : List Slot). Arbitrates m s c.args.self.now.controller xs) (sym value) a in
-        told m s _ _ _ _ _ c.take.result c.take.ensures.none (c.take.ensures.stands stood.rules stood.late stood.notes stood.stands)
-        (λ x h. again m s _ _ _ _ stood _ h.stands) stood);
+            (let stood = subst (λ (xs : List Slot). Arbitrates m s c.args.self.now.controller xs) (sym value) a in
+            told m s _ _ _ _ _ c.take.result c.take.ensures.none (c.take.ensures.stands stood.rules stood.late stood.notes stood.stands)
+            (λ x h. again m s _ _ _ _ stood _ h.stands) stood);
       };
     }
 
@@ -25,8 +25,8 @@ returns c =
       front = record {
         is = at_pool (λ (xs : List Slot). IsController c.take.new.self xs) c.args.self.now.pool _ c.take.new.slots value c.take.ensures.size c.take.ensures.front;
         arbitrates = λ m s a. at_pool (λ (xs : List Slot). Arbitrates m s c.take.new.self xs) c.args.self.now.pool _ c.take.new.slots value c.take.ensures.size
-        (let stood = subst (λ (xs : List Slot). Arbitrates m s c.args.self.now.controller xs) (sym value) a in
-        told m s _ _ _ _ _ c.take.result c.take.ensures.none (c.take.ensures.stands stood.rules stood.late stood.notes stood.stands)
-        (λ x h. again m s _ _ _ _ stood _ h.stands) stood);
+            (let stood = subst (λ (xs : List Slot). Arbitrates m s c.args.self.now.controller xs) (sym value) a in
+            told m s _ _ _ _ _ c.take.result c.take.ensures.none (c.take.ensures.stands stood.rules stood.late stood.notes stood.stands)
+            (λ x h. again m s _ _ _ _ stood _ h.stands) stood);
       };
     }

@@ -1,4 +1,4 @@
-use Rattle.std.proofs.Common.{arith, refl}
+use Rattle.std.proofs.Common.{arith}
 use Rattle.nvme_simulation.proofs.Machines.{goes_self, goes_then}
 use Rattle.nvme_simulation.proofs.machine.Machine.take_all.Goals as goal
 

@@ -1,4 +1,4 @@
-use Rattle.std.proofs.Common.{◌≡◌, ◌≤◌, ◌+◌}
+use Rattle.std.proofs.Common.{◌≤◌, ◌+◌}
 use Rattle.nvme_simulation.specs.Machines.{Goes}
 use Rattle.nvme_simulation.specs.Steps.{cost_with}
 use Rattle.nvme_simulation.proofs.machine.Machine.take_all.Given as goal

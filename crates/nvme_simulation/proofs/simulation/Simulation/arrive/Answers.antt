@@ -17,17 +17,17 @@ pub returns-in_err-count_one_more-clause-stays : goal.returns-in_err-count_one_m
 returns-in_err-count_one_more-clause-stays c = stays_occupancy _ _ c.requires.front c.count_one_more.ensures.rest
 
 pub returns-in_err-come-clause-stays : goal.returns-in_err-come-clause-stays
-returns-in_err-come-clause-stays c = 
+returns-in_err-come-clause-stays c =
     let counted = stays_occupancy c.args.self.now c.count_one_more.new.self c.requires.front c.count_one_more.ensures.rest in
     stays_then _ _ _ counted (stays_machine c.count_one_more.new.self c.come.new.self (works _ _ c.come.ensures.goes))
 
 pub returns-clause-stays : goal.returns-clause-stays
-returns-clause-stays c = 
+returns-clause-stays c =
     let counted = stays_occupancy c.args.self.now c.count_one_more.new.self c.requires.front c.count_one_more.ensures.rest in
     stays_then _ _ _ counted (stays_machine c.count_one_more.new.self c.come.new.self (works _ _ c.come.ensures.goes))
 
 pub returns-clause-handles : goal.returns-clause-handles
-returns-clause-handles c = 
+returns-clause-handles c =
     let old = c.args.self.now in
     let x = c.count_one_more.new.self in
     let after = record x { machine = c.come.new.self } in

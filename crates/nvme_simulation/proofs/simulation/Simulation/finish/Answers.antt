@@ -17,7 +17,7 @@ pub returns-in_err-taken-clause-stays : goal.returns-in_err-taken-clause-stays
 returns-in_err-taken-clause-stays c = stays_machine _ _ c.finish.ensures.works
 
 pub returns-in_err-command-clause-stays : goal.returns-in_err-command-clause-stays
-returns-in_err-command-clause-stays c = 
+returns-in_err-command-clause-stays c =
     let old = c.args.self.now in
     let ended = record old { machine = c.finish.new.self } in
     let first : Stays old ended = stays_machine old c.finish.new.self c.finish.ensures.works in
@@ -26,7 +26,7 @@ returns-in_err-command-clause-stays c =
     second
 
 pub returns-in_err-think-clause-stays : goal.returns-in_err-think-clause-stays
-returns-in_err-think-clause-stays c = 
+returns-in_err-think-clause-stays c =
     let old = c.args.self.now in
     let ended = record old { machine = c.finish.new.self } in
     let first : Stays old ended = stays_machine old c.finish.new.self c.finish.ensures.works in
@@ -37,7 +37,7 @@ returns-in_err-think-clause-stays c =
     third
 
 pub returns-in_err-submit-clause-stays : goal.returns-in_err-submit-clause-stays
-returns-in_err-submit-clause-stays c = 
+returns-in_err-submit-clause-stays c =
     let old = c.args.self.now in
     let ended = record old { machine = c.finish.new.self } in
     let first : Stays old ended = stays_machine old c.finish.new.self c.finish.ensures.works in
@@ -50,7 +50,7 @@ returns-in_err-submit-clause-stays c =
     stays
 
 pub returns-clause-stays : goal.returns-clause-stays
-returns-clause-stays c = 
+returns-clause-stays c =
     let old = c.args.self.now in
     let ended = record old { machine = c.finish.new.self } in
     let first : Stays old ended = stays_machine old c.finish.new.self c.finish.ensures.works in
@@ -63,7 +63,7 @@ returns-clause-stays c =
     stays
 
 pub returns-clause-handles : goal.returns-clause-handles
-returns-clause-handles c = 
+returns-clause-handles c =
     let old = c.args.self.now in
     let ended = record old { machine = c.finish.new.self } in
     let first : Stays old ended = stays_machine old c.finish.new.self c.finish.ensures.works in

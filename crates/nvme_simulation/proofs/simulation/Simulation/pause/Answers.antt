@@ -13,7 +13,7 @@ pub returns-clause-stays : goal.returns-clause-stays
 returns-clause-stays c = stays_machine _ _ (works _ _ c.pause.ensures.goes)
 
 pub returns-clause-handles : goal.returns-clause-handles
-returns-clause-handles c = 
+returns-clause-handles c =
     let old = c.args.self.now in
     let after = record old { machine = c.pause.new.self } in
     record {

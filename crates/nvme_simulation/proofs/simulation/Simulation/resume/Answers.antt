@@ -12,12 +12,12 @@ pub returns-in_err-resume-clause-stays : goal.returns-in_err-resume-clause-stays
 returns-in_err-resume-clause-stays c = stays_machine _ _ (works _ _ c.resume.ensures.goes)
 
 pub returns-in_err-plan_pause-clause-stays : goal.returns-in_err-plan_pause-clause-stays
-returns-in_err-plan_pause-clause-stays c = 
+returns-in_err-plan_pause-clause-stays c =
     let resumed = stays_machine c.args.self.now c.resume.new.self (works _ _ c.resume.ensures.goes) in
     stays_then _ _ _ resumed (stays_goes (record c.args.self.now { machine = c.resume.new.self }) c.plan_pause.new.self c.plan_pause.ensures.goes c.plan_pause.ensures.rest)
 
 pub returns-clause-stays : goal.returns-clause-stays
-returns-clause-stays c = 
+returns-clause-stays c =
     let resumed = stays_machine c.args.self.now c.resume.new.self (works _ _ c.resume.ensures.goes) in
     stays_then _ _ _ resumed (stays_goes (record c.args.self.now { machine = c.resume.new.self }) c.plan_pause.new.self c.plan_pause.ensures.goes c.plan_pause.ensures.rest)
 
