@@ -4,6 +4,7 @@
 
 mod digest;
 mod fault;
+mod lengths;
 mod loads;
 mod overrides;
 mod progress;

@@ -21,7 +21,7 @@ pub struct Overload<'a> {
 }
 
 // A part of a sum of parts of a number.
-fn part(number: u128, part: u128, whole: u128) -> u128 {
+pub(crate) fn part(number: u128, part: u128, whole: u128) -> u128 {
     let product = number.saturating_mul(part);
     product.checked_div(whole).unwrap_or(0)
 }
@@ -67,7 +67,7 @@ fn service_of(service: &Service, blocks: u32) -> u128 {
 }
 
 // The mean time of a queue's commands.
-fn mean_service(queue: &Queue) -> u128 {
+pub(crate) fn mean_service(queue: &Queue) -> u128 {
     let Mix { read, write, flush } = queue.mix;
     let (read, write, flush) = (u128::from(read), u128::from(write), u128::from(flush));
     let blocks = queue.places.extent.blocks;

@@ -3,11 +3,12 @@ ghost use Rattle.nvme_simulation.specs.Simulations.{IsSimulation};
 
 use crate::digest::Digest;
 use crate::fault::{SimulateFault, Stream};
+use crate::lengths::is_too_long;
 use crate::streams::Streams;
 use crate::watch::Watch;
 use nvme_model::Model;
 use nvme_numbers::{About, Answer, Numbers};
-use nvme_simulation::{Happening, Simulation};
+use nvme_simulation::{Happening, Simulation, SimulationFault};
 use nvme_version::VERSION;
 use std::alloc::Global;
 use std::io::Write;
@@ -101,7 +102,8 @@ fn run<L: Write, T: Write, P: Write>(
 }
 
 /// Runs a model to its end, and writes its answer, with the digest of its file. What happens is written to the streams
-/// meanwhile.
+/// meanwhile. A model whose commands would come for longer than the clock goes, by their mean times, is refused before
+/// anything is written.
 pub fn simulate<L: Write, T: Write, P: Write, W: Write>(
     alloc: Global,
     model: Model,
@@ -110,6 +112,9 @@ pub fn simulate<L: Write, T: Write, P: Write, W: Write>(
     streams: &mut Streams<L, T, P>,
     output: &mut W,
 ) -> Result<(), SimulateFault> {
+    if is_too_long(&model) {
+        return Err(SimulateFault::Simulation(SimulationFault::TooLong));
+    }
     let mut numbers = Numbers::new(alloc, &model)?;
     let mut watch = Watch::new(alloc, &model);
     streams.begin(&model)?;

@@ -1,4 +1,5 @@
 // The digest of `abc` is that of FIPS 180-4. Loads are worked out by hand.
+use crate::lengths::is_too_long;
 use crate::{
     Digest, Form, OverrideFault, Overrides, Progress, SimulateFault, Stream, Streams, overload_of,
     put_pick, put_trace_head, simulate,
@@ -182,6 +183,22 @@ fn a_model_is_simulated(rt: HostRuntime) -> Result<(), Fail> {
     );
     assert!(rt; done.is_ok());
     assert!(rt; trace.as_slice().starts_with(b"{\"version\":1,"));
+    Ok(())
+}
+
+// A command each 2^60 picoseconds, which are 16, beside a closed host that thinks 2^63, so that it has one turn of 8.
+#[test]
+fn commands_come_before_the_clock_ends(rt: HostRuntime) -> Result<(), Fail> {
+    for (commands, lasts) in [(24, false), (25, true)] {
+        let mut queues = Vec::new(rt.alloc());
+        queues.push(queue(Arrivals::Closed(Closed::new(8, 1 << 63)?))?)?;
+        queues.push(queue(Arrivals::Regular(Gap::new(1 << 60)?))?)?;
+        let device = Device::new(2, 4, Placement::Pool, None)?;
+        let settings = Settings::from_cdw11(0x0703_0103);
+        let end = End::after(commands)?;
+        let model = Model::new(Mechanism::Weighted, settings, device, queues, 7, end, 0)?;
+        assert_eq!(rt; is_too_long(&model), lasts);
+    }
     Ok(())
 }
 

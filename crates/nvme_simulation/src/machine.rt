@@ -263,15 +263,25 @@ impl Machine {
         self.agenda.plan(next, Event::Arrival(qid))
     }
 
-    // A command of a queue comes, and the next one behind it, but where that waits for a completion.
-    pub(crate) fn come(&mut self, qid: u16, counts: bool) -> Result<(), SimulationFault>
+    // Whether a command of a queue is followed by one that waits for no completion, where more come.
+    fn is_followed(&self, qid: u16, more: bool) -> bool {
+        more && !self.hosts.is_closed(qid)
+    }
+
+    // A command of a queue comes, and where more come the next one behind it, but where that waits for a completion.
+    pub(crate) fn come(
+        &mut self,
+        qid: u16,
+        counts: bool,
+        more: bool,
+    ) -> Result<(), SimulationFault>
         requires front { IsFront self.old.front }
         ensures goes { Goes self.old self.new }
         ensures cost { cost_with self.new ≤ cost_with self.old + 2 }
     {
         let now = self.agenda.now();
         self.hosts.come(now, qid, counts)?;
-        if self.hosts.is_closed(qid) {
+        if !self.is_followed(qid, more) {
             return self.submit(qid);
         }
         self.follow(qid, now)?;

@@ -145,7 +145,8 @@ impl Simulation {
         }
         let counts = self.occupancy.came >= self.warm_up;
         self.count_one_more()?;
-        self.machine.come(qid, counts)?;
+        let more = self.may_come();
+        self.machine.come(qid, counts, more)?;
         Ok(Happening::Came { queue: qid })
     }
 

@@ -5,8 +5,8 @@ use Rattle.nvme_simulation.proofs.machine.Machine.come.Goals as goal
 pub returns-in_err-come-clause-goes : goal.returns-in_err-come-clause-goes
 returns-in_err-come-clause-goes c = goes_front _ _ c.come.ensures.goes (front_stays _ c.requires.front) refl refl
 
-pub returns-then-is_closed-clause-goes : goal.returns-then-is_closed-clause-goes
-returns-then-is_closed-clause-goes c = goes_then _ _ _ (goes_front _ _ c.come.ensures.goes (front_stays _ c.requires.front) refl refl) c.submit.ensures.goes
+pub returns-then-not-is_followed-clause-goes : goal.returns-then-not-is_followed-clause-goes
+returns-then-not-is_followed-clause-goes c = goes_then _ _ _ (goes_front _ _ c.come.ensures.goes (front_stays _ c.requires.front) refl refl) c.submit.ensures.goes
 
 pub returns-in_err-follow-clause-goes : goal.returns-in_err-follow-clause-goes
 returns-in_err-follow-clause-goes c = goes_then _ _ _ (goes_front _ _ c.come.ensures.goes (front_stays _ c.requires.front) refl refl) c.follow.ensures.goes
