@@ -1,11 +1,12 @@
 // Draws a trace.
 ghost use Rattle.std.specs.Prelude.{◌≡◌, [], ◌∷◌, OnOk, IfOk, IfErr, IfSome};
 ghost use Rattle.nvme_arbiter.specs.History.{History, Picked, Changed};
+ghost use Rattle.nvme_trace.specs.declared.basis.Basis.TheVariants.{Specification};
 ghost use Rattle.nvme_trace.specs.declared.records.Head.{Head};
 ghost use Rattle.nvme_trace.specs.declared.fault.TraceError.TheVariants as fault;
 ghost use Rattle.nvme_stats.specs.Chosen.{last_before};
 ghost use Rattle.nvme_stats.specs.declared.selection.Selection.{Selection};
-ghost use Rattle.nvme_trace.specs.Shown.{IsShown, IsReadFault};
+ghost use Rattle.nvme_trace.specs.Shown.{IsShownBy, IsReadFaultBy};
 ghost use Rattle.nvme_chart.specs.Pictured.{IsPictured, IsPicturedPart};
 
 mod bars;
@@ -299,22 +300,23 @@ pub fn chart<R: Read + Drop>(
     reader: R,
     selection: Selection,
 ) -> Result<Picture, TraceError>
-    ensures pictured { IfOk result (λ picture. IfSome (R.remaining reader) (λ text. IsShown text (λ head past. IsPicturedPart selection head past picture))) }
-    ensures fault { IfErr result (λ error. IfSome (R.remaining reader) (λ text. IsReadFault text error)) }
+    ensures pictured { IfOk result (λ picture. IfSome (R.remaining reader) (λ text. IsShownBy Specification text (λ head past. IsPicturedPart selection head past picture))) }
+    ensures fault { IfErr result (λ error. IfSome (R.remaining reader) (λ text. IsReadFaultBy Specification text error)) }
 {
     chart_in(alloc, reader, selection, Style::COMMON)
 }
 
-/// Draws the picks of a selection of a trace. It is read as a stream, and its picks aren't judged. Refused with the
-/// first faulty line, a failed read or no memory, as `nvme_trace::check` is.
+/// Draws the picks of a selection of a trace. It is read as a stream, and its picks aren't judged. `fresh` may be
+/// missing: no round is marked at such a pick. Refused with the first faulty line, a failed read or no memory, as
+/// `nvme_trace::check_by` is where the specification alone judges.
 pub fn chart_in<R: Read + Drop>(
     alloc: Global,
     reader: R,
     selection: Selection,
     style: Style,
 ) -> Result<Picture, TraceError>
-    ensures pictured { IfOk result (λ picture. IfSome (R.remaining reader) (λ text. IsShown text (λ head past. IsPicturedPart selection head past picture))) }
-    ensures fault { IfErr result (λ error. IfSome (R.remaining reader) (λ text. IsReadFault text error)) }
+    ensures pictured { IfOk result (λ picture. IfSome (R.remaining reader) (λ text. IsShownBy Specification text (λ head past. IsPicturedPart selection head past picture))) }
+    ensures fault { IfErr result (λ error. IfSome (R.remaining reader) (λ text. IsReadFaultBy Specification text error)) }
 {
     let mut trace = Trace::new(alloc, reader);
     let head = trace.head(alloc)?;

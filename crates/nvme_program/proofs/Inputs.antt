@@ -24,13 +24,13 @@ use Rattle.nvme_trace.specs.Checks.{IsFaultBy, IsLawfulBy, IsRefusedBy}
 use Rattle.nvme_trace.specs.declared.fault.TraceError.{TraceError}
 use Rattle.nvme_trace.specs.declared.fault.TraceError.TheVariants as trace
 use Rattle.nvme_trace.specs.declared.basis.Basis.{Basis}
-use Rattle.nvme_trace.specs.declared.basis.Basis.TheVariants.{Profile}
+use Rattle.nvme_trace.specs.declared.basis.Basis.TheVariants.{Profile, Specification}
 use Rattle.nvme_trace.specs.Surveys.{AreNone, IsSurvey}
 use Rattle.nvme_trace.specs.declared.survey.Survey.{Survey}
 use Rattle.nvme_trace.proofs.SurveyLemmas.{lawful_survey}
 use Rattle.nvme_trace.specs.declared.judges.Reason.{Reason}
 use Rattle.nvme_trace.specs.declared.records.Head.{Head}
-use Rattle.nvme_trace.specs.Shown.{IsReadFault, IsShown}
+use Rattle.nvme_trace.specs.Shown.{IsReadFaultBy, IsShownBy}
 use Rattle.nvme_lint.specs.Lints.{IsLawful}
 use Rattle.nvme_lint.specs.Warnings.{AreWarningsOf}
 use Rattle.nvme_lint.specs.declared.warning.Warning.{Warning}
@@ -41,7 +41,7 @@ use Rattle.nvme_short.specs.declared.told.ShortFault.{ShortFault}
 use Rattle.nvme_short.specs.declared.expansion.ExpandError.TheVariants as short
 use Rattle.nvme_short.specs.Expansion.{StandsFor, TellsShortFault}
 use Rattle.nvme_program.specs.Files.{IsBadFile, OfFile}
-use Rattle.nvme_program.specs.Statuses.{IsBadEntry, IsBadWorkload, IsNoWorkload, IsTooLong, run_status, status_of, trace_status}
+use Rattle.nvme_program.specs.Statuses.{IsBadEntry, IsBadWorkload, IsNoWorkload, run_status, status_of, trace_status}
 use Rattle.nvme_words.specs.Requests.{IsAskedBy}
 use Rattle.nvme_words.specs.declared.requests.Request.{Request}
 use Rattle.nvme_words.specs.declared.requests.OptionsFault.TheVariants as unfit
@@ -126,7 +126,7 @@ run_failed contents old new input bytes mode (run.Front f) whole untouched faile
 run_failed contents old new input bytes mode run.GaveUp whole untouched failed = inl (untouched (λ q. cc q))
 
 -- a text that is shown is a head and events
-pub is_trace : (input : Option (List ℕ)) (P : Head → History → Type 0) → IfSome input (λ text. IsShown text P) → IfSome input IsTrace
+pub is_trace : (input : Option (List ℕ)) (P : Head → History → Type 0) → IfSome input (λ text. IsShownBy Specification text P) → IfSome input IsTrace
 is_trace None P h = tt
 is_trace (Some text) P h = record { head = h.head; past = h.past; tells = h.tells; holds = tt }
 
@@ -188,11 +188,11 @@ faulty_trace basis (Some text) trace.Read h one = absurd (cc one)
 faulty_trace basis (Some text) trace.NoMemory h one = absurd (cc one)
 
 -- a line of a trace that is shown has a fault
-pub faulty_shown : (input : Option (List ℕ)) (e : TraceError) → IfSome input (λ text. IsReadFault text e) → trace_status e ≡ 1 → IfSome input IsFaultyShown
-faulty_shown None e h one = tt
-faulty_shown (Some text) (trace.Line line f note) h one = (line, f, note, h)
-faulty_shown (Some text) trace.Read h one = absurd (cc one)
-faulty_shown (Some text) trace.NoMemory h one = absurd (cc one)
+pub faulty_shown : (basis : Basis) (input : Option (List ℕ)) (e : TraceError) → IfSome input (λ text. IsReadFaultBy basis text e) → trace_status e ≡ 1 → IfSome input (IsFaultyShown basis)
+faulty_shown basis None e h one = tt
+faulty_shown basis (Some text) (trace.Line line f note) h one = (line, f, note, h)
+faulty_shown basis (Some text) trace.Read h one = absurd (cc one)
+faulty_shown basis (Some text) trace.NoMemory h one = absurd (cc one)
 
 -- each pick of a trace is allowed, and that was written
 pub told_lawful : (basis : Basis) (input : Option (List ℕ)) (picks : ℕ) (old new : Option (List ℕ)) → IfSome input (λ text. IsLawfulBy basis text picks) → Appends old new (lawful_line picks)
@@ -259,13 +259,13 @@ bad_run words bytes asked bad = inr (inl (asked, bad))
 pub bad_check : (basis : Basis) (words : List (String Global)) (bytes : List ℕ) → IsJudgedBy words basis → IsBadTrace basis bytes → IsBadInput words bytes
 bad_check basis words bytes asked bad = inr (inr (inl (basis, asked, bad)))
 
-pub bad_shown : (words : List (String Global)) (bytes : List ℕ) → shows_trace words ≡ true → IsFaultyShown bytes → IsBadInput words bytes
+pub bad_shown : (words : List (String Global)) (bytes : List ℕ) → shows_trace words ≡ true → IsFaultyShown Specification bytes → IsBadInput words bytes
 bad_shown words bytes asked bad = inr (inr (inr (inl (asked, bad))))
 
 pub bad_file_read : (words : List (String Global)) (bytes : List ℕ) → reads_file words ≡ true → IsBadFile bytes → IsBadInput words bytes
 bad_file_read words bytes asked bad = inr (inr (inr (inr (inl (asked, bad)))))
 
-pub bad_all : (words : List (String Global)) (bytes : List ℕ) → AsksForMore words → IsFaultyShown bytes ⊎ IsDiffering bytes → IsBadInput words bytes
+pub bad_all : (words : List (String Global)) (bytes : List ℕ) → AsksForMore words → IsFaultyShown Profile bytes ⊎ IsDiffering bytes → IsBadInput words bytes
 bad_all words bytes asked bad = inr (inr (inr (inr (inr (asked, bad)))))
 
 pub faulty_is_bad : (basis : Basis) (bytes : List ℕ) → IsFaultyTrace basis bytes → IsBadTrace basis bytes

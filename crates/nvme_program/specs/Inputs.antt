@@ -11,7 +11,7 @@ use Rattle.nvme_trace.specs.declared.fault.TraceError.TheVariants as trace
 use Rattle.nvme_trace.specs.declared.basis.Basis.{Basis}
 use Rattle.nvme_trace.specs.declared.basis.Basis.TheVariants.{Profile, Specification}
 use Rattle.nvme_trace.specs.declared.judges.Reason.{Reason}
-use Rattle.nvme_trace.specs.Shown.{IsReadFault, IsShown}
+use Rattle.nvme_trace.specs.Shown.{IsReadFaultBy, IsShownBy}
 use Rattle.nvme_runs.specs.declared.runs.Ran.{Ran}
 use Rattle.nvme_lint.specs.Warnings.{AreWarningsOf}
 use Rattle.nvme_lint.specs.declared.warning.Warning.{Warning}
@@ -63,13 +63,13 @@ IsToldBy basis old new bytes = (picks : ℕ) × IsLawfulBy basis bytes picks × 
 abbrev pub IsToldLawful : Option (List ℕ) → Option (List ℕ) → List ℕ → Type 0
 IsToldLawful old new bytes = IsToldBy Profile old new bytes
 
--- a text is a head and events
+-- a text is a head and events, in which `fresh` may be missing
 abbrev pub IsTrace : List ℕ → Type 0
-IsTrace bytes = IsShown bytes (λ head past. Unit {0})
+IsTrace bytes = IsShownBy Specification bytes (λ head past. Unit {0})
 
--- a trace that is shown has a line with a fault, and the lines before it are a head and events
-abbrev pub IsFaultyShown : List ℕ → Type 0
-IsFaultyShown bytes = (line : ℕ) × (fault : LineFault) × (note : String Global) × IsReadFault bytes (trace.Line line fault note)
+-- a trace whose picks aren't judged one by one has a line with a fault, and the lines before it are a head and events
+abbrev pub IsFaultyShown : Basis → List ℕ → Type 0
+IsFaultyShown basis bytes = (line : ℕ) × (fault : LineFault) × (note : String Global) × IsReadFaultBy basis bytes (trace.Line line fault note)
 
 -- a workload has warnings
 abbrev pub HasWarnings : List ℕ → Type 0
@@ -82,8 +82,8 @@ HasNoWarning bytes = AreWarningsOf bytes []
 -- an input at fault, by the word that asks for it
 abbrev pub IsBadInput : List (String Global) → List ℕ → Type 0
 IsBadInput words bytes = ((asks (codes "once") words ≡ true) × IsBadEntry bytes) ⊎ ((reads_workload words ≡ true) × IsBadWorkload bytes)
-    ⊎ ((basis : Basis) × IsJudgedBy words basis × IsBadTrace basis bytes) ⊎ ((shows_trace words ≡ true) × IsFaultyShown bytes)
-    ⊎ ((reads_file words ≡ true) × IsBadFile bytes) ⊎ (AsksForMore words × (IsFaultyShown bytes ⊎ IsDiffering bytes))
+    ⊎ ((basis : Basis) × IsJudgedBy words basis × IsBadTrace basis bytes) ⊎ ((shows_trace words ≡ true) × IsFaultyShown Specification bytes)
+    ⊎ ((reads_file words ≡ true) × IsBadFile bytes) ⊎ (AsksForMore words × (IsFaultyShown Profile bytes ⊎ IsDiffering bytes))
 
 -- the words ask for a check, and a pick of the input isn't allowed, or isn't the one of this front
 abbrev pub IsRefusedCheck : List (String Global) → Option (List ℕ) → Type 0

@@ -64,7 +64,6 @@ status_of (fault.Run e) = run_status e
 status_of (fault.Workload f) = 1
 status_of (fault.Short f) = 1
 status_of (fault.Trace e) = trace_status e
-status_of (fault.Shown e) = trace_status e
 status_of (fault.Settings f) = 2
 status_of (fault.Options f) = 2
 status_of (fault.Placed w f) = 1

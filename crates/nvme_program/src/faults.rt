@@ -7,7 +7,7 @@ use crate::second_line::SecondLine;
 use nvme_front::FrontError;
 use nvme_runs::RunError;
 use nvme_settings::SettingsFault;
-use nvme_trace::{Field, LineFault, TraceError};
+use nvme_trace::TraceError;
 use nvme_words::{InputError, MAX_INPUT, OnceError, OptionsFault, WordsError, reads_input_alone};
 use nvme_workload::WorkloadError;
 use std::alloc::{AllocError, Global};
@@ -38,9 +38,6 @@ pub(crate) enum Fault {
     Short(nvme_short::ShortFault),
     #[error("nvmearb: {0}")]
     Trace(TraceError),
-    // Of a trace that is shown and not judged.
-    #[error("nvmearb: {0}")]
-    Shown(TraceError),
     #[error("nvmearb: settings: {0}")]
     Settings(SettingsFault),
     #[error("nvmearb: {0}")]
@@ -85,12 +82,12 @@ impl Fault {
             Fault::Entry(_) | Fault::Input(InputError::TooLong) => 1,
             Fault::Run(RunError::Workload(_)) => 1,
             Fault::Workload(_) | Fault::Placed(..) | Fault::Short(_) => 1,
-            Fault::Trace(TraceError::Line { .. }) | Fault::Shown(TraceError::Line { .. }) => 1,
+            Fault::Trace(TraceError::Line { .. }) => 1,
             Fault::CommandLine(_) | Fault::Words | Fault::Settings(_) | Fault::Options(_) => 2,
             Fault::Run(RunError::Workers) => 2,
             Fault::Input(_) | Fault::NoMemory(_) | Fault::Write => 3,
             Fault::Run(_) | Fault::Front(_) | Fault::GaveUp(_) | Fault::TooLong { .. } => 3,
-            Fault::Trace(_) | Fault::Shown(_) => 3,
+            Fault::Trace(_) => 3,
         }
     }
 
@@ -124,19 +121,6 @@ impl Fault {
                 writeln!(
                     errors,
                     "{self}\nnvmearb: its script has {commands} commands, and its ring of {slots} slots holds {held}: take --live"
-                )
-            }
-            Fault::Shown(
-                TraceError::Line {
-                    line,
-                    fault: LineFault::Missing(Field::Fresh),
-                    ..
-                },
-            ) => {
-                let fault = LineFault::Missing(Field::Fresh);
-                writeln!(
-                    errors,
-                    "nvmearb: trace: line {line}: {fault}: wanted true or false"
                 )
             }
             Fault::Input(InputError::TooLong) if !reads_input_alone(words) => {

@@ -4,21 +4,22 @@ use Rattle.std.specs.Prelude.{IfSome}
 use mathlib.Core.List.{reverse-cons, reverse-reverse}
 use Rattle.nvme_arbiter.specs.History.{ArbitrationEvent, History}
 use Rattle.nvme_trace.specs.Lines.{lines_of, numbered, told_lines, TakesTold, HasNoTold}
-use Rattle.nvme_trace.specs.Format.{head_of_line, event_of_line}
-use Rattle.nvme_trace.specs.Faults.{IsHeadFault, IsEventFault}
-use Rattle.nvme_trace.specs.Checks.{Tells}
+use Rattle.nvme_trace.specs.Format.{head_of_line, event_by}
+use Rattle.nvme_trace.specs.Faults.{IsHeadFault, IsEventFaultBy}
+use Rattle.nvme_trace.specs.Checks.{TellsBy}
 use Rattle.nvme_trace.specs.declared.fault.TraceError.{TraceError}
 use Rattle.nvme_trace.specs.declared.fault.TraceError.TheVariants as error
+use Rattle.nvme_trace.specs.declared.basis.Basis.TheVariants.{Specification}
 use Rattle.nvme_trace.specs.declared.records.Head.{Head}
 use Rattle.nvme_stats.specs.Chosen.{chosen, chooses, number_after}
 use Rattle.nvme_stats.specs.declared.selection.Selection.{Selection}
 use Rattle.nvme_arbiter.specs.declared.settings.Mechanism.{Mechanism}
-use Rattle.nvme_trace.specs.Shown.{IsShown, IsReadUpTo, IsReadFault}
+use Rattle.nvme_trace.specs.Shown.{IsShownBy, IsReadUpToBy, IsReadFaultBy}
 
 -- this many lines were read, and this holds of what they say
 pub record IsShownUpTo (text rest : List ℕ) (number : ℕ) (head : Head) (P : History → Type 0) : Type 0 where
   pub past : History
-  pub before : IsReadUpTo text rest number head past
+  pub before : IsReadUpToBy Specification text rest number head past
   pub holds : P past
 
 abbrev pub ShownUpTo : List ℕ → Option (List ℕ) → ℕ → Head → (History → Type 0) → Type 0
@@ -40,7 +41,7 @@ shown_head text n (Some rest) head P (line, split, is) p = record {
 
 -- after one event more
 pub shown_more : (text : List ℕ) (m : ℕ) (old : Option (List ℕ)) (n : ℕ) (new : Option (List ℕ)) (head : Head) (P Q : History → Type 0) (e : ArbitrationEvent)
-    → ShownUpTo text old m head P → TakesTold (λ line. event_of_line line ≡ Ok e) m old n new → ((past : History) → P past → Q (e ∷ past))
+    → ShownUpTo text old m head P → TakesTold (λ line. event_by Specification line ≡ Ok e) m old n new → ((past : History) → P past → Q (e ∷ past))
     → ShownUpTo text new n head Q
 shown_more text m None n new head P Q e j t f = absurd j
 shown_more text m (Some xs) n None head P Q e j t f = absurd t
@@ -55,7 +56,7 @@ shown_more text m (Some xs) n (Some ys) head P Q e j (line, split, is) f = recor
 }
 
 -- after the last line
-pub shown_all : (text : List ℕ) (old : Option (List ℕ)) (number : ℕ) (head : Head) (P : Head → History → Type 0) → ShownUpTo text old number head (P head) → HasNoTold number old → IsShown text P
+pub shown_all : (text : List ℕ) (old : Option (List ℕ)) (number : ℕ) (head : Head) (P : Head → History → Type 0) → ShownUpTo text old number head (P head) → HasNoTold number old → IsShownBy Specification text P
 shown_all text None number head P j n = absurd j
 shown_all text (Some xs) number head P j n =
     let lines : List (ℕ × List ℕ) = j.before.lines in
@@ -63,7 +64,7 @@ shown_all text (Some xs) number head P j n =
     let back : lines ≡ reverse (told_lines text) = sym (ap reverse all ∙ reverse-reverse lines) in record {
       head = head;
       past = j.past;
-      tells = subst (Tells head j.past) back j.before.tells;
+      tells = subst (TellsBy Specification head j.past) back j.before.tells;
       holds = j.holds;
     }
 
@@ -74,13 +75,13 @@ shown_weaker text None number head P Q j f = j
 shown_weaker text (Some xs) number head P Q j f = record { past = j.past; before = j.before; holds = f j.past j.holds }
 
 -- at a line that is faulty
-pub shown_fault : (text : List ℕ) (old : Option (List ℕ)) (number : ℕ) (head : Head) (P : History → Type 0) (e : TraceError) → ShownUpTo text old number head P → IsEventFault e number old → IsReadFault text e
+pub shown_fault : (text : List ℕ) (old : Option (List ℕ)) (number : ℕ) (head : Head) (P : History → Type 0) (e : TraceError) → ShownUpTo text old number head P → IsEventFaultBy Specification e number old → IsReadFaultBy Specification text e
 shown_fault text None number head P e j f = absurd j
 shown_fault text (Some xs) number head P e j f = inr (record { head = head; past = j.past; number = number; rest = xs; before = j.before; fault = f })
 
 -- memory was refused, or a read failed
-pub no_memory : (text : List ℕ) (e : TraceError) → e ≡ error.NoMemory → IsReadFault text e
-no_memory text e is = subst (λ (x : TraceError). IsReadFault text x) (sym is) (inl tt)
+pub no_memory : (text : List ℕ) (e : TraceError) → e ≡ error.NoMemory → IsReadFaultBy Specification text e
+no_memory text e is = subst (λ (x : TraceError). IsReadFaultBy Specification text x) (sym is) (inl tt)
 
 -- ---- the chosen events
 
@@ -108,7 +109,7 @@ none_chosen m s past e b P is off p = rw (sym is ∙ off) p
 
 -- ---- the whole text
 
-pub head_fault : (known : Option (List ℕ)) (e : TraceError) → IsHeadFault e 0 known → IfSome known (λ text. IsReadFault text e)
+pub head_fault : (known : Option (List ℕ)) (e : TraceError) → IsHeadFault e 0 known → IfSome known (λ text. IsReadFaultBy Specification text e)
 head_fault None e f = tt
 head_fault (Some text) e f = inl f
 
@@ -120,17 +121,17 @@ later P (Some text) n new head t h = h text t
 -- what is shown of a text whose head was read, and its fault
 pub shown_at : (P : Head → History → Type 0) (Start : Head → Type 0) (known rest : Option (List ℕ)) (n : ℕ) (new : Option (List ℕ)) (head : Head) → rest ≡ known
     → TakesTold (λ line. head_of_line line ≡ Ok head) 0 rest n new → Start head
-    → ((text : List ℕ) (h : Head) → TakesTold (λ line. head_of_line line ≡ Ok h) 0 (Some text) n new → Start h → IsShown text P)
-    → IfSome known (λ text. IsShown text P)
+    → ((text : List ℕ) (h : Head) → TakesTold (λ line. head_of_line line ≡ Ok h) 0 (Some text) n new → Start h → IsShownBy Specification text P)
+    → IfSome known (λ text. IsShownBy Specification text P)
 shown_at P Start known rest n new head is t s f =
-    later (λ text. IsShown text P) known n new head (subst (λ (k : Option (List ℕ)). TakesTold (λ line. head_of_line line ≡ Ok head) 0 k n new) is t) (λ text took. f text head took s)
+    later (λ text. IsShownBy Specification text P) known n new head (subst (λ (k : Option (List ℕ)). TakesTold (λ line. head_of_line line ≡ Ok head) 0 k n new) is t) (λ text took. f text head took s)
 
 pub fault_at : (e : TraceError) (Start : Head → Type 0) (known rest : Option (List ℕ)) (n : ℕ) (new : Option (List ℕ)) (head : Head) → rest ≡ known
     → TakesTold (λ line. head_of_line line ≡ Ok head) 0 rest n new → Start head
-    → ((text : List ℕ) (h : Head) → TakesTold (λ line. head_of_line line ≡ Ok h) 0 (Some text) n new → Start h → IsReadFault text e)
-    → IfSome known (λ text. IsReadFault text e)
+    → ((text : List ℕ) (h : Head) → TakesTold (λ line. head_of_line line ≡ Ok h) 0 (Some text) n new → Start h → IsReadFaultBy Specification text e)
+    → IfSome known (λ text. IsReadFaultBy Specification text e)
 fault_at e Start known rest n new head is t s f =
-    later (λ text. IsReadFault text e) known n new head (subst (λ (k : Option (List ℕ)). TakesTold (λ line. head_of_line line ≡ Ok head) 0 k n new) is t) (λ text took. f text head took s)
+    later (λ text. IsReadFaultBy Specification text e) known n new head (subst (λ (k : Option (List ℕ)). TakesTold (λ line. head_of_line line ≡ Ok head) 0 k n new) is t) (λ text took. f text head took s)
 
-pub head_fault_at : (e : TraceError) (known rest : Option (List ℕ)) → rest ≡ known → IsHeadFault e 0 rest → IfSome known (λ text. IsReadFault text e)
+pub head_fault_at : (e : TraceError) (known rest : Option (List ℕ)) → rest ≡ known → IsHeadFault e 0 rest → IfSome known (λ text. IsReadFaultBy Specification text e)
 head_fault_at e known rest is f = head_fault known e (subst (λ (k : Option (List ℕ)). IsHeadFault e 0 k) is f)

@@ -2,9 +2,10 @@
 ghost use Rattle.std.specs.Prelude.{◌≡◌, [], ◌∷◌, IfOk, IfErr, IfSome, OnOk};
 ghost use Rattle.nvme_arbiter.specs.History.{History, Picked, Changed};
 ghost use Rattle.nvme_trace.specs.declared.fault.TraceError.TheVariants as fault;
+ghost use Rattle.nvme_trace.specs.declared.basis.Basis.TheVariants.{Specification};
 ghost use Rattle.nvme_trace.specs.declared.records.Head.{Head};
 ghost use Rattle.nvme_stats.specs.Chosen.{last_before};
-ghost use Rattle.nvme_trace.specs.Shown.{IsShown, IsReadFault};
+ghost use Rattle.nvme_trace.specs.Shown.{IsShownBy, IsReadFaultBy};
 ghost use Rattle.nvme_stats.specs.Counted.{IsCounted};
 ghost use Rattle.nvme_stats.specs.Looked.{IsCountedPart};
 ghost use Rattle.nvme_stats.specs.declared.selection.Selection.{Selection};
@@ -288,16 +289,16 @@ impl Watch for Statistics {
 }
 
 /// Counts what the picks of a selection show, and where a number of picks is given, what each so many of them show. The
-/// trace is read as a stream, and its picks aren't judged. Refused with the first faulty line, a failed read or no
-/// memory, as `nvme_trace::check` is.
+/// trace is read as a stream, its picks aren't judged, and `fresh` may be missing. Refused with the first faulty line, a
+/// failed read or no memory, as `nvme_trace::check_by` is where the specification alone judges.
 pub fn stats<R: Read + Drop>(
     alloc: Global,
     reader: R,
     selection: Selection,
     window: Option<u64>,
 ) -> Result<Statistics, TraceError>
-    ensures counted { IfOk result (λ counted. IfSome (R.remaining reader) (λ text. IsShown text (λ head past. IsCountedPart selection head past counted))) }
-    ensures fault { IfErr result (λ error. IfSome (R.remaining reader) (λ text. IsReadFault text error)) }
+    ensures counted { IfOk result (λ counted. IfSome (R.remaining reader) (λ text. IsShownBy Specification text (λ head past. IsCountedPart selection head past counted))) }
+    ensures fault { IfErr result (λ error. IfSome (R.remaining reader) (λ text. IsReadFaultBy Specification text error)) }
 {
     let mut trace = Trace::new(alloc, reader);
     let head = trace.head(alloc)?;

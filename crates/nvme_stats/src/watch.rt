@@ -3,15 +3,16 @@ ghost use Rattle.std.specs.Prelude.{◌≡◌, ◌+◌, List, ℕ, Some, Ok, [],
 ghost use Rattle.nvme_arbiter.specs.History.{History};
 ghost use Rattle.nvme_trace.specs.Format.{event_view, head_of_line};
 ghost use Rattle.nvme_trace.specs.Lines.{TakesTold};
+ghost use Rattle.nvme_trace.specs.declared.basis.Basis.TheVariants.{Specification};
 ghost use Rattle.nvme_trace.specs.declared.records.Head.{Head};
 ghost use Rattle.nvme_trace.specs.declared.fault.TraceError.TheVariants as fault;
 ghost use Rattle.nvme_stats.specs.Chosen.{IsPart, chosen, number_after};
 ghost use Rattle.nvme_stats.specs.Counted.{capped};
-ghost use Rattle.nvme_trace.specs.Shown.{IsShown, IsReadFault};
+ghost use Rattle.nvme_trace.specs.Shown.{IsShownBy, IsReadFaultBy};
 
 use crate::selection::{Chooser, Part, Selection};
 use nvme_arbiter::Mechanism;
-use nvme_trace::{Trace, TraceError, TraceEvent};
+use nvme_trace::{Basis, Trace, TraceError, TraceEvent};
 use std::alloc::Global;
 use std::io::Read;
 
@@ -58,7 +59,8 @@ fn show_one<W: Watch>(
     }
 }
 
-/// Shows the chosen events after the head to a watcher. The answer is the part of the trace that they are.
+/// Shows the chosen events after the head to a watcher. The answer is the part of the trace that they are. `fresh` may
+/// be missing from the line of a pick, and is false there.
 pub fn show<R: Read, W: Watch>(
     alloc: Global,
     trace: &mut Trace<R>,
@@ -66,8 +68,8 @@ pub fn show<R: Read, W: Watch>(
     selection: Selection,
     watcher: &mut W,
 ) -> Result<Part, TraceError>
-    ensures shown { IfOk result (λ part. (text : List ℕ) (first : Head) → TakesTold (λ line. head_of_line line ≡ Ok first) 0 (Some text) trace.old.number trace.old.rest → W.stands first [] watcher.old → first.mechanism ≡ mechanism → IsShown text (λ h past. W.stands h (chosen h.mechanism selection past) watcher.new × IsPart selection past part)) }
-    ensures fault { IfErr result (λ error. (text : List ℕ) (first : Head) → TakesTold (λ line. head_of_line line ≡ Ok first) 0 (Some text) trace.old.number trace.old.rest → W.stands first [] watcher.old → IsReadFault text error) }
+    ensures shown { IfOk result (λ part. (text : List ℕ) (first : Head) → TakesTold (λ line. head_of_line line ≡ Ok first) 0 (Some text) trace.old.number trace.old.rest → W.stands first [] watcher.old → first.mechanism ≡ mechanism → IsShownBy Specification text (λ h past. W.stands h (chosen h.mechanism selection past) watcher.new × IsPart selection past part)) }
+    ensures fault { IfErr result (λ error. (text : List ℕ) (first : Head) → TakesTold (λ line. head_of_line line ≡ Ok first) 0 (Some text) trace.old.number trace.old.rest → W.stands first [] watcher.old → IsReadFaultBy Specification text error) }
 {
     let mut chooser = Chooser {
         mechanism,
@@ -75,7 +77,7 @@ pub fn show<R: Read, W: Watch>(
         next: 1,
     };
     for _ in 1..u64::MAX {
-        let Some(event) = trace.event(alloc)? else {
+        let Some(event) = trace.event_by(alloc, Basis::Specification)? else {
             return Ok(Part {
                 selection,
                 next: chooser.next,

@@ -22,7 +22,7 @@ nothing_told basis head [] (line, is, h) = cc
 nothing_told basis head (e ∷ past) (line, earlier, is, says, more) = cc
 
 -- some lines tell one head and one history
-record AreSame (h k : Head) (p q : History) : Type 0 where
+pub record AreSame (h k : Head) (p q : History) : Type 0 where
   pub heads : h ≡ k
   pub pasts : p ≡ q
 
@@ -32,7 +32,7 @@ same_head r h k a b = cc
 same_event : (basis : Basis) (r : List ℕ) (h k : ArbitrationEvent) → event_by basis r ≡ Ok h → event_by basis r ≡ Ok k → h ≡ k
 same_event basis r h k a b = cc
 
-same_told : (basis : Basis) (h k : Head) (p q : History) (lines : List (ℕ × List ℕ)) → TellsBy basis h p lines → TellsBy basis k q lines → AreSame h k p q
+pub same_told : (basis : Basis) (h k : Head) (p q : History) (lines : List (ℕ × List ℕ)) → TellsBy basis h p lines → TellsBy basis k q lines → AreSame h k p q
 same_told basis h k [] [] lines (a, is, x) (b, at, y) =
     let e : a ≡ b = cc in
     record { heads = same_head b.1 h k (subst (λ (l : ℕ × List ℕ). head_of_line l.1 ≡ Ok h) e x) y; pasts = refl }

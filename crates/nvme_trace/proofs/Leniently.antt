@@ -1,17 +1,18 @@
 -- A trace that the profile reads and allows is read and allowed where the specification alone judges.
-use Rattle.std.proofs.Common.{◌≡◌, ◌≤◌, ◌==◌, Bool, reverse, arith, true, false, List, ◌∷◌, [], ℕ, Option, Some, None, refl}
+use Rattle.std.proofs.Common.{◌≡◌, ◌≤◌, ◌==◌, Bool, reverse, arith, true, false, List, ◌∷◌, [], ℕ, Option, Some, None, refl, sym}
 use Rattle.std.specs.Prelude.{is_some, ok_or, option_map, IfSome, if◌then◌else◌, Result, Ok, Err}
 use Rattle.std.proofs.lemmas.Bool.{eqb-false}
 use Rattle.serde_json.specs.Data.{Data}
 use Rattle.serde_json.specs.Find.{get, as_bool}
 use Rattle.nvme_arbiter.specs.History.{ArbitrationEvent, History}
+use Rattle.nvme_trace.proofs.Exactness.{same_told}
 use Rattle.nvme_trace.proofs.TakenLemmas.{lawful_taken, taken_specified}
 use Rattle.nvme_trace.specs.Fields.{text_of}
 use Rattle.nvme_trace.specs.Readings.{◌>>=◌, ◌>>◌, whole, number_at, flag_at}
 use Rattle.nvme_trace.specs.Format.{data_of, object_in, set_in, but_zero, room_at, room_in, room_read, room_by, rooms_of, fresh_in, pick_in, event_in, event_by}
 use Rattle.nvme_trace.specs.Lines.{told_lines}
 use Rattle.nvme_trace.specs.Taken.{TellSomeRoom}
-use Rattle.nvme_trace.specs.Checks.{TellsBy, LawfulTextsPass, LawfulTextsAreAllowed}
+use Rattle.nvme_trace.specs.Checks.{TellsBy, LawfulTextsPass, LawfulTextsAreAllowed, TextsAreReadAsWritten}
 use Rattle.nvme_trace.specs.declared.basis.Basis.TheVariants.{Profile, Specification}
 use Rattle.nvme_trace.specs.declared.fault.LineFault.{LineFault}
 use Rattle.nvme_trace.specs.declared.fault.LineFault.TheVariants.{Missing, Bad}
@@ -107,3 +108,9 @@ allowed text picks l = record {
   lawful = taken_specified l.head.mechanism l.head.settings l.past _ (rooms_some (reverse (told_lines text))) l.lawful;
   picks_are = l.picks_are;
 }
+
+pub read_as_written : TextsAreReadAsWritten
+read_as_written text head other past events w s =
+    let lines : List (ℕ × List ℕ) = reverse (told_lines text) in
+    let same = same_told Specification head other past events lines (lines_same head past lines w) s in
+    (sym same.heads, sym same.pasts)

@@ -106,3 +106,7 @@ LawfulTextsPass = (text : List ℕ) (picks : ℕ) → IsLawfulText text picks �
 -- what the profile allows the specification allows
 abbrev pub LawfulTextsAreAllowed : Type 0
 LawfulTextsAreAllowed = (text : List ℕ) (picks : ℕ) → IsLawfulBy Profile text picks → IsLawfulBy Specification text picks
+
+-- a text that is written as this front writes it is read so where `fresh` may be missing too
+abbrev pub TextsAreReadAsWritten : Type 0
+TextsAreReadAsWritten = (text : List ℕ) (head other : Head) (past events : History) → Tells head past (reverse (told_lines text)) → TellsBy Specification other events (reverse (told_lines text)) → (other ≡ head) × (events ≡ past)

@@ -3,7 +3,6 @@ use Rattle.std.specs.Prelude.{◌≡◌, ◌≢◌, ◌⊎◌, ℕ, List, [], Op
 use Rattle.nvme_trace.specs.Lines.{lines_of, numbered, StartsTold}
 use Rattle.nvme_trace.specs.Format.{head_of_line, event_by}
 use Rattle.nvme_trace.specs.declared.basis.Basis.{Basis}
-use Rattle.nvme_trace.specs.declared.basis.Basis.TheVariants.{Profile}
 use Rattle.nvme_trace.specs.declared.fault.LineFault.{LineFault}
 use Rattle.nvme_trace.specs.declared.fault.LineFault.TheVariants.{NoHead, NoMemory}
 use Rattle.nvme_trace.specs.declared.fault.TraceError.{TraceError}
@@ -31,6 +30,3 @@ abbrev pub IsEventFaultBy : Basis → TraceError → ℕ → Option (List ℕ) �
 IsEventFaultBy basis (error.Line line fault note) number rest = StartsTold (λ text. event_by basis text ≡ Err fault) number rest line
 IsEventFaultBy basis error.Read number rest = Unit {0}
 IsEventFaultBy basis error.NoMemory number rest = Unit {0}
-
-abbrev pub IsEventFault : TraceError → ℕ → Option (List ℕ) → Type 0
-IsEventFault error number rest = IsEventFaultBy Profile error number rest

@@ -37,9 +37,6 @@ abbrev pub IsReadFaultBy : Basis → List ℕ → TraceError → Type 0
 IsReadFaultBy basis text error = IsHeadFault error 0 (Some text) ⊎ IsLaterReadFaultBy basis text error
 
 -- ---- as this front writes them
-abbrev pub IsShown : List ℕ → (Head → History → Type 0) → Type 0
-IsShown text P = IsShownBy Profile text P
-
 abbrev pub IsReadUpTo : List ℕ → List ℕ → ℕ → Head → History → Type 0
 IsReadUpTo text rest number head past = IsReadUpToBy Profile text rest number head past
 

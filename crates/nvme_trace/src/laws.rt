@@ -1,5 +1,5 @@
 // Laws of traces.
-ghost use Rattle.nvme_trace.specs.Checks.{LawfulTextsAreAllowed, LawfulTextsPass, OneAnswer};
+ghost use Rattle.nvme_trace.specs.Checks.{LawfulTextsAreAllowed, LawfulTextsPass, OneAnswer, TextsAreReadAsWritten};
 ghost use Rattle.nvme_trace.specs.Surveys.{LawfulSurveys};
 ghost use Rattle.nvme_trace.specs.Taken.{LawfulRunsAreTaken, TakenRunsAreLawful, TakenRunsAreLimited};
 ghost use Rattle.nvme_trace.specs.Within.{RunsWithinAreTaken};
@@ -34,6 +34,11 @@ pub fn lawful_texts_are_allowed()
 /// A text has one answer: if each of its picks is allowed, none of its lines has a pick that isn't.
 pub fn texts_have_one_answer()
     ensures { OneAnswer }
+{}
+
+/// A text that is written as this front writes it is read so where `fresh` may be missing too, as by `stats` and `chart`.
+pub fn texts_are_read_as_written()
+    ensures { TextsAreReadAsWritten }
 {}
 
 /// A survey that tells no pick is of a lawful text.

@@ -2,9 +2,9 @@
 ghost use Rattle.std.specs.Prelude.{◌≡◌, ◌≤◌, ◌<◌, ◌+◌, ◌-◌, ◌^◌, ℕ, List, Option, Ok, length, IfOk, IfErr, IfSome, OnOk, MatchOption};
 ghost use Rattle.std.specs.List.{list_all};
 ghost use Rattle.nvme_trace.specs.Lines.{unread, is_blank, is_space, MatchLine, MatchTold, MeetsError, TakesTold, HasNoTold};
-ghost use Rattle.nvme_trace.specs.Format.{longest_line, head_of_line, event_by, event_of_line, event_view, room_view, room_of_line};
+ghost use Rattle.nvme_trace.specs.Format.{longest_line, head_of_line, event_by, event_view, room_view, room_of_line};
 ghost use Rattle.nvme_trace.specs.Judged.{IsObserved};
-ghost use Rattle.nvme_trace.specs.Faults.{IsLineFault, IsHeadFault, IsEventFault, IsEventFaultBy};
+ghost use Rattle.nvme_trace.specs.Faults.{IsLineFault, IsHeadFault, IsEventFaultBy};
 ghost use Rattle.nvme_trace.specs.Readings.{Fails};
 ghost use Rattle.nvme_trace.specs.declared.basis.Basis.{Basis};
 ghost use Rattle.nvme_trace.specs.declared.fault.TraceError.TheVariants as fault;
@@ -209,17 +209,6 @@ impl<R: Read> Trace<R> {
             Ok(head) => Ok(head),
             Err(fault) => Err(head_fault(alloc, self.number, &self.line, fault)),
         }
-    }
-
-    /// Reads the next line after the head that isn't blank, as the profile has it. `None` at the end of the trace.
-    pub fn event(&mut self, alloc: Global) -> Result<Option<TraceEvent>, TraceError>
-        ensures ok { IfOk result (λ o. MatchOption o (HasNoTold self.old.number self.old.rest) (λ e. TakesTold (λ line. event_of_line line ≡ Ok (event_view e)) self.old.number self.old.rest self.new.number self.new.rest)) }
-        ensures latest { IfOk result (λ o. IfSome o (λ _. TakesTold (λ line. line ≡ self.new.latest) self.old.number self.old.rest self.new.number self.new.rest)) }
-        ensures room { IfOk result (λ o. IfSome o (λ e. room_view e ≡ room_of_line self.new.latest)) }
-        ensures observed { IfOk result (λ o. IfSome o (λ e. IsObserved (event_view e))) }
-        ensures err { IfErr result (λ e. IsEventFault e self.old.number self.old.rest) }
-    {
-        self.event_by(alloc, Basis::Profile)
     }
 
     /// Reads the next line after the head that isn't blank. `None` at the end of the trace.

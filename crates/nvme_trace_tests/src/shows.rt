@@ -68,6 +68,41 @@ fn rooms_change_no_numbers(rt: HostRuntime) -> Result<(), Fail> {
     Ok(())
 }
 
+// Three picks of the low level by a weight of 1: each but the first starts a round.
+const ROUNDS: &str = "{\"version\":1,\"mechanism\":\"weighted\",\"cdw11\":0}
+{\"pick\":1,\"n\":1,\"fresh\":false,\"seen\":[[1,\"low\",3]]}
+{\"pick\":1,\"n\":1,\"fresh\":true,\"seen\":[[1,\"low\",2]]}
+{\"pick\":1,\"n\":1,\"fresh\":true,\"seen\":[[1,\"low\",1]]}
+";
+
+// The same, where the lines don't tell `fresh`.
+const ROUNDS_UNTOLD: &str = "{\"version\":1,\"mechanism\":\"weighted\",\"cdw11\":0}
+{\"pick\":1,\"n\":1,\"seen\":[[1,\"low\",3]]}
+{\"pick\":1,\"n\":1,\"seen\":[[1,\"low\",2]]}
+{\"pick\":1,\"n\":1,\"seen\":[[1,\"low\",1]]}
+";
+
+#[test]
+fn fresh_may_be_missing(rt: HostRuntime) -> Result<(), Fail> {
+    let alloc = rt.alloc();
+    assert_eq!(rt;
+        table_of(alloc, ROUNDS_UNTOLD)?.as_str(),
+        table_of(alloc, ROUNDS)?.as_str()
+    );
+    let told = drawn(alloc, ROUNDS.as_bytes())?;
+    let untold = drawn(alloc, ROUNDS_UNTOLD.as_bytes())?;
+    let mut others = String::new(alloc);
+    for line in told.as_str().lines() {
+        if !line.contains("stroke-dasharray=\"2 3\"") {
+            others.push_str(line)?;
+            others.push('\n')?;
+        }
+    }
+    assert!(rt; others.len() < told.len(), "{told}");
+    assert_eq!(rt; untold.as_str(), others.as_str());
+    Ok(())
+}
+
 // The table of a text.
 fn table_of(alloc: Global, text: &str) -> Result<String, Fail> {
     let Ok(counted) = stats(alloc, text.as_bytes(), Selection::ALL, None) else {

@@ -105,7 +105,8 @@ A pick:
 pick       0 to 65535: the queue                                                 "pick":1
 n          0 to 65535: how many commands were taken                              "n":2
 room       1 to 65535: how many commands the device had room for, if limited     "room":4
-fresh      true where a new round starts, false else; check --spec needs none    "fresh":false
+fresh      true where a new round starts, false else; needed by check alone,     "fresh":false
+           without --spec
 seen       for each open queue, by number: [queue, class, commands that wait]    "seen":[[1,"high",5],[4,"low",5]]
            queue 0 to 64; "admin" (queue 0), "urgent", "high", "medium", "low";
            0 to 256, as before the pick, where 256 stands for more

@@ -4,6 +4,7 @@ ghost use Rattle.nvme_program.specs.Inputs.{IsFaultyShown, IsTrace};
 ghost use Rattle.nvme_program.specs.Statuses.{status_of};
 ghost use Rattle.nvme_program.specs.declared.faults.Fault.TheVariants as fault;
 ghost use Rattle.nvme_program.specs.declared.commands.Answer.TheVariants as answer;
+ghost use Rattle.nvme_trace.specs.declared.basis.Basis.TheVariants.{Specification};
 
 use super::Answer;
 use crate::faults::Fault;
@@ -13,8 +14,8 @@ use nvme_words::Range;
 use std::alloc::Global;
 use std::io::{Read, Write};
 
-/// Writes a picture of the picks of a trace in a range, as SVG.
-#[tactic(auto, using(crate::proofs::Inputs::faulty_shown, crate::proofs::Inputs::is_trace))]
+/// Writes a picture of the picks of a trace in a range, as SVG. `fresh` may be missing.
+#[tactic(auto, using(crate::proofs::Inputs::is_trace))]
 #[inline(never)]
 pub(super) fn charted<R: Read + Drop, W: Write>(
     alloc: Global,
@@ -23,7 +24,7 @@ pub(super) fn charted<R: Read + Drop, W: Write>(
     output: &mut W,
 ) -> Result<Answer, Fault>
     ensures no_other { (result ≡ Ok answer.Warned) ⊎ (result ≡ Ok answer.Refused) → ⊥ }
-    ensures input { IfErr result (λ e. status_of e ≡ 1 → IfSome (R.remaining input) IsFaultyShown) }
+    ensures input { IfErr result (λ e. status_of e ≡ 1 → IfSome (R.remaining input) (IsFaultyShown Specification)) }
     ensures done { OnOk result (IfSome (R.remaining input) IsTrace) }
     ensures untouched { IfErr result (λ e. (e ≡ fault.Write) ⊎ (output.new ≡ output.old)) }
     ensures failed { IfErr result (λ e. (output.new ≡ output.old) ⊎ IfSome (R.remaining input) IsTrace) }
@@ -35,7 +36,7 @@ pub(super) fn charted<R: Read + Drop, W: Write>(
     };
     let picture = match chart(alloc, input, selection) {
         Ok(picture) => picture,
-        Err(error) => return Err(Fault::Shown(error)),
+        Err(error) => return Err(Fault::Trace(error)),
     };
     match picture.write_svg(output) {
         Ok(()) => Ok(Answer::Done),

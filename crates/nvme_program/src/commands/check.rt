@@ -91,7 +91,7 @@ pub(super) fn checked<R: Read + Drop, W: Write>(
 }
 
 /// Checks all picks of a trace, and writes that each is allowed, or those that differ.
-#[tactic(auto, using(crate::proofs::Inputs::faulty_shown, crate::proofs::Inputs::told_lawful, crate::proofs::Inputs::told_in_part_of_all, crate::proofs::Inputs::told_differing, crate::proofs::Inputs::differing, crate::proofs::Inputs::lawful_by_survey))]
+#[tactic(auto, using(crate::proofs::Inputs::told_lawful, crate::proofs::Inputs::told_in_part_of_all, crate::proofs::Inputs::told_differing, crate::proofs::Inputs::differing, crate::proofs::Inputs::lawful_by_survey))]
 #[inline(never)]
 pub(super) fn surveyed<R: Read + Drop, W: Write>(
     alloc: Global,
@@ -101,7 +101,7 @@ pub(super) fn surveyed<R: Read + Drop, W: Write>(
     ensures no_warning { result ≡ Ok answer.Warned → ⊥ }
     ensures lawful { result ≡ Ok answer.Done → IfSome (R.remaining input) (IsToldBy Profile (W.contents output.old) (W.contents output.new)) }
     ensures refused { result ≡ Ok answer.Refused → IfSome (R.remaining input) IsDiffering }
-    ensures input { IfErr result (λ e. status_of e ≡ 1 → IfSome (R.remaining input) IsFaultyShown) }
+    ensures input { IfErr result (λ e. status_of e ≡ 1 → IfSome (R.remaining input) (IsFaultyShown Profile)) }
     ensures untouched { IfErr result (λ e. (e ≡ fault.Write) ⊎ (output.new ≡ output.old)) }
     ensures failed { IfErr result (λ e. (output.new ≡ output.old) ⊎ IfSome (R.remaining input) (FailsToSurvey W.contents output.old output.new)) }
 {

@@ -4,6 +4,7 @@ ghost use Rattle.nvme_program.specs.Inputs.{IsFaultyShown, IsTrace};
 ghost use Rattle.nvme_program.specs.Statuses.{status_of};
 ghost use Rattle.nvme_program.specs.declared.faults.Fault.TheVariants as fault;
 ghost use Rattle.nvme_program.specs.declared.commands.Answer.TheVariants as answer;
+ghost use Rattle.nvme_trace.specs.declared.basis.Basis.TheVariants.{Specification};
 
 use super::Answer;
 use crate::faults::Fault;
@@ -12,8 +13,8 @@ use nvme_words::{Format, Numbers};
 use std::alloc::Global;
 use std::io::{Read, Write};
 
-/// Writes statistics of a trace, as text, as JSON or as comma-separated values.
-#[tactic(auto, using(crate::proofs::Inputs::faulty_shown, crate::proofs::Inputs::is_trace))]
+/// Writes statistics of a trace, in which `fresh` may be missing, as text, as JSON or as comma-separated values.
+#[tactic(auto, using(crate::proofs::Inputs::is_trace))]
 #[inline(never)]
 pub(super) fn counted<R: Read + Drop, W: Write>(
     alloc: Global,
@@ -22,7 +23,7 @@ pub(super) fn counted<R: Read + Drop, W: Write>(
     output: &mut W,
 ) -> Result<Answer, Fault>
     ensures no_other { (result ≡ Ok answer.Warned) ⊎ (result ≡ Ok answer.Refused) → ⊥ }
-    ensures input { IfErr result (λ e. status_of e ≡ 1 → IfSome (R.remaining input) IsFaultyShown) }
+    ensures input { IfErr result (λ e. status_of e ≡ 1 → IfSome (R.remaining input) (IsFaultyShown Specification)) }
     ensures done { OnOk result (IfSome (R.remaining input) IsTrace) }
     ensures untouched { IfErr result (λ e. (e ≡ fault.Write) ⊎ (output.new ≡ output.old)) }
     ensures failed { IfErr result (λ e. (output.new ≡ output.old) ⊎ IfSome (R.remaining input) IsTrace) }
@@ -35,7 +36,7 @@ pub(super) fn counted<R: Read + Drop, W: Write>(
     let window = Some(numbers.window).filter(|window| *window > 0);
     let statistics = match stats(alloc, input, selection, window) {
         Ok(statistics) => statistics,
-        Err(error) => return Err(Fault::Shown(error)),
+        Err(error) => return Err(Fault::Trace(error)),
     };
     let written = match numbers.format {
         Format::Text => statistics.write_text(output),

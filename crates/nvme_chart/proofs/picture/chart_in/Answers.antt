@@ -1,8 +1,9 @@
 use Rattle.std.proofs.Common.{◌≡◌, [], refl, sym, subst}
 use Rattle.std.proofs.lemmas.Result.{err_from_is_err_and}
 use Rattle.nvme_arbiter.specs.History.{History}
+use Rattle.nvme_trace.specs.declared.basis.Basis.TheVariants.{Specification}
 use Rattle.nvme_trace.specs.declared.records.Head.{Head}
-use Rattle.nvme_trace.specs.Shown.{IsShown}
+use Rattle.nvme_trace.specs.Shown.{IsShownBy}
 use Rattle.nvme_stats.specs.Chosen.{IsPart, chosen}
 use Rattle.nvme_stats.specs.declared.selection.Part.{Part}
 use Rattle.nvme_chart.specs.Pictured.{IsPictured, IsPicturedPart}
@@ -27,7 +28,7 @@ returns-clause-pictured g c =
     (g.R.Read.remaining c.args.reader) c.new-trace.result.rest c.head.new.self.number c.head.new.self.rest c.in_ok-head.head
     c.new-trace.ensures.rest c.in_ok-head.ensures.ok (c.new-picture.ensures, refl)
     (λ text h took start.
-    let shown : IsShown text (λ (head : Head) (past : History). IsPictured head (chosen head.mechanism selection past) c.show.new.watcher × IsPart selection past c.in_ok-part.part) = c.in_ok-part.ensures.shown text h took start.0 start.1 in
+    let shown : IsShownBy Specification text (λ (head : Head) (past : History). IsPictured head (chosen head.mechanism selection past) c.show.new.watcher × IsPart selection past c.in_ok-part.part) = c.in_ok-part.ensures.shown text h took start.0 start.1 in
     let noted = c.note_part.ensures.pictured shown.head (chosen shown.head.mechanism selection shown.past) shown.holds.0 in
     record {
       head = shown.head;

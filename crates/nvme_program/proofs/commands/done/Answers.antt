@@ -56,7 +56,7 @@ pub returns-in-CheckAll-clause-input : goal.returns-in-CheckAll-clause-input
 returns-in-CheckAll-clause-input g c =
     let words = c.args.words.now in
     let asked : AsksForMore words = rw c.in-CheckAll.is at c.requires in
-    of_kind c.surveyed.result (g.R.Read.remaining c.args.input) IsFaultyShown (IsBadInput words) (λ bs h. bad_all words bs asked (inl h)) c.surveyed.ensures.input
+    of_kind c.surveyed.result (g.R.Read.remaining c.args.input) (IsFaultyShown Profile) (IsBadInput words) (λ bs h. bad_all words bs asked (inl h)) c.surveyed.ensures.input
 
 -- ---- a pick that is not allowed
 
@@ -84,13 +84,13 @@ pub returns-in-Chart-clause-input : goal.returns-in-Chart-clause-input
 returns-in-Chart-clause-input g c =
     let words = c.args.words.now in
     let shown : shows_trace words ≡ true = rw c.in-Chart.is at c.requires in
-    of_kind c.charted.result (g.R.Read.remaining c.args.input) IsFaultyShown (IsBadInput words) (λ bs h. bad_shown words bs shown h) c.charted.ensures.input
+    of_kind c.charted.result (g.R.Read.remaining c.args.input) (IsFaultyShown Specification) (IsBadInput words) (λ bs h. bad_shown words bs shown h) c.charted.ensures.input
 
 pub returns-in-Stats-clause-input : goal.returns-in-Stats-clause-input
 returns-in-Stats-clause-input g c =
     let words = c.args.words.now in
     let shown : shows_trace words ≡ true = rw c.in-Stats.is at c.requires in
-    of_kind c.counted.result (g.R.Read.remaining c.args.input) IsFaultyShown (IsBadInput words) (λ bs h. bad_shown words bs shown h) c.counted.ensures.input
+    of_kind c.counted.result (g.R.Read.remaining c.args.input) (IsFaultyShown Specification) (IsBadInput words) (λ bs h. bad_shown words bs shown h) c.counted.ensures.input
 
 pub returns-in-Settings-clause-input : goal.returns-in-Settings-clause-input
 returns-in-Settings-clause-input g c =

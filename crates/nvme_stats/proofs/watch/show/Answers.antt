@@ -2,7 +2,8 @@ use Rattle.std.proofs.Common.{◌≡◌, ◌∙◌, ◌∷◌, Ok, refl, sym, su
 use Rattle.std.proofs.lemmas.Result.{err_from_is_err_and}
 use Rattle.nvme_arbiter.specs.History.{History}
 use Rattle.nvme_trace.specs.Lines.{TakesTold, HasNoTold}
-use Rattle.nvme_trace.specs.Format.{event_of_line, event_view}
+use Rattle.nvme_trace.specs.Format.{event_by, event_view}
+use Rattle.nvme_trace.specs.declared.basis.Basis.TheVariants.{Specification}
 use Rattle.nvme_trace.specs.declared.records.Head.{Head}
 use Rattle.nvme_arbiter.specs.declared.settings.Mechanism.{Mechanism}
 use Rattle.nvme_stats.specs.Chosen.{IsPart, chosen}
@@ -40,11 +41,11 @@ returns-in_default-clause-shown g c = λ text head t st same.
 pub loop-preserved : goal.loop-preserved
 loop-preserved g c =
     let old = c.loop.trace.rest in
-    let new = c.event.new.self.rest in
+    let new = c.event_by.new.self.rest in
     let event = event_view c.in-Some.event in
     let m = c.loop.trace.number in
-    let n = c.event.new.self.number in
-    let took : TakesTold (λ line. event_of_line line ≡ Ok event) m old n new = search rules in
+    let n = c.event_by.new.self.number in
+    let took : TakesTold (λ line. event_by Specification line ≡ Ok event) m old n new = search rules in
     let s = c.args.selection in
     let k = c.args.mechanism in
     let same : c.loop.chooser.selection ≡ s = c.loop.invariant.selection in

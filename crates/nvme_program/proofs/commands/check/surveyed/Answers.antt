@@ -2,7 +2,7 @@ use Rattle.std.proofs.Common.{rules}
 use Rattle.nvme_trace.specs.Surveys.{AreNone}
 use Rattle.nvme_trace.specs.declared.basis.Basis.TheVariants.{Profile}
 use Rattle.nvme_program.specs.declared.commands.Answer.TheVariants as answer
-use Rattle.nvme_program.proofs.Inputs.{lawful_by_survey, on_done, told_in_part_of_all, told_lawful}
+use Rattle.nvme_program.proofs.Inputs.{faulty_shown, lawful_by_survey, on_done, told_in_part_of_all, told_lawful}
 use Rattle.nvme_program.proofs.commands.check.surveyed.Goals as goal
 
 pub returns-in-Ok-clause-lawful : goal.returns-in-Ok-clause-lawful
@@ -16,3 +16,6 @@ returns-in-Ok-clause-failed g c =
     let none : AreNone c.in-Ok.survey.counts = search rules in
     told_in_part_of_all g.W.Write.contents c.args.output.now c.put_lawful.new.output (g.R.Read.remaining c.args.input) c.in-Ok.survey.picks c.put_lawful.result
     (lawful_by_survey _ c.in-Ok.survey c.in-Ok.ensures.survey none) c.put_lawful.ensures.failed
+
+pub returns-in-Err-clause-input : goal.returns-in-Err-clause-input
+returns-in-Err-clause-input g c = faulty_shown Profile (g.R.Read.remaining c.args.input) c.in-Err.error c.in-Err.ensures.fault
