@@ -1,3 +1,4 @@
 pub mod Lints
+pub mod Parts
 pub mod Warnings
 pub mod inside

@@ -6,6 +6,7 @@ mod cause;
 mod heed;
 mod lints;
 mod named;
+mod part;
 mod room;
 mod scripts;
 mod site;
@@ -13,6 +14,7 @@ mod warning;
 mod warnings;
 
 pub use lints::lint;
+pub use part::Part;
 pub use room::Room;
 pub use site::Site;
-pub use warning::{Kind, Warning};
+pub use warning::{Kind, Warning, WarningDetails};

@@ -1,5 +1,9 @@
+ghost use Rattle.std.specs.Prelude.{◌≡◌};
+ghost use Rattle.nvme_lint.specs.Parts.{part_of};
+
 use crate::cause::Cause;
 use crate::named::Named;
+use crate::part::Part;
 use crate::room::Room;
 use crate::site::Site;
 use nvme_entry::{Sqe, Status};
@@ -74,14 +78,10 @@ fn name_of(opcode: u8) -> &'static str {
 }
 
 // Writes that a command is refused.
-fn write_refused<W: fmt::Write>(
-    command: usize,
-    cause: &Cause,
-    f: &mut fmt::Formatter<W>,
-) -> fmt::Result {
+fn write_refused<W: fmt::Write>(cause: &Cause, f: &mut fmt::Formatter<W>) -> fmt::Result {
     let (name, status) = (name_of(cause.entry.opcode), Named(cause.status));
     let qid = cause.entry.cdw10 % 0x1_0000;
-    write!(f, "command 0.{command}: {name}")?;
+    write!(f, "{name}")?;
     match cause.entry.opcode {
         0x00 | 0x01 | 0x04 | 0x05 => write!(f, " {qid}")?,
         0x08 | 0x09 | 0x0a => {}
@@ -92,16 +92,12 @@ fn write_refused<W: fmt::Write>(
 
 // Writes that an Abort names a command that its queue doesn't have.
 fn write_no_target<W: fmt::Write>(
-    command: usize,
     entry: &Sqe,
     commands: Option<usize>,
     f: &mut fmt::Formatter<W>,
 ) -> fmt::Result {
     let (qid, cid) = (entry.cdw10 % 0x1_0000, entry.cdw10 / 0x1_0000);
-    write!(
-        f,
-        "command 0.{command}: Abort of command {cid} of queue {qid} aborts nothing: "
-    )?;
+    write!(f, "Abort of command {cid} of queue {qid} aborts nothing: ")?;
     match commands {
         _ if qid == 0 => f.write_str("no command of the admin queue is aborted"),
         None => f.write_str("no such queue is open"),
@@ -112,12 +108,8 @@ fn write_no_target<W: fmt::Write>(
 }
 
 // Writes that a submission region isn't used.
-fn write_unused<W: fmt::Write>(
-    region: usize,
-    commands: usize,
-    f: &mut fmt::Formatter<W>,
-) -> fmt::Result {
-    write!(f, "submission {region}: no queue is created here")?;
+fn write_unused<W: fmt::Write>(commands: usize, f: &mut fmt::Formatter<W>) -> fmt::Result {
+    f.write_str("no queue is created here")?;
     match commands {
         0 => Ok(()),
         1 => write!(f, ", and its command is never fetched"),
@@ -125,15 +117,69 @@ fn write_unused<W: fmt::Write>(
     }
 }
 
-impl fmt::Display for Warning {
-    fn fmt<W: fmt::Write>(&self, f: &mut fmt::Formatter<W>) -> fmt::Result {
+impl Warning {
+    /// Of what part of the workload it is.
+    pub fn part(&self) -> Part
+        ensures { result ≡ part_of self.now }
+    {
         match *self {
+            Warning::Refused { command, .. } | Warning::NoTarget { command, .. } => {
+                Part::Command(command)
+            }
+            Warning::Unused {
+                kind: Kind::Completion,
+                region,
+                ..
+            } => Part::Completion(region),
+            Warning::Unused { region, .. }
+            | Warning::TooLong { region, .. }
+            | Warning::Failing { region, .. } => Part::Submission(region),
+            Warning::WeightsUnheeded | Warning::ClassesUnheeded => Part::Whole,
+        }
+    }
+}
+
+// Writes that a script is longer than its ring holds.
+fn write_too_long<W: fmt::Write>(
+    commands: usize,
+    slots: u16,
+    f: &mut fmt::Formatter<W>,
+) -> fmt::Result {
+    let most = slots.saturating_sub(1);
+    write!(
+        f,
+        "{commands} commands, of which its ring of {slots} slots holds {most} at once: a run is refused without --live"
+    )
+}
+
+// Writes that the commands of a script come to nothing.
+fn write_failing<W: fmt::Write>(
+    failing: usize,
+    commands: usize,
+    status: Status,
+    f: &mut fmt::Formatter<W>,
+) -> fmt::Result {
+    let status = Named(status);
+    write!(f, "{failing} of {commands} commands are answered {status}")?;
+    if failing == commands {
+        return Ok(());
+    }
+    f.write_str(", and the others with other errors")
+}
+
+/// Of a warning: what has no effect, without the part of the workload.
+#[derive(Clone, Copy)]
+pub struct WarningDetails<'a>(pub &'a Warning);
+
+impl fmt::Display for WarningDetails<'_> {
+    fn fmt<W: fmt::Write>(&self, f: &mut fmt::Formatter<W>) -> fmt::Result {
+        match *self.0 {
             Warning::Refused {
-                command,
                 entry,
                 status,
                 site,
                 room,
+                ..
             } => {
                 let entry = &entry;
                 let cause = Cause {
@@ -142,61 +188,41 @@ impl fmt::Display for Warning {
                     site,
                     room,
                 };
-                write_refused(command, &cause, f)
+                write_refused(&cause, f)
             }
             Warning::NoTarget {
-                command,
                 entry,
                 commands,
-            } => write_no_target(command, &entry, commands, f),
-            Warning::Unused {
-                kind: Kind::Completion,
-                region,
                 ..
-            } => write!(f, "completion {region}: no queue is created here"),
-            Warning::Unused {
-                region,
-                commands,
-                ..
-            } => write_unused(region, commands, f),
+            } => write_no_target(&entry, commands, f),
+            Warning::Unused { commands, .. } => write_unused(commands, f),
             Warning::TooLong {
-                region,
                 commands,
                 slots,
-            } => {
-                let most = slots.saturating_sub(1);
-                write!(
-                    f,
-                    "submission {region}: {commands} commands, of which its ring of {slots} slots holds {most} at once: "
-                )?;
-                f.write_str("a run is refused without --live")
-            }
+                ..
+            } => write_too_long(commands, slots, f),
             Warning::Failing {
-                region,
                 failing,
                 commands,
                 status,
-            } => {
-                let status = Named(status);
-                write!(
-                    f,
-                    "submission {region}: {failing} of {commands} commands are answered {status}"
-                )?;
-                if failing == commands {
-                    return Ok(());
-                }
-                f.write_str(", and the others with other errors")
-            }
-            Warning::WeightsUnheeded => {
-                f.write_str(
-                    "weights have no effect under round robin: mechanism isn't \"weighted\"",
-                )
-            }
-            Warning::ClassesUnheeded => {
-                f.write_str(
-                    "classes have no effect under round robin: mechanism isn't \"weighted\"",
-                )
-            }
+                ..
+            } => write_failing(failing, commands, status, f),
+            Warning::WeightsUnheeded => f.write_str(
+                "weights have no effect under round robin: mechanism isn't \"weighted\"",
+            ),
+            Warning::ClassesUnheeded => f.write_str(
+                "classes have no effect under round robin: mechanism isn't \"weighted\"",
+            ),
         }
+    }
+}
+
+impl fmt::Display for Warning {
+    fn fmt<W: fmt::Write>(&self, f: &mut fmt::Formatter<W>) -> fmt::Result {
+        match self.part() {
+            Part::Whole => {}
+            part => write!(f, "{part}: ")?,
+        }
+        WarningDetails(self).fmt(f)
     }
 }

@@ -67,7 +67,7 @@ status_of (fault.Trace e) = trace_status e
 status_of (fault.Settings f) = 2
 status_of (fault.Options f) = 2
 status_of (fault.Placed w f) = 1
-status_of (fault.TooLong region commands slots) = 3
+status_of (fault.TooLong script) = 3
 status_of (fault.Front e) = 3
 status_of (fault.GaveUp patience) = 3
 

@@ -3,6 +3,7 @@ ghost use Rattle.nvme_program.specs.Statuses.{fault_of_words, status_of};
 ghost use Rattle.nvme_program.specs.declared.faults.Fault.TheVariants as fault;
 ghost use Rattle.nvme_runs.specs.declared.runs.RunError.TheVariants as run_fault;
 
+use crate::long_script::LongScript;
 use crate::second_line::SecondLine;
 use nvme_front::FrontError;
 use nvme_runs::RunError;
@@ -45,13 +46,9 @@ pub(crate) enum Fault {
     // The second line tells the place of the fault, what stands there, and what was expected.
     #[error("nvmearb: workload: {0}")]
     Placed(WorkloadError, nvme_workload::Fault),
-    // The second line tells how many commands the script of the region has, and how many its ring holds.
-    #[error("nvmearb: script too long for ring {region}")]
-    TooLong {
-        region: u8,
-        commands: usize,
-        slots: u16,
-    },
+    // The second line tells how many commands the script has, and how many its ring holds.
+    #[error("nvmearb: script too long for ring {region}", region = .0.region)]
+    TooLong(LongScript),
     #[error("nvmearb: front\nnvmearb: {0}")]
     Front(FrontError),
     // With the patience of the workload, which the second line tells.
@@ -86,7 +83,7 @@ impl Fault {
             Fault::CommandLine(_) | Fault::Words | Fault::Settings(_) | Fault::Options(_) => 2,
             Fault::Run(RunError::Workers) => 2,
             Fault::Input(_) | Fault::NoMemory(_) | Fault::Write => 3,
-            Fault::Run(_) | Fault::Front(_) | Fault::GaveUp(_) | Fault::TooLong { .. } => 3,
+            Fault::Run(_) | Fault::Front(_) | Fault::GaveUp(_) | Fault::TooLong(_) => 3,
             Fault::Trace(_) => 3,
         }
     }
@@ -112,17 +109,7 @@ impl Fault {
                 writeln!(errors, "{self}")?;
                 SecondLine::of_file(alloc, words).write(errors)
             }
-            Fault::TooLong {
-                commands,
-                slots,
-                ..
-            } => {
-                let held = slots.saturating_sub(1);
-                writeln!(
-                    errors,
-                    "{self}\nnvmearb: its script has {commands} commands, and its ring of {slots} slots holds {held}: take --live"
-                )
-            }
+            Fault::TooLong(script) => writeln!(errors, "{self}\nnvmearb: {script}"),
             Fault::Input(InputError::TooLong) if !reads_input_alone(words) => {
                 writeln!(errors, "{self}: above {MAX_INPUT} bytes")
             }

@@ -4,6 +4,8 @@
 mod commands;
 mod faults;
 pub mod laws;
+mod long_script;
+mod named;
 mod output;
 mod pipes;
 mod second_line;

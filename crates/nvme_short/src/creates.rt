@@ -69,8 +69,8 @@ fn is_created(steps: &[Step], number: u16) -> bool
     steps.iter().any(|step| creates(number, step))
 }
 
-// Appends the Creates of a queue that no step creates.
-fn push_first_creates_of(
+/// Appends the Creates of a queue that no step creates.
+pub(crate) fn push_first_creates_of(
     items: &mut Vec<Item>,
     steps: &[Step],
     queue: &Queue,
@@ -117,8 +117,12 @@ fn push_creates_at(items: &mut Vec<Item>, queues: &[Queue], number: u16) -> Resu
     Ok(())
 }
 
-// Appends the commands of a step.
-fn push_step(items: &mut Vec<Item>, queues: &[Queue], step: &Step) -> Result<(), AllocError>
+/// Appends the commands of a step.
+pub(crate) fn push_step(
+    items: &mut Vec<Item>,
+    queues: &[Queue],
+    step: &Step,
+) -> Result<(), AllocError>
     ensures { OnOk result (items.new.items ≡ items.old.items ++ step_items queues.now step.now) }
 {
     match step {

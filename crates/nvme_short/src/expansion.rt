@@ -1,14 +1,16 @@
 // What files of either form stand for.
-ghost use Rattle.std.specs.Prelude.{◌≡◌, ◌≤◌, IfOk, IfErr, string_bytes, option_map};
+ghost use Rattle.std.specs.Prelude.{◌≡◌, ◌≤◌, Some, IfOk, IfErr, string_bytes, option_map};
 ghost use Rattle.toml.specs.Data.{members_depth};
 ghost use Rattle.toml.specs.View.{table_view};
 ghost use Rattle.nvme_workload.specs.Plan.{plan_of, plan_in};
 ghost use Rattle.nvme_workload.specs.Sound.{IsSound};
 ghost use Rattle.nvme_short_form.specs.Readings.{Fails, Gives, seen};
 ghost use Rattle.nvme_short.specs.Expansion.{expansion_of, told, plan_of_short, short_in, Reads, StandsFor, IsToldAs, TellsFaultOf, TellsShortFault};
+ghost use Rattle.nvme_short.specs.Names.{AreNamesBy, AreNamesFor, AreNamesIn};
 ghost use Rattle.nvme_short.specs.declared.expansion.ExpandError.TheVariants as told_error;
 
 use crate::document::document_of;
+use crate::names::{Names, names_of};
 use crate::told::{ShortFault, fault_in};
 use nvme_short_form::{Fault, Place, ShortError, form_of, is_short};
 use nvme_workload::{DocumentError, Workload, WorkloadError, document, read_document};
@@ -119,15 +121,52 @@ fn expanded(alloc: Global, bytes: &[u8], table: &Table) -> Result<String, Expand
     }
 }
 
-/// The text of today's form for which the bytes of a file stand: what a short file is written out to, and else the
-/// bytes themselves; or the first fault of a short file.
+// The names of a short table that stands for a workload.
+fn names_in(alloc: Global, table: &Table) -> Result<Names, ExpandError>
+    ensures names { IfOk result (AreNamesIn (table_view table.now)) }
+    ensures no_fault { IfErr result (λ e. e ≡ told_error.NoMemory) }
+{
+    match form_of(alloc, table) {
+        Ok(form) => Ok(names_of(alloc, &form)?),
+        Err(_) => Err(ExpandError::NoMemory),
+    }
+}
+
+/// What the bytes of a file stand for.
+#[derive(Debug, Drop)]
+pub struct Standing {
+    /// The text of today's form: what a short file is written out to, and else the bytes themselves.
+    pub text: Vec<u8>,
+    /// What its parts are in the file, where that is a short one.
+    pub names: Option<Names>,
+}
+
+// What a short table, which was read from the bytes, stands for.
+fn short_standing(alloc: Global, bytes: &[u8], table: &Table) -> Result<Standing, ExpandError>
+    ensures text { IfOk result (λ s. Reads (table_view table.now) s.text.items) }
+    ensures names { IfOk result (λ s. AreNamesBy (Some (table_view table.now)) s.names) }
+    ensures err { IfErr result (TellsFaultOf (table_view table.now)) }
+{
+    let text = expanded(alloc, bytes, table)?.into_bytes();
+    let names = names_in(alloc, table)?;
+    Ok(Standing {
+        text,
+        names: Some(names),
+    })
+}
+
+/// What the bytes of a file stand for, or the first fault of a short file.
 #[tactic(auto, using(crate::proofs::ReadBack::told_of_bytes))]
-pub fn stood_for(alloc: Global, bytes: Vec<u8>) -> Result<Vec<u8>, ExpandError>
-    ensures stands { IfOk result (λ text. StandsFor bytes.items text.items) }
+pub fn stood_for(alloc: Global, bytes: Vec<u8>) -> Result<Standing, ExpandError>
+    ensures stands { IfOk result (λ s. StandsFor bytes.items s.text.items) }
+    ensures names { IfOk result (λ s. AreNamesFor bytes.items s.names) }
     ensures fault { IfErr result (TellsShortFault bytes.items) }
 {
     match short_in(alloc, &bytes)? {
-        Some(table) => Ok(expanded(alloc, &bytes, &table)?.into_bytes()),
-        None => Ok(bytes),
+        Some(table) => short_standing(alloc, &bytes, &table),
+        None => Ok(Standing {
+            text: bytes,
+            names: None,
+        }),
     }
 }

@@ -5,13 +5,15 @@ mod creates;
 mod document;
 mod expansion;
 mod looking;
+mod names;
 mod near;
 mod scan;
 mod spot;
 mod texts;
 mod told;
 
-pub use expansion::{ExpandError, expand, read_short, short_in, stood_for};
+pub use expansion::{ExpandError, Standing, expand, read_short, short_in, stood_for};
+pub use names::Names;
 pub use near::nearest;
 pub use nvme_short_form::{Fault, Form, Item, Key, Place, Queue, Run, ShortError, Step};
 pub use scan::{Step as PathStep, offset_of};

@@ -5,7 +5,9 @@ ghost use Rattle.nvme_program.specs.inside.Explained.{IsExplained, IsExplainedFa
 
 use super::Answer;
 use crate::faults::Fault;
+use crate::long_script::LongScript;
 use nvme_runs::RunError;
+use nvme_short::Standing;
 use nvme_workload::{ReadError, WorkloadError, read, read_placed};
 use std::alloc::Global;
 
@@ -30,47 +32,48 @@ fn out_of_patience(alloc: Global, text: &[u8]) -> Fault
 }
 
 // That a script is too long for its ring, with the lengths of both.
-fn too_long(alloc: Global, text: &[u8], region: u8) -> Fault
+fn too_long(alloc: Global, file: &Standing, region: u8) -> Fault
     ensures { status_of result ≡ 3 }
 {
-    let Ok(workload) = read(alloc, text) else {
+    let Ok(workload) = read(alloc, file.text.as_slice()) else {
         return Fault::Run(RunError::TooLong(region));
     };
     match workload.submissions.as_slice().get(usize::from(region)) {
-        Some(plan) => Fault::TooLong {
+        Some(plan) => Fault::TooLong(LongScript {
             region,
             commands: plan.script.as_slice().len(),
             slots: plan.slots,
-        },
+            is_short: file.names.is_some(),
+        }),
         None => Fault::Run(RunError::TooLong(region)),
     }
 }
 
-// A fault of a run of this text, with what is known of it.
-fn explained_fault(alloc: Global, text: &[u8], fault: Fault) -> Fault
+// A fault of a run of this file, with what is known of it.
+fn explained_fault(alloc: Global, file: &Standing, fault: Fault) -> Fault
     ensures { IsExplainedFault fault result }
 {
     match fault {
-        Fault::Run(RunError::Workload(error)) => placed(alloc, text, error),
+        Fault::Run(RunError::Workload(error)) => placed(alloc, file.text.as_slice(), error),
         Fault::Run(RunError::Front(error)) => Fault::Front(error),
-        Fault::Run(RunError::TooLong(region)) => too_long(alloc, text, region),
-        Fault::Run(RunError::GaveUp) => out_of_patience(alloc, text),
+        Fault::Run(RunError::TooLong(region)) => too_long(alloc, file, region),
+        Fault::Run(RunError::GaveUp) => out_of_patience(alloc, file.text.as_slice()),
         fault => fault,
     }
 }
 
-/// The answer of a run of this text, where a fault tells in a second line what is known of it. It isn't inlined, so that
+/// The answer of a run of this file, where a fault tells in a second line what is known of it. It isn't inlined, so that
 /// its stack isn't that of the run.
 #[inline(never)]
 pub(super) fn explained(
     alloc: Global,
-    text: &[u8],
+    file: &Standing,
     answer: Result<Answer, Fault>,
 ) -> Result<Answer, Fault>
     ensures { IsExplained answer result }
 {
     match answer {
         Ok(answer) => Ok(answer),
-        Err(fault) => Err(explained_fault(alloc, text, fault)),
+        Err(fault) => Err(explained_fault(alloc, file, fault)),
     }
 }

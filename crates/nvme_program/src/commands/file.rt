@@ -1,6 +1,7 @@
 // Files of either form.
 ghost use Rattle.std.specs.Prelude.{◌≡◌, ◌⊎◌, Ok, IfErr, IfOk, IfSome, OnOk};
 ghost use Rattle.nvme_short.specs.Expansion.{StandsFor};
+ghost use Rattle.nvme_short.specs.Names.{AreNamesFor};
 ghost use Rattle.nvme_program.specs.Answers.{Appended, AppendedPart, HasReport, HasTrace, HasWorkload};
 ghost use Rattle.nvme_program.specs.Files.{IsBadFile, OfFile};
 ghost use Rattle.nvme_program.specs.Inputs.{HasNoWarning, HasWarnings};
@@ -17,21 +18,22 @@ use super::trace::traced;
 use crate::faults::Fault;
 use nvme_lane::Mode;
 use nvme_output::{WriteFault, put};
-use nvme_short::{ExpandError, stood_for};
+use nvme_short::{ExpandError, Standing, stood_for};
 use nvme_words::take_input;
 use std::alloc::{AllocError, Global};
 use std::io::{Read, Write};
 use std::sync::Wait;
 use std::thread::Threads;
 
-// The text of the workload file that an input stands for.
-fn text_of<R: Read + Drop>(alloc: Global, input: R) -> Result<Vec<u8>, Fault>
-    ensures stands { IfOk result (λ text. IfSome (R.remaining input) (λ bytes. StandsFor bytes text.items)) }
+// The text of the workload file that an input stands for, with its names where it is a short file.
+fn named_text_of<R: Read + Drop>(alloc: Global, input: R) -> Result<Standing, Fault>
+    ensures stands { IfOk result (λ file. IfSome (R.remaining input) (λ bytes. StandsFor bytes file.text.items)) }
+    ensures names { IfOk result (λ file. IfSome (R.remaining input) (λ bytes. AreNamesFor bytes file.names)) }
     ensures input { IfErr result (λ e. status_of e ≡ 1 → IfSome (R.remaining input) IsBadFile) }
 {
     let bytes = take_input(alloc, input).map_err(Fault::Input)?;
     match stood_for(alloc, bytes) {
-        Ok(text) => Ok(text),
+        Ok(file) => Ok(file),
         Err(ExpandError::Fault(fault)) => Err(Fault::Short(fault)),
         Err(ExpandError::NoMemory) => Err(Fault::NoMemory(AllocError)),
     }
@@ -53,9 +55,9 @@ pub(super) fn ran_file<R: Read + Drop, W: Write, T: Threads + Wait + Sync>(
     ensures untouched { IfErr result (λ e. (e ≡ fault.Run run_fault.Write) ⊎ (output.new ≡ output.old)) }
     ensures failed { IfErr result (λ e. (output.new ≡ output.old) ⊎ IfSome (R.remaining input) (OfFile (HasReport (AppendedPart W.contents output.old output.new) mode))) }
 {
-    let text = text_of(alloc, input)?;
-    let answer = ran(rt, alloc, mode, workers, text.as_slice(), output);
-    explained(alloc, text.as_slice(), answer)
+    let file = named_text_of(alloc, input)?;
+    let answer = ran(rt, alloc, mode, workers, file.text.as_slice(), output);
+    explained(alloc, &file, answer)
 }
 
 /// Runs the workload of a file and writes its trace, as `traced` does. Some faults have a second line.
@@ -74,12 +76,12 @@ pub(super) fn traced_file<R: Read + Drop, W: Write, T: Threads + Wait + Sync>(
     ensures untouched { IfErr result (λ e. (e ≡ fault.Write) ⊎ (output.new ≡ output.old)) }
     ensures failed { IfErr result (λ e. (output.new ≡ output.old) ⊎ IfSome (R.remaining input) (OfFile (HasTrace (AppendedPart W.contents output.old output.new) mode))) }
 {
-    let text = text_of(alloc, input)?;
-    let answer = traced(rt, alloc, mode, workers, text.as_slice(), output);
-    explained(alloc, text.as_slice(), answer)
+    let file = named_text_of(alloc, input)?;
+    let answer = traced(rt, alloc, mode, workers, file.text.as_slice(), output);
+    explained(alloc, &file, answer)
 }
 
-/// Checks the workload of a file for its writer, as `linted` does.
+/// Checks the workload of a file for its writer, as `linted` does by the names of the file.
 #[inline(never)]
 pub(super) fn linted_file<R: Read + Drop, W: Write>(
     alloc: Global,
@@ -94,8 +96,8 @@ pub(super) fn linted_file<R: Read + Drop, W: Write>(
     ensures untouched { IfErr result (λ e. (e ≡ fault.Write) ⊎ (output.new ≡ output.old)) }
     ensures failed { IfErr result (λ e. (output.new ≡ output.old) ⊎ IfSome (R.remaining input) (OfFile HasWarnings)) }
 {
-    let text = text_of(alloc, input)?;
-    linted(alloc, text.as_slice(), output)
+    let file = named_text_of(alloc, input)?;
+    linted(alloc, file.text.as_slice(), file.names.as_ref(), output)
 }
 
 /// Writes the text of the workload file that a file stands for. A text that is no workload is refused as `linted` does.
@@ -112,9 +114,9 @@ pub(super) fn expanded<R: Read + Drop, W: Write>(
     ensures untouched { IfErr result (λ e. (e ≡ fault.Write) ⊎ (output.new ≡ output.old)) }
     ensures failed { IfErr result (λ e. (output.new ≡ output.old) ⊎ IfSome (R.remaining input) (OfFile (HasWorkload (AppendedPart W.contents output.old output.new)))) }
 {
-    let text = text_of(alloc, input)?;
-    let _warnings = warnings_of(alloc, text.as_slice())?;
-    match put(text.as_slice(), output) {
+    let file = named_text_of(alloc, input)?;
+    let _warnings = warnings_of(alloc, file.text.as_slice())?;
+    match put(file.text.as_slice(), output) {
         Ok(()) => Ok(Answer::Done),
         Err(WriteFault) => Err(Fault::Write),
     }

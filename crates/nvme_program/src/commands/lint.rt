@@ -9,16 +9,37 @@ ghost use Rattle.nvme_program.specs.declared.commands.Answer.TheVariants as answ
 
 use super::Answer;
 use crate::faults::Fault;
+use crate::named::Named;
 use nvme_lint::{Warning, lint};
+use nvme_short::Names;
 use nvme_words::take_input;
 use nvme_workload::ReadError;
 use std::alloc::{AllocError, Global};
 use std::io::{self, Read, Write};
 
+// Writes a line for a warning, by the names of a short file where there are any.
+fn write_warning<W: Write>(
+    warning: &Warning,
+    names: Option<&Names>,
+    output: &mut W,
+) -> io::Result<()> {
+    match names {
+        Some(names) => {
+            let named = Named { warning, names };
+            writeln!(output, "{named}")
+        }
+        None => writeln!(output, "{warning}"),
+    }
+}
+
 // Writes a line for each warning.
-fn write_warnings<W: Write>(warnings: &[Warning], output: &mut W) -> io::Result<()> {
+fn write_warnings<W: Write>(
+    warnings: &[Warning],
+    names: Option<&Names>,
+    output: &mut W,
+) -> io::Result<()> {
     for warning in warnings {
-        writeln!(output, "{warning}")?;
+        write_warning(warning, names, output)?;
     }
     Ok(())
 }
@@ -36,12 +57,14 @@ pub(super) fn warnings_of(alloc: Global, text: &[u8]) -> Result<Vec<Warning>, Fa
     }
 }
 
-/// Refuses a faulty workload with the place of its first fault, or writes what of a valid one has no effect.
+/// Refuses a faulty workload with the place of its first fault, or writes what of a valid one has no effect, by the names of
+/// a short file where it stands for one.
 #[tactic(auto, using(crate::proofs::Inputs::bad_file, crate::proofs::Inputs::has_warnings, crate::proofs::Inputs::has_no_warning))]
 #[inline(never)]
 pub(super) fn linted<R: Read + Drop, W: Write>(
     alloc: Global,
     input: R,
+    names: Option<&Names>,
     output: &mut W,
 ) -> Result<Answer, Fault>
     ensures no_pick { result ≡ Ok answer.Refused → ⊥ }
@@ -57,7 +80,7 @@ pub(super) fn linted<R: Read + Drop, W: Write>(
     if warnings.is_empty() {
         return Ok(Answer::Done);
     }
-    match write_warnings(warnings.as_slice(), output) {
+    match write_warnings(warnings.as_slice(), names, output) {
         Ok(()) => Ok(Answer::Warned),
         Err(_) => Err(Fault::Write),
     }

@@ -9,14 +9,14 @@ use Rattle.nvme_program.proofs.commands.file.ran_file.Goals as goal
 pub returns-clause-done : goal.returns-clause-done
 returns-clause-done g c =
     let text = c.as_slice.result.now in
-    let stands : IfSome (g.R.Read.remaining c.args.input) (λ bytes. StandsFor bytes text) = rw c.as_slice.ensures.value c.in_ok-text.ensures.stands in
+    let stands : IfSome (g.R.Read.remaining c.args.input) (λ bytes. StandsFor bytes text) = rw c.as_slice.ensures.value c.in_ok-file.ensures.stands in
     done_stays c.ran-answer.result c.explained.result _ c.explained.ensures
     (ok_of_file c.ran-answer.result (g.R.Read.remaining c.args.input) text (HasReport (Appended g.W.Write.contents c.args.output.now c.ran-answer.new.output) c.args.mode) stands c.ran-answer.ensures.done)
 
 pub returns-clause-input : goal.returns-clause-input
 returns-clause-input g c =
     let text = c.as_slice.result.now in
-    let stands : IfSome (g.R.Read.remaining c.args.input) (λ bytes. StandsFor bytes text) = rw c.as_slice.ensures.value c.in_ok-text.ensures.stands in
+    let stands : IfSome (g.R.Read.remaining c.args.input) (λ bytes. StandsFor bytes text) = rw c.as_slice.ensures.value c.in_ok-file.ensures.stands in
     input_stays c.ran-answer.result c.explained.result _ c.explained.ensures
     (err_of_file c.ran-answer.result (g.R.Read.remaining c.args.input) text stands c.ran-answer.ensures.input)
 
@@ -26,7 +26,7 @@ returns-clause-untouched g c = run_write_stays c.ran-answer.result c.explained.r
 pub returns-clause-failed : goal.returns-clause-failed
 returns-clause-failed g c =
     let text = c.as_slice.result.now in
-    let stands : IfSome (g.R.Read.remaining c.args.input) (λ bytes. StandsFor bytes text) = rw c.as_slice.ensures.value c.in_ok-text.ensures.stands in
+    let stands : IfSome (g.R.Read.remaining c.args.input) (λ bytes. StandsFor bytes text) = rw c.as_slice.ensures.value c.in_ok-file.ensures.stands in
     failed_stays c.ran-answer.result c.explained.result _ c.explained.ensures
     (failed_of_file c.ran-answer.result (c.ran-answer.new.output ≡ c.args.output.now) (g.R.Read.remaining c.args.input) text (HasReport (AppendedPart g.W.Write.contents c.args.output.now c.ran-answer.new.output) c.args.mode) stands c.ran-answer.ensures.failed)
 

@@ -9,14 +9,14 @@ use Rattle.nvme_program.proofs.commands.file.traced_file.Goals as goal
 pub returns-clause-done : goal.returns-clause-done
 returns-clause-done g c =
     let text = c.as_slice.result.now in
-    let stands : IfSome (g.R.Read.remaining c.args.input) (λ bytes. StandsFor bytes text) = rw c.as_slice.ensures.value c.in_ok-text.ensures.stands in
+    let stands : IfSome (g.R.Read.remaining c.args.input) (λ bytes. StandsFor bytes text) = rw c.as_slice.ensures.value c.in_ok-file.ensures.stands in
     done_stays c.traced-answer.result c.explained.result _ c.explained.ensures
     (ok_of_file c.traced-answer.result (g.R.Read.remaining c.args.input) text (HasTrace (Appended g.W.Write.contents c.args.output.now c.traced-answer.new.output) c.args.mode) stands c.traced-answer.ensures.done)
 
 pub returns-clause-input : goal.returns-clause-input
 returns-clause-input g c =
     let text = c.as_slice.result.now in
-    let stands : IfSome (g.R.Read.remaining c.args.input) (λ bytes. StandsFor bytes text) = rw c.as_slice.ensures.value c.in_ok-text.ensures.stands in
+    let stands : IfSome (g.R.Read.remaining c.args.input) (λ bytes. StandsFor bytes text) = rw c.as_slice.ensures.value c.in_ok-file.ensures.stands in
     input_stays c.traced-answer.result c.explained.result _ c.explained.ensures
     (err_of_file c.traced-answer.result (g.R.Read.remaining c.args.input) text stands c.traced-answer.ensures.input)
 
@@ -26,7 +26,7 @@ returns-clause-untouched g c = write_stays c.traced-answer.result c.explained.re
 pub returns-clause-failed : goal.returns-clause-failed
 returns-clause-failed g c =
     let text = c.as_slice.result.now in
-    let stands : IfSome (g.R.Read.remaining c.args.input) (λ bytes. StandsFor bytes text) = rw c.as_slice.ensures.value c.in_ok-text.ensures.stands in
+    let stands : IfSome (g.R.Read.remaining c.args.input) (λ bytes. StandsFor bytes text) = rw c.as_slice.ensures.value c.in_ok-file.ensures.stands in
     failed_stays c.traced-answer.result c.explained.result _ c.explained.ensures
     (failed_of_file c.traced-answer.result (c.traced-answer.new.output ≡ c.args.output.now) (g.R.Read.remaining c.args.input) text (HasTrace (AppendedPart g.W.Write.contents c.args.output.now c.traced-answer.new.output) c.args.mode) stands c.traced-answer.ensures.failed)
 

@@ -1,7 +1,7 @@
 -- A short file with a fault is a file at fault.
 use Rattle.std.proofs.Common.{rules, ◌≡◌, IfSome}
 use Rattle.nvme_program.proofs.Inputs.{short_is_bad}
-use Rattle.nvme_program.proofs.commands.file.text_of.Goals as goal
+use Rattle.nvme_program.proofs.commands.file.named_text_of.Goals as goal
 
 pub returns-in-Err-Fault-clause-input : goal.returns-in-Err-Fault-clause-input
 returns-in-Err-Fault-clause-input g c =
