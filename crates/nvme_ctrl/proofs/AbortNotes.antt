@@ -47,7 +47,6 @@ posted = record {
     other_dw0 = 1;
     all_else = (refl, refl, record { entry = abort_of_read 0; is_there = refl; region = refl; sqid = refl; cid = refl; status = refl; dw0 = refl; sqhd = refl; phase = refl });
   };
-  leaves_places = tt;
   fetches_submitted = tt;
   posts_on_free_slot = omega arith;
   posts_what_is_through = refl;
@@ -68,7 +67,6 @@ read_posted = record {
   effects_at_once = refl;
   deletes = (refl, λ s. refl);
   posts_own = (refl, refl, record { entry = read 0; is_there = refl; region = refl; sqid = refl; cid = refl; status = refl; dw0 = refl; sqhd = refl; phase = refl });
-  leaves_places = tt;
   fetches_submitted = tt;
   posts_on_free_slot = omega arith;
   posts_what_is_through = refl;

@@ -10,7 +10,6 @@ use Rattle.nvme_admin.specs.QueueTable.{QueueTable}
 use Rattle.nvme_log.specs.declared.event.Event.TheVariants.{Abort}
 use Rattle.nvme_log.specs.declared.event.Event.TheVariants as event
 use Rattle.nvme_ctrl.specs.kept.Content.{Candidate}
-use Rattle.nvme_log.specs.Limits.{max_outstanding}
 use Rattle.nvme_log.specs.Rules.{Past}
 use Rattle.nvme_log.specs.Queues.{cq_region_of, qid_of_region}
 use Rattle.nvme_log.specs.Places.{entry_at, is_aborted, one_if}
@@ -58,11 +57,11 @@ module _ (past : Past) (k : Content) (candidate : Candidate) (rest : List Candid
 
   -- the completion of the aborted candidate is ready, and the place of the Abort command is in hand
   request-ready : HoldsReady past k (hand_of k) → ((r : ℕ) → HoldsSq past r (k.sq r)) → (k.sq 0).window ≡ candidate ∷ rest
-      → k.outstanding + 2 ≤ max_outstanding → c < k.ncq → cq_region_of past region ≡ Some c → qid_of_region past region ≡ Some sqid → took_abort (event.Pick seen pick ∷ past) ≡ true
+      → c < k.ncq → cq_region_of past region ≡ Some c → qid_of_region past region ≡ Some sqid → took_abort (event.Pick seen pick ∷ past) ≡ true
       → entry_at past region found.index ≡ Some found.entry → is_aborted past region found.index ≡ false
       → ((i : ℕ) → times_in_window i (now.sq region).window ≡ one_if (found.index == i) + times_in_window i less.window)
       → ((r : ℕ) → HoldsSq later r (gone.sq r)) → HoldsReady later gone (place_of 0 candidate ∷ hand_of k)
-  request-ready ready before oldest few small attached named took entry fresh left regions =
+  request-ready ready before oldest small attached named took entry fresh left regions =
       becomes-ready past later k gone (hand_of k) (place_of 0 candidate ∷ hand_of k) c (requested sqid region found ∷ []) ready (record {
         small = small;
         ncq = refl;
@@ -87,20 +86,19 @@ module _ (past : Past) (k : Content) (candidate : Candidate) (rest : List Candid
           deleting = λ e. cc;
         }) (All-nil (IsReady later gone.deletion c));
         taken = omega arith;
-        few_taken = omega (arith, few);
         admin_qid = ready.admin_qid;
         admin_region = ready.admin_region;
       })
 
   -- then its answer is ready, too
   pub aborts-ready : HoldsReady past k (hand_of k) → ((r : ℕ) → HoldsSq past r (k.sq r)) → (k.sq 0).window ≡ candidate ∷ rest
-      → k.outstanding + 2 ≤ max_outstanding → c < k.ncq → cq_region_of past region ≡ Some c → qid_of_region past region ≡ Some sqid → took_abort (event.Pick seen pick ∷ past) ≡ true
+      → c < k.ncq → cq_region_of past region ≡ Some c → qid_of_region past region ≡ Some sqid → took_abort (event.Pick seen pick ∷ past) ≡ true
       → entry_at past region found.index ≡ Some found.entry → is_aborted past region found.index ≡ false
       → ((i : ℕ) → times_in_window i (now.sq region).window ≡ one_if (found.index == i) + times_in_window i less.window)
       → ((r : ℕ) → HoldsSq later r (gone.sq r))
       → HoldsReady later (aborting_in now candidate sqid region c cid board (Some found)) (hand_of (aborting_in now candidate sqid region c cid board (Some found)))
-  aborts-ready ready before oldest few small attached named took entry fresh left regions =
-      let middle = request-ready ready before oldest few small attached named took entry fresh left regions in
+  aborts-ready ready before oldest small attached named took entry fresh left regions =
+      let middle = request-ready ready before oldest small attached named took entry fresh left regions in
       becomes-ready later later gone (aborting_in now candidate sqid region c cid board (Some found)) (place_of 0 candidate ∷ hand_of k) (hand_of k) 0 (told_abort candidate 0 ∷ []) middle (record {
         small = omega (arith, small);
         ncq = refl;
@@ -119,7 +117,6 @@ module _ (past : Past) (k : Content) (candidate : Candidate) (rest : List Candid
           deleting = λ e. cc;
         }) (All-nil (IsReady later gone.deletion 0));
         taken = omega arith;
-        few_taken = middle.few_taken;
         admin_qid = ready.admin_qid;
         admin_region = ready.admin_region;
       })

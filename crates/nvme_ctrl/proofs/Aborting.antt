@@ -348,11 +348,12 @@ few_unposted_more rules notes a slots k g sqid cid entry sq h ab sq_is =
 
 -- and with the outstanding places
 pub few_outstanding_more : (rules : FrontRules) (notes : Notes) (a m : Controller) (slots : List Slot) (k : Content) (g : Items) (sqid cid : ℕ) (entry : SqEntry) → Keeps rules notes a slots k g
-    → IsAbortableIn notes k sqid cid entry → m.outstanding ≡ a.outstanding → min (m.outstanding + 1) 65535 ≡ a.outstanding + 1
-few_outstanding_more rules notes a m slots k g sqid cid entry h ab same =
+    → a.picked ≡ 0 → IsAbortableIn notes k sqid cid entry → (tag : ℕ) → named_in slots cid (tags_of (g.windows entry.region)) ≡ Some tag → m.outstanding ≡ a.outstanding
+    → min (m.outstanding + 1) 65535 ≡ a.outstanding + 1
+few_outstanding_more rules notes a m slots k g sqid cid entry h none ab tag named same =
     let is = h.numbers.outstanding_is in
-    let few = ab.few_outstanding in
-    omega arith
+    let few = ab.few_outstanding _ (oldest rules notes a slots k g sqid cid h none entry ab tag named) in
+    omega (arith, is, few, same)
 
 -- the chain of a queue's window
 pub chain_there : (rules : FrontRules) (notes : Notes) (a : Controller) (slots : List Slot) (k : Content) (g : Items) (qid region : ℕ) (sq : SqState) → Keeps rules notes a slots k g

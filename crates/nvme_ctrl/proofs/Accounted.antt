@@ -99,7 +99,7 @@ observed rules (Classed q class ∷ notes) none h = absurd (cc none)
 observed rules (note ∷ notes) none h = observed rules notes none h.1
 
 pub events_are_accounted : EventsAreAccounted
-events_are_accounted rules notes sent collected none none_arranged order h whole fetched_in_order collected_in_order = record {
+events_are_accounted rules notes sent collected none none_arranged order places h whole fetched_in_order collected_in_order = record {
   fetched_in_order = fetched_in_order;
   indexes_count = each-event _ rules (λ past e it. it.index_counts) notes h.each;
   served_while_open = each-event _ rules (λ past e it. it.served_while_open) notes h.each;
@@ -108,7 +108,7 @@ events_are_accounted rules notes sent collected none none_arranged order h whole
   effects_whole = h.effects_whole;
   deletes = order;
   posts_own = posts-own rules notes none h.each;
-  leaves_places = each-event _ rules (λ past e it. it.leaves_places) notes h.each;
+  leaves_places = places;
   lawful = whole;
   collected_in_order = collected_in_order;
 }

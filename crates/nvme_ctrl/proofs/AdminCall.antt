@@ -29,7 +29,6 @@ use Rattle.nvme_placing.specs.Telling.{IsTold, IsToldBy, Tells, content_of, unpl
 use Rattle.nvme_placing.specs.declared.table.PlacedTable.{PlacedTable}
 use Rattle.nvme_entry.specs.AdminCommand.{admin_command_of}
 use Rattle.nvme_entry.specs.declared.submission.Sqe.{Sqe}
-use Rattle.nvme_log.specs.Limits.{max_outstanding}
 use Rattle.nvme_log.specs.Aborts.{is_abort_entry}
 use Rattle.nvme_log.specs.Rules.{FrontRules, sq_regions_of, cq_regions_of}
 use Rattle.nvme_log.specs.Places.{entry_at, waiting}
@@ -49,7 +48,7 @@ use Rattle.nvme_ctrl.specs.inside.Steps.{HasNextRegion, CanPick, CanApply, verdi
 use Rattle.nvme_ctrl.specs.kept.Kept.{Item, Items, IsWaitingIn, IsUnanswered, HasCookie, HoldsShown, HasRegionsMade, StandsAt, tags_of, candidate_of}
 use Rattle.nvme_ctrl.specs.inside.Loose.{IsLoose, Keeps}
 use Rattle.nvme_ctrl.specs.inside.Carrying.{IsApplied}
-use Rattle.nvme_ctrl.specs.inside.Picks.{places_in, oldest_entry}
+use Rattle.nvme_ctrl.specs.inside.Picks.{oldest_entry}
 use Rattle.nvme_ctrl.specs.kept.Pool.{slot_at, IsChain}
 use Rattle.nvme_ctrl.specs.kept.State.{sq_at}
 use Rattle.nvme_ctrl.proofs.CarriedOut.{none_picked_of}
@@ -58,7 +57,7 @@ use Rattle.nvme_ctrl.proofs.CountedCreates.{IsCounted, OpensNext, sqs_with, cqs_
 use Rattle.nvme_ctrl.proofs.Dropping.{loose_waited}
 use Rattle.nvme_ctrl.proofs.LifeLaws.{applied_stays}
 use Rattle.nvme_ctrl.proofs.DeletedQueues.{open_undeleted}
-use Rattle.nvme_ctrl.proofs.FewUnposted.{few_unposted}
+use Rattle.nvme_ctrl.proofs.PoolBounds.{unposted_held, window_held}
 use Rattle.nvme_ctrl.proofs.Observing.{pickable}
 use Rattle.nvme_ctrl.proofs.OpenQueues.{admin_is_open}
 use Rattle.nvme_ctrl.proofs.PickCall.{board_stands, due, can}
@@ -82,13 +81,6 @@ pub length-candidates : (its : List Item) → length (map candidate_of its) ≡ 
 length-candidates [] = refl
 length-candidates (it ∷ its) = let rest = length-candidates its in omega arith
 
--- an admin pick has a place, whatever it needs
-pub admin_places : (c : Controller) (slots : List Slot) (pick : Pick) → pick.n ≤ 1 → places_in c slots pick + c.outstanding ≤ max_outstanding → c.outstanding + pick.n ≤ max_outstanding
-admin_places c slots pick one places = by (pick.qid == 0 && is_abort_entry (Some (oldest_entry c slots))) places where
-  by : (b : Bool) → (if b then 2 else pick.n) + c.outstanding ≤ max_outstanding → c.outstanding + pick.n ≤ max_outstanding
-  by true places = omega (arith, places, one)
-  by false places = omega (arith, places)
-
 -- it is of one command
 pub admin_one : (rules : FrontRules) (late : Bool) (notes : Notes) (c : Controller) (slots : List Slot) (s : StandsAt rules late notes c slots) (pick : Pick)
     → ((m : Mechanism) (first : ArbitrationFields) (h : History) → BoardStandsAt m first h (board_of c.board) → IsLimitedPick m first h (seen_of (board_of c.board).queues) pick)
@@ -104,8 +96,7 @@ module _ (rules : FrontRules) (late : Bool) (notes : Notes) (c : Controller) (sl
     (stands : (m : Mechanism) (first : ArbitrationFields) (h : History) → BoardStandsAt m first h (board_of c.board) → BoardStandsAt m first (Picked (seen_of (board_of c.board).queues) pick ∷ h) (board_of board))
     (queues : (board_of board).queues ≡ queues_after (board_of c.board).queues pick)
     (arbiter : IsTrue (is_arbiter board.arbiter))
-    (needs : places_in c slots pick + c.outstanding ≤ max_outstanding)
-    (places : c.outstanding + pick.n ≤ max_outstanding) (first_is : pick.qid ≡ 0) where
+    (first_is : pick.qid ≡ 0) where
   abbrev k : Content
   k = s.content
 
@@ -116,10 +107,10 @@ module _ (rules : FrontRules) (late : Bool) (notes : Notes) (c : Controller) (sl
   keeps = keeps_standing rules late notes c slots s
 
   abbrev queue : Queue
-  queue = (due rules late notes c slots s none pick board lawful stands queues arbiter places).queue
+  queue = (due rules late notes c slots s none pick board lawful stands queues arbiter).queue
 
   is_open : open_sq (logged notes) pick.qid ≡ Some queue
-  is_open = (due rules late notes c slots s none pick board lawful stands queues arbiter places).is_open
+  is_open = (due rules late notes c slots s none pick board lawful stands queues arbiter).is_open
 
   -- its queue is the admin queue
   pub queue_is : queue ≡ admin_queue
@@ -130,10 +121,10 @@ module _ (rules : FrontRules) (late : Bool) (notes : Notes) (c : Controller) (sl
       same_Some queue admin_queue (sym is_open ∙ ap (open_sq (logged notes)) first_is ∙ admin_is_open rules late (logged notes) k s.holds some)
 
   pub one : pick.n ≡ 1
-  one = (due rules late notes c slots s none pick board lawful stands queues arbiter places).one_of_admin first_is
+  one = (due rules late notes c slots s none pick board lawful stands queues arbiter).one_of_admin first_is
 
   pub can_admin : CanPick rules (logged notes) k admin_queue pick (board_of board)
-  can_admin = subst (λ (q : Queue). CanPick rules (logged notes) k q pick (board_of board)) queue_is (can rules late notes c slots s none pick board lawful stands queues arbiter places)
+  can_admin = subst (λ (q : Queue). CanPick rules (logged notes) k q pick (board_of board)) queue_is (can rules late notes c slots s none pick board lawful stands queues arbiter)
 
 -- ---- the table of an applied command
 -- the identifiers of the queues of a table that is told are within their limit
@@ -161,8 +152,7 @@ as_candidate i entry = record { index = i; entry = entry }
 module _ (rules : FrontRules) (late : Bool) (notes : Notes) (c : Controller) (slots : List Slot) (k : Content) (g : Items) (holds : Holds rules late (logged notes) k)
     (shown : HoldsShown notes k) (account : late ≡ false → IsAccount rules notes) (keeps : Keeps rules notes c slots k g)
     (none : c.picked ≡ 0) (pick : Pick) (board : BoardFields) (can_admin : CanPick rules (logged notes) k admin_queue pick (board_of board))
-    (arbiter : IsTrue (is_arbiter board.arbiter)) (needs : places_in c slots pick + c.outstanding ≤ max_outstanding)
-    (places : c.outstanding + pick.n ≤ max_outstanding) (first_is : pick.qid ≡ 0) (one : pick.n ≡ 1) where
+    (arbiter : IsTrue (is_arbiter board.arbiter)) (first_is : pick.qid ≡ 0) (one : pick.n ≡ 1) where
   pub admin_life : k.sq_life 0 ≡ Some 0
   admin_life = keeps.numbers.sq_ids.admin
 
@@ -197,31 +187,26 @@ module _ (rules : FrontRules) (late : Bool) (notes : Notes) (c : Controller) (sl
   pub window_is : (k.sq 0).window ≡ candidate_of x ∷ map candidate_of rest
   window_is = window_all ∙ ap (λ (its : List Item). map candidate_of its) oldest.is
 
-  -- an Abort command has a second place
-  second : is_abort_entry (Some x.entry) ≡ true → k.outstanding + 2 ≤ max_outstanding
-  second aborts =
-      let first_slot : (sq_at c.sqs 0).window.first ≡ x.tag = linked-head slots (sq_at c.sqs 0).window.first (sq_at c.sqs 0).window.last x.tag (tags_of rest) linked.linked in
-      let entry : oldest_entry c slots ≡ x.entry = ap (λ (z : ℕ). (slot_at slots z).entry) first_slot ∙ first.entry in
-      let two : places_in c slots pick ≡ 2 =
-      ap (λ (n : ℕ). if n == 0 && is_abort_entry (Some (oldest_entry c slots)) then 2 else pick.n) first_is
-      ∙ ap (λ (e : Sqe). if is_abort_entry (Some e) then 2 else pick.n) entry
-      ∙ ap (λ (b : Bool). if b then 2 else pick.n) aborts in
-      let same = keeps.numbers.outstanding_is in
-      omega (arith, needs, two, same)
+  below : 0 < k.nsq
+  below =
+      let attached = holds.queues.attached pick.qid admin_queue can_admin.is_open in
+      holds.queues.sq_there 0 (record { qid = pick.qid; cq_region = attached.cq_region }) attached.attached
+
+  some_waits : 1 ≤ length (k.sq 0).window
+  some_waits = omega (arith, can_admin.enough, one)
 
   -- the counts aren't capped
   pub unposted_capped : (sq : SqState) → sq ≡ sq_at c.sqs 0 → min (sq.unposted + 1) 65535 ≡ sq.unposted + 1
   unposted_capped sq sq_is =
       let as_many = ap (λ (z : SqState). z.unposted) sq_is in
-      let attached = holds.queues.attached pick.qid admin_queue can_admin.is_open in
-      let below = holds.queues.sq_there 0 (record { qid = pick.qid; cq_region = attached.cq_region }) attached.attached in
-      let few = few_unposted rules late (logged notes) k holds 0 (open_undeleted rules late (logged notes) k holds pick.qid admin_queue can_admin.is_open) below in
+      let held = unposted_held rules late (logged notes) k holds 0 below in
       let same = (keeps.numbers.sqs 0 0 admin_life).unposted in
-      let most = can_admin.places in
-      omega arith
+      omega (arith, as_many, held, same, some_waits, keeps.tags.free_count, keeps.has.few)
 
   pub outstanding_capped : min (c.outstanding + 1) 65535 ≡ c.outstanding + 1
-  outstanding_capped = omega (arith, places)
+  outstanding_capped =
+      let held = window_held rules late (logged notes) k holds 0 below in
+      omega (arith, held, some_waits, keeps.numbers.outstanding_is, keeps.tags.free_count, keeps.has.few)
 
   -- the command is applied
   module _ (sq : SqState) (chain : Chain) (tag n o : ℕ) (entry : Sqe) (table : PlacedTable) (m : Controller) (did : Effect)
@@ -269,7 +254,6 @@ module _ (rules : FrontRules) (late : Bool) (notes : Notes) (c : Controller) (sl
         table_is = ap (λ (e : Sqe). queue_table rules.start (EntryApplied e ∷ history)) entry_of;
         few_queues = few_told table after tells;
         placed = subst (HasNextRegion rules k.table (candidate_of x)) verdict_is placed_now;
-        second = second;
       }
 
       windowed : Keeps rules notes (record c { sqs = slice_set c.sqs 0 picked_state }) slots (record k { sq = λ r. if r == 0 then picked_sq (k.sq 0) 1 else k.sq r }) (with_window g 0 rest)
@@ -335,7 +319,6 @@ module _ (rules : FrontRules) (late : Bool) (notes : Notes) (c : Controller) (sl
     (stands : (m : Mechanism) (first : ArbitrationFields) (h : History) → BoardStandsAt m first h (board_of c.board) → BoardStandsAt m first (Picked (seen_of (board_of c.board).queues) pick ∷ h) (board_of board))
     (queues : (board_of board).queues ≡ queues_after (board_of c.board).queues pick)
     (arbiter : IsTrue (is_arbiter board.arbiter))
-    (needs : places_in c slots pick + c.outstanding ≤ max_outstanding)
     (first_is : pick.qid ≡ 0)
     (sq : SqState) (chain : Chain) (popped : Option ℕ) (tag n o : ℕ) (entry : Sqe) (table : PlacedTable) (m : Controller) (did : Effect) (sq_is : sq ≡ sq_at c.sqs 0)
     (some : (x : ℕ) (rest : List ℕ) → IsChain slots sq.window (x ∷ rest) → popped ≡ Some x) (left : (x : ℕ) (rest : List ℕ) → IsChain slots sq.window (x ∷ rest) → IsChain slots chain rest)
@@ -343,17 +326,14 @@ module _ (rules : FrontRules) (late : Bool) (notes : Notes) (c : Controller) (sl
     (m_is : m ≡ record c { board = board; sqs = slice_set c.sqs 0 (record sq { window = chain; unposted = n }); outstanding = o; table = table })
     (told : (start : Start) (h : TableHistory) → Tells c.table (queue_table start h) → IsTold c.table (verdict_in did) (verdict_of start h entry))
     (applies : (start : Start) (h : TableHistory) → Tells c.table (queue_table start h) → Tells table (queue_table start (EntryApplied entry ∷ h))) where
-  places_then : c.outstanding + pick.n ≤ max_outstanding
-  places_then = admin_places c slots pick (let is = admin_one rules late notes c slots s pick lawful first_is in omega (arith, is)) needs
-
   one_then : pick.n ≡ 1
-  one_then = one rules late notes c slots s none pick board lawful stands queues arbiter needs places_then first_is
+  one_then = one rules late notes c slots s none pick board lawful stands queues arbiter first_is
 
   abbrev content : Content
   content = s.content
 
   can_then : CanPick rules (logged notes) content admin_queue pick (board_of board)
-  can_then = can_admin rules late notes c slots s none pick board lawful stands queues arbiter needs places_then first_is
+  can_then = can_admin rules late notes c slots s none pick board lawful stands queues arbiter first_is
 
   keeps_then : Keeps rules notes c slots content s.items
   keeps_then = keeps_standing rules late notes c slots s
@@ -375,28 +355,28 @@ module _ (rules : FrontRules) (late : Bool) (notes : Notes) (c : Controller) (sl
   module _ (others : FrontRules) (k : Content) (holds : Holds others late (logged notes) k) (shown : HoldsShown notes k) (account : late ≡ false → IsAccount others notes)
       (keeps : Keeps others notes c slots k s.items) (can_pick : CanPick others (logged notes) k admin_queue pick (board_of board)) where
     abbrev it : IsSplit (s.items.windows 0)
-    it = oldest others late notes c slots k s.items holds shown account keeps none pick board can_pick arbiter needs places_then first_is one_then
+    it = oldest others late notes c slots k s.items holds shown account keeps none pick board can_pick arbiter first_is one_then
 
     there : IsChain slots sq.window (it.first.tag ∷ tags_of it.rest)
     there = subst (λ (z : SqState). IsChain slots z.window (it.first.tag ∷ tags_of it.rest)) (sym sq_is)
-        (linked others late notes c slots k s.items holds shown account keeps none pick board can_pick arbiter needs places_then first_is one_then)
+        (linked others late notes c slots k s.items holds shown account keeps none pick board can_pick arbiter first_is one_then)
 
     told_at : IsToldBy k.table.placing (verdict_in did) (verdict_of others.start holds.tabled.history entry)
     told_at =
-        told_now others late notes c slots k s.items holds shown account keeps none pick board can_pick arbiter needs places_then first_is one_then sq chain tag n o entry table m did
+        told_now others late notes c slots k s.items holds shown account keeps none pick board can_pick arbiter first_is one_then sq chain tag n o entry table m did
         sq_is (left it.first.tag (tags_of it.rest) there) (unwrap it.first.tag (some it.first.tag (tags_of it.rest) there))
-        (n_is ∙ unposted_capped others late notes c slots k s.items holds shown account keeps none pick board can_pick arbiter needs places_then first_is one_then sq sq_is)
-        (o_is ∙ outstanding_capped others late notes c slots k s.items holds shown account keeps none pick board can_pick arbiter needs places_then first_is one_then)
+        (n_is ∙ unposted_capped others late notes c slots k s.items holds shown account keeps none pick board can_pick arbiter first_is one_then sq sq_is)
+        (o_is ∙ outstanding_capped others late notes c slots k s.items holds shown account keeps none pick board can_pick arbiter first_is one_then)
         entry_is m_is told applies
 
     applied_at : (w : Verdict) → verdict_of others.start holds.tabled.history entry ≡ w → ((i : ℕ) → HasNextRegion others k.table (as_candidate i entry) w)
         → HasRegionsMade (applied_to k (board_of board) (queue_table others.start (EntryApplied entry ∷ holds.tabled.history))) → IsApplied others late notes m slots tag did w
     applied_at w is next made =
         subst (IsApplied others late notes m slots tag did) is
-        (is_applied others late notes c slots k s.items holds shown account keeps none pick board can_pick arbiter needs places_then first_is one_then sq chain tag n o entry table m did
+        (is_applied others late notes c slots k s.items holds shown account keeps none pick board can_pick arbiter first_is one_then sq chain tag n o entry table m did
         sq_is (left it.first.tag (tags_of it.rest) there) (unwrap it.first.tag (some it.first.tag (tags_of it.rest) there))
-        (n_is ∙ unposted_capped others late notes c slots k s.items holds shown account keeps none pick board can_pick arbiter needs places_then first_is one_then sq sq_is)
-        (o_is ∙ outstanding_capped others late notes c slots k s.items holds shown account keeps none pick board can_pick arbiter needs places_then first_is one_then)
+        (n_is ∙ unposted_capped others late notes c slots k s.items holds shown account keeps none pick board can_pick arbiter first_is one_then sq sq_is)
+        (o_is ∙ outstanding_capped others late notes c slots k s.items holds shown account keeps none pick board can_pick arbiter first_is one_then)
         entry_is m_is told applies (λ i. subst (HasNextRegion others k.table (as_candidate i entry)) (sym is) (next i)) made)
 
   -- ---- at the rules as they are
@@ -449,7 +429,6 @@ module _ (rules : FrontRules) (late : Bool) (notes : Notes) (c : Controller) (sl
     can_grown = record {
       is_open = can_then.is_open;
       enough = can_then.enough;
-      places = can_then.places;
       lawful = can_then.lawful;
       board_queues = can_then.board_queues;
       board_stands = can_then.board_stands;
@@ -523,7 +502,7 @@ module _ (rules : FrontRules) (late : Bool) (notes : Notes) (c : Controller) (sl
   entry_of_oldest : (i : ℕ) → slice_get (waiting (logged notes) 0) 0 ≡ Some i → entry_at (logged notes) 0 i ≡ Some entry
   entry_of_oldest i oldest_is =
       let x : Item = (it rules content s.holds s.shown s.account keeps_then can_then).first in
-      let window = window_is rules late notes c slots content s.items s.holds s.shown s.account keeps_then none pick board can_then arbiter needs places_then first_is one_then in
+      let window = window_is rules late notes c slots content s.items s.holds s.shown s.account keeps_then none pick board can_then arbiter first_is one_then in
       let index : x.place.index ≡ i = same_Some x.place.index i
       (ap (λ (cs : List Candidate). slice_get (map (λ (y : Candidate). y.index) cs) 0) (sym window) ∙ ap (λ (is : List ℕ). slice_get is 0) (sym (s.holds.regions 0).waiting_is) ∙ oldest_is) in
       let at : entry_at (logged notes) 0 x.place.index ≡ Some x.entry =
@@ -532,7 +511,7 @@ module _ (rules : FrontRules) (late : Bool) (notes : Notes) (c : Controller) (sl
       let its : tag ≡ x.tag = unwrap x.tag (some x.tag (tags_of (it rules content s.holds s.shown s.account keeps_then can_then).rest) (there rules content s.holds s.shown s.account keeps_then can_then)) in
       ap (entry_at (logged notes) 0) (sym index) ∙ at
       ∙ ap (λ (e : Sqe). Some e) (sym (entry_is ∙ ap (λ (z : ℕ). (slot_at slots z).entry) its
-      ∙ (first rules late notes c slots content s.items s.holds s.shown s.account keeps_then none pick board can_then arbiter needs places_then first_is one_then).entry))
+      ∙ (first rules late notes c slots content s.items s.holds s.shown s.account keeps_then none pick board can_then arbiter first_is one_then).entry))
 
   pub admin_call : IsPlacedApplied rules late notes m slots tag did entry
   admin_call = record {

@@ -30,7 +30,7 @@ use Rattle.nvme_log.specs.Histories.{table_history, admin_entry}
 use Rattle.nvme_log.specs.Answers.{Answer}
 use Rattle.nvme_log.specs.Completions.{table_before, own_status_by, own_dw0_by}
 use Rattle.nvme_log.specs.Effects.{closing_of, made_by, made_of, made_last, EffectsAtOnce, abort_in, target_of}
-use Rattle.nvme_log.specs.Account.{IndexCounts, ServedWhileOpen, LeavesPlaces}
+use Rattle.nvme_log.specs.Account.{IndexCounts, ServedWhileOpen}
 use Rattle.nvme_ctrl.specs.Deletions.{FollowsDeletions}
 use Rattle.nvme_ctrl.specs.kept.Content.{SqContent, Content, with_sq}
 use Rattle.nvme_ctrl.specs.kept.Standing.{HoldsSq, HasOwnStatus, IsOwnDeletion, Holds, hand_of, answer_in, deleted_answer}
@@ -42,7 +42,6 @@ use Rattle.nvme_ctrl.proofs.OwnSteps.{statuses_stay, deletion_stays}
 use Rattle.nvme_ctrl.proofs.OpenQueues.{not_closed_region, io_region}
 use Rattle.nvme_ctrl.proofs.DeletedQueues.{undeleted_region, undeleted_queue, deletion_done}
 use Rattle.nvme_ctrl.proofs.PendingDeletions.{Here, Elsewhere, is_put}
-use Rattle.nvme_ctrl.proofs.NextEvents.{PickedAreOutstanding, leaves_places}
 use Rattle.nvme_ctrl.specs.inside.Next.{IsNext, EachNext}
 use Rattle.nvme_ctrl.proofs.EffectEvents.{next_effects, made_are_effects, index_of_effect, effect_is_served, effects_come_at_once, effects_are_whole, effects_leave_fetched, effects_leave_table, made_delete, made_leave_done, made_leave_requests, effects_leave_told, made_leave_region}
 use Rattle.nvme_log.specs.Aborts.{is_index, is_abort_entry, is_abort_requested, took_abort, just_picked, has_aborted, told_dw0}
@@ -50,7 +49,6 @@ use Rattle.nvme_log.proofs.AbortEntries.{verdict_is_abort, verdict_is_delete}
 use Rattle.nvme_ctrl.proofs.AbortRequests.{unrequested, took_pick, requests-aborts}
 use Rattle.nvme_ctrl.proofs.Named.{found_is, made_abort, made_none}
 use Rattle.nvme_ctrl.proofs.Regions.{target_is}
-use Rattle.nvme_ctrl.proofs.MadePlaces.{made_leave_places}
 
 -- of the oldest admin candidate at its pick, and of what its verdict is: what follows from what stood before
 record IsPicked (rules : FrontRules) (past mid : Past) (candidate : Candidate) (v : Verdict) : Type 0 where
@@ -383,16 +381,16 @@ own-admin rules late past k seen pick picked candidate rest table c board s can 
 
 -- lawful events, of which each clause holds of each
 all_next : (rules : FrontRules) (rest : List Event) (past : Past) → EachNext IndexCounts rest past → EachNext (ServedWhileOpen rules) rest past
-    → EachNext (EffectsAtOnce rules) rest past → EachNext FollowsDeletions rest past → EachNext (LeavesPlaces rules) rest past → EachNext (IsNext rules) rest past
-all_next rules [] past i s e d l = tt
-all_next rules (x ∷ rest) past i s e d l = (
-  record { index_counts = i.0; served_while_open = s.0; effects_at_once = e.0; deletes = d.0; leaves_places = l.0 },
-  all_next rules rest (x ∷ past) i.1 s.1 e.1 d.1 l.1,
+    → EachNext (EffectsAtOnce rules) rest past → EachNext FollowsDeletions rest past → EachNext (IsNext rules) rest past
+all_next rules [] past i s e d = tt
+all_next rules (x ∷ rest) past i s e d = (
+  record { index_counts = i.0; served_while_open = s.0; effects_at_once = e.0; deletes = d.0; },
+  all_next rules rest (x ∷ past) i.1 s.1 e.1 d.1,
 )
 
 -- an admin pick is of the open admin queue, and what its command makes follows it at once
-pub next-admin : PickedAreOutstanding → NextAdmin
-next-admin more rules late past k seen pick picked candidate rest table s can saw first one apply on_time =
+pub next-admin : NextAdmin
+next-admin rules late past k seen pick picked candidate rest table s can saw first one apply on_time =
     let a = s.own on_time in
     let v : Verdict = verdict_at rules s.tabled.history candidate in
     let mid : Past = event.Pick seen pick ∷ past in
@@ -404,10 +402,8 @@ next-admin more rules late past k seen pick picked candidate rest table s can sa
         served_while_open = rw can.is_open refl;
         effects_at_once = a.effects_whole;
         deletes = undeleted_queue rules late past k s pick.qid admin_queue can.is_open;
-        leaves_places = leaves_places more rules late past k admin_queue seen pick picked s can;
       },
       all_next rules made mid (next_effects IndexCounts index_of_effect made mid are) (next_effects (ServedWhileOpen rules) (effect_is_served rules) made mid are)
           (effects_come_at_once rules made mid are p.made)
-          (made_delete past mid v (λ q queue is. (undeleted_region rules late past k s q queue is, not_closed_region rules late past k s q queue is)))
-          (made_leave_places rules late past k seen pick picked candidate rest table s can first one apply),
+          (made_delete past mid v (λ q queue is. (undeleted_region rules late past k s q queue is, not_closed_region rules late past k s q queue is))),
     )

@@ -19,17 +19,17 @@ use Rattle.nvme_log.proofs.AbortEntries.{verdict_is_abort, verdict_is_delete}
 use Rattle.nvme_log.proofs.Waiting.{picked-pick_other, waiting-pick_other, fate_of-same}
 use Rattle.nvme_ctrl.specs.kept.Content.{SqContent, Content}
 use Rattle.nvme_ctrl.specs.kept.Standing.{Holds}
-use Rattle.nvme_ctrl.specs.inside.Steps.{CanPick, applied_to, oldest_named, picked_sq, verdict_at}
+use Rattle.nvme_ctrl.specs.inside.Steps.{applied_to, oldest_named, picked_sq, verdict_at}
 use Rattle.nvme_ctrl.proofs.AbortRequests.{took_pick}
 use Rattle.nvme_ctrl.proofs.Named.{first_named}
 use Rattle.nvme_ctrl.proofs.Oldest.{admin_entry_is}
 use Rattle.nvme_ctrl.proofs.Regions.{one_queue, not_admin_queue, put_sq-other, target_is}
 
 module _ (rules : FrontRules) (late : Bool) (past : Past) (k : Content) (seen : List Seen) (pick : Pick) (picked : BoardView)
-    (s : Holds rules late past k) (can : CanPick rules past k admin_queue pick picked) (first : pick.qid ≡ 0) where
+    (s : Holds rules late past k) (is_open : open_sq past pick.qid ≡ Some admin_queue) (first : pick.qid ≡ 0) where
   -- another queue has another region
   pub other_region : (q : ℕ) (queue : Queue) → open_sq past q ≡ Some queue → (q ≡ 0 → ⊥) → 0 ≡ queue.region → ⊥
-  other_region q queue is other e = other (one_queue past k q pick.qid queue admin_queue s.queues is can.is_open (sym e) ∙ first)
+  other_region q queue is other e = other (one_queue past k q pick.qid queue admin_queue s.queues is is_open (sym e) ∙ first)
 
   -- a queue that a command deletes is another
   pub deleted_region : (candidate : Candidate) (qid : ℕ) (queue : Queue) → verdict_at rules s.tabled.history candidate ≡ BeginDelete qid → open_sq past qid ≡ Some queue
@@ -42,7 +42,7 @@ module _ (rules : FrontRules) (late : Bool) (past : Past) (k : Content) (seen : 
 
   -- the pick isn't one of another region
   no_region : (r : ℕ) → (0 ≡ r → ⊥) → has_region r (open_sq past pick.qid) ≡ false
-  no_region r apart = ap (λ (o : Option Queue). has_region r o) can.is_open ∙ ne_eqb 0 r apart
+  no_region r apart = ap (λ (o : Option Queue). has_region r o) is_open ∙ ne_eqb 0 r apart
 
   -- the same places of another region wait
   pub others_wait : (r : ℕ) → (0 ≡ r → ⊥) → waiting (event.Pick seen pick ∷ past) r ≡ waiting past r

@@ -68,7 +68,7 @@ module _ (rules : FrontRules) (late : Bool) (notes : Notes) (a : Controller) (sl
   module _ (qid : ℕ) (queue : Queue) (was_open : open_sq (logged notes) qid ≡ Some queue) (io : qid ≡ 0 → ⊥) where
     -- its region isn't that of the admin queue
     pub named_apart : queue.region ≡ 0 → ⊥
-    named_apart e = other_region rules late (logged notes) h.before [] h.pick h.picked h.holds h.can_pick h.of_admin qid queue was_open io (sym e)
+    named_apart e = other_region rules late (logged notes) h.before [] h.pick h.picked h.holds h.can_pick.is_open h.of_admin qid queue was_open io (sym e)
 
     -- so the pick left it
     pub named_region : applied.sq queue.region ≡ h.before.sq queue.region

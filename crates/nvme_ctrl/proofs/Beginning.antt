@@ -197,7 +197,6 @@ module _ (rules : FrontRules) (placing : Option Placing) (sq_address sq_slots cq
     once = λ r i. (λ j. over_regions-none 1 j + 0 + times_held r i (none_held 1 j)) ∙ sym (none_served i (not (is_waiting (fate_of [] r i))));
     each = λ c. All-nil (IsReady [] (λ r. None) c);
     taken = (λ j. over_regions-none 1 j + length (none_held 1 j));
-    few_taken = omega arith;
     none_beyond = λ c le. refl;
     admin_qid = refl;
     admin_region = refl;

@@ -50,7 +50,6 @@ use Rattle.nvme_ctrl.proofs.PendingDeletions.{deletion_item}
 use Rattle.nvme_ctrl.proofs.Standing.{holds-admin}
 use Rattle.nvme_ctrl.proofs.AdminEvents.{next-admin}
 use Rattle.nvme_ctrl.proofs.AdminPick.{deleted_region, target_region}
-use Rattle.nvme_ctrl.proofs.Counts.{outstanding-pick}
 use Rattle.nvme_log.proofs.AdminPicks.{admin_is_whole}
 use Rattle.nvme_ctrl.proofs.Observing.{seen_is_observed}
 use Rattle.nvme_ctrl.proofs.Showing.{OpensApart, shown_verdict}
@@ -90,7 +89,6 @@ lawful-effect rules notes e is n = record {
   effects_at_once = n.effects_at_once;
   deletes = n.deletes;
   posts_own = own_of-effect rules notes e is;
-  leaves_places = n.leaves_places;
   fetches_submitted = submitted-effect rules notes e is;
   posts_on_free_slot = free-effect rules notes e is;
   posts_what_is_through = through-effect notes e is;
@@ -260,7 +258,7 @@ module _ (rules : FrontRules) (late : Bool) (notes : Notes) (a : Controller) (sl
   each_made on_time =
       let next : EachNext (IsNext rules) (event.Pick (observed_of notes) h.pick ∷ made) (logged notes) =
       subst (λ (w : Verdict). EachNext (IsNext rules) (event.Pick (observed_of notes) h.pick ∷ made_by (logged notes) w) (logged notes)) (sym h.verdict_is)
-      (next-admin outstanding-pick rules late (logged notes) h.before (observed_of notes) h.pick h.picked h.candidate h.rest h.table h.holds h.can_pick saw h.of_admin h.one h.can_apply on_time) in
+      (next-admin rules late (logged notes) h.before (observed_of notes) h.pick h.picked h.candidate h.rest h.table h.holds h.can_pick saw h.of_admin h.one h.can_apply on_time) in
       let n = next.0 in
       each-effect rules made (picked_notes notes h.pick) are_effects next.1 (
         record {
@@ -270,7 +268,6 @@ module _ (rules : FrontRules) (late : Bool) (notes : Notes) (a : Controller) (sl
           effects_at_once = n.effects_at_once;
           deletes = n.deletes;
           posts_own = tt;
-          leaves_places = n.leaves_places;
           fetches_submitted = tt;
           posts_on_free_slot = tt;
           posts_what_is_through = tt;
@@ -288,9 +285,9 @@ module _ (rules : FrontRules) (late : Bool) (notes : Notes) (a : Controller) (sl
       let waits = waits_before in
       ap (λ (p : Past). is_aborted p 0 h.candidate.index) logged_is
       ∙ made_leave_region (logged notes) (event.Pick (observed_of notes) h.pick ∷ logged notes) v 0 h.candidate.index
-      (λ qid queue begins is same. deleted_region rules late (logged notes) h.before (observed_of notes) h.pick h.picked h.holds h.can_pick h.of_admin h.candidate qid queue
+      (λ qid queue begins is same. deleted_region rules late (logged notes) h.before (observed_of notes) h.pick h.picked h.holds h.can_pick.is_open h.of_admin h.candidate qid queue
       (sym h.verdict_is ∙ begins) is (sym same))
-      (λ sqid queue is same. target_region rules late (logged notes) h.before (observed_of notes) h.pick h.picked h.holds h.can_pick h.of_admin sqid queue is (sym same))
+      (λ sqid queue is same. target_region rules late (logged notes) h.before (observed_of notes) h.pick h.picked h.holds h.can_pick.is_open h.of_admin sqid queue is (sym same))
       ∙ waiting_is_unaborted (logged notes) 0 h.candidate.index waits
 
   -- ---- its answer

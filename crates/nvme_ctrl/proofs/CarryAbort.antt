@@ -1,7 +1,7 @@
 -- The effect of an Abort command, carried out.
 use Rattle.nvme_ctrl.proofs.OpenQueues.{io_region}
 use Rattle.std.proofs.lemmas.Bool.{ne_eqb}
-use Rattle.std.proofs.Common.{◌≡◌, ℕ, ◌==◌, ◌&&◌, ◌||◌, Bool, true, false, if◌then◌else◌, List, ◌∷◌, length, Option, Some, None, refl, sym, ap, ◌∙◌, subst, arith, eq-eqb}
+use Rattle.std.proofs.Common.{◌≡◌, ℕ, ◌==◌, ◌&&◌, ◌||◌, ◌≤◌, Bool, true, false, if◌then◌else◌, List, [], ◌∷◌, length, Option, Some, None, refl, sym, ap, ◌∙◌, subst, arith, eq-eqb}
 use Rattle.std.specs.Prelude.{slice_set}
 use Rattle.std.proofs.lemmas.Bool.{ne_eqb}
 use Rattle.std.proofs.lemmas.Option.{same_Some}
@@ -13,7 +13,7 @@ use Rattle.nvme_entry.specs.Status.{success}
 use Rattle.nvme_log.specs.declared.event.Event.{Event}
 use Rattle.nvme_log.specs.declared.event.Event.TheVariants as event
 use Rattle.nvme_log.specs.Rules.{FrontRules, Past}
-use Rattle.nvme_log.specs.Queues.{Queue, open_sq}
+use Rattle.nvme_log.specs.Queues.{Queue, admin_queue, open_sq}
 use Rattle.nvme_log.specs.Places.{is_aborted}
 use Rattle.nvme_log.specs.Effects.{abort_in, target_of}
 use Rattle.nvme_ctrl.specs.Notes.{Notes, logged}
@@ -32,7 +32,7 @@ use Rattle.nvme_ctrl.proofs.AppliedQueues.{queue_of, IsOpenEntry, open_entry, na
 use Rattle.nvme_ctrl.proofs.CarriedOut.{applied, logged_is, keeps_told}
 use Rattle.nvme_ctrl.proofs.CarryOut.{KeepsEnd, told_notes, ended_told}
 use Rattle.nvme_ctrl.proofs.DeletedQueues.{open_undeleted}
-use Rattle.nvme_ctrl.proofs.FewUnposted.{few_unposted}
+use Rattle.nvme_ctrl.proofs.PoolBounds.{beside_held, windows_held}
 use Rattle.nvme_ctrl.proofs.Named.{made_abort}
 
 -- the queue that it names is an open one, and not the admin queue
@@ -45,6 +45,11 @@ target_open past sqid queue h = by (sqid == 0) refl h where
 -- so one of an I/O queue is that which is open
 pub target_is : (past : Past) (sqid : ℕ) → (sqid ≡ 0 → ⊥) → target_of past sqid ≡ open_sq past sqid
 target_is past sqid io = ap (λ (b : Bool). if b then None else open_sq past sqid) (ne_eqb sqid 0 io)
+
+-- a window with a candidate that is named has one
+some_named : (cid : ℕ) (cs : List Candidate) (found : Candidate) → oldest_named cid cs ≡ Some found → 1 ≤ length cs
+some_named cid [] found is = absurd (cc is)
+some_named cid (c ∷ cs) found is = omega arith
 
 module _ (rules : FrontRules) (late : Bool) (notes : Notes) (a : Controller) (slots : List Slot) (tag sqid cid : ℕ) (did : Effect)
     (h : IsApplied rules late notes a slots tag did (verdict.Abort sqid cid)) where
@@ -88,8 +93,14 @@ module _ (rules : FrontRules) (late : Bool) (notes : Notes) (a : Controller) (sl
 
     abortable : IsAbortableIn told k sqid cid e
     abortable =
-        let unposted = few_unposted rules late (logged notes) h.before h.holds e.region (open_undeleted rules late (logged notes) h.before h.holds sqid (queue_of e) was_open) (h.holds.queues.sq_there e.region (record { qid = sqid; cq_region = opened }) attached) in
-        let places = h.can_pick.places in
+        let before : Content = h.before in
+        let there = h.holds.queues.sq_there e.region (record { qid = sqid; cq_region = opened }) attached in
+        let admin = h.holds.queues.attached h.pick.qid admin_queue h.can_pick.is_open in
+        let first = h.holds.queues.sq_there 0 (record { qid = h.pick.qid; cq_region = admin.cq_region }) admin.attached in
+        let apart = io_region rules late (logged notes) before h.holds e.region sqid opened attached io in
+        let waits = h.can_pick.enough in
+        let held = beside_held rules late (logged notes) before h.holds e.region 0 there first apart in
+        let both = windows_held rules late (logged notes) before h.holds e.region 0 there first apart in
         let same = ap (λ (s : SqContent). s.unposted) left in
         record {
           there = h.holds.lives.sqs sqid (queue_of e) was_open;
@@ -99,8 +110,10 @@ module _ (rules : FrontRules) (late : Bool) (notes : Notes) (a : Controller) (sl
           is_aborted = found_aborted;
           on_board = named_on_board rules late notes a slots tag did v h sqid (queue_of e) was_open io
               ∙ ap (λ (s : SqContent). Some (counted_on h.before (queue_of e) (length s.window))) (sym left);
-          few_unposted = omega arith;
-          few_outstanding = omega arith;
+          few_unposted = omega (arith, held, same, waits, h.one, h.keeps.tags.free_count, h.keeps.has.few);
+          few_outstanding = λ found oldest.
+              let some = some_named cid (before.sq e.region).window found (ap (λ (s : SqContent). oldest_named cid s.window) (sym left) ∙ oldest) in
+              omega (arith, both, some, waits, h.one, h.keeps.tags.free_count, h.keeps.has.few);
         }
 
   may_abort : IsAbortable told k sqid cid

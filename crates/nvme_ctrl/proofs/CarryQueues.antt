@@ -33,7 +33,7 @@ use Rattle.nvme_ctrl.specs.kept.Pool.{slot_at}
 use Rattle.nvme_ctrl.proofs.AfterSteps.{with_events, deleting_from}
 use Rattle.nvme_ctrl.proofs.AppliedQueues.{named_region, named_attached, named_on_board, begins_queue, begins_open, begins_io}
 use Rattle.nvme_ctrl.proofs.CarriedOut.{made_notes, applied, logged_is, unanswered, cookie_kept, not_passed_on, keeps_made, carried_later}
-use Rattle.nvme_ctrl.proofs.FewUnposted.{few_unposted}
+use Rattle.nvme_ctrl.proofs.PoolBounds.{unposted_held}
 use Rattle.nvme_ctrl.proofs.OwnStatus.{All-unmap, aborts_all}
 
 -- ---- the deletion of a submission queue begins
@@ -98,12 +98,10 @@ module _ (rules : FrontRules) (late : Bool) (notes : Notes) (a : Controller) (sl
   -- few are unposted
   few : (k.sq region).unposted + length (k.sq region).window < 2 ^ 16
   few =
-      let unposted = few_unposted rules late (logged notes) h.before h.holds region undeleted (h.holds.queues.sq_there region (record { qid = qid; cq_region = opened }) attached) in
-      let waits = (h.holds.regions region).few_waiting in
-      let places = h.can_pick.places in
+      let held = unposted_held rules late (logged notes) h.before h.holds region (h.holds.queues.sq_there region (record { qid = qid; cq_region = opened }) attached) in
       let same = ap (λ (s : SqContent). s.unposted) left in
       let as_many = ap (λ (s : SqContent). length s.window) left in
-      omega arith
+      omega (arith, held, same, as_many, h.keeps.tags.free_count, h.keeps.has.few)
 
   -- it began
   pub ended_begun : (b : Controller) (pool : List Slot)

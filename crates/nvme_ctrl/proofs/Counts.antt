@@ -177,12 +177,12 @@ module _ (rules : FrontRules) (late : Bool) (past : Past) (k : Content) (s : Hol
       omega (arith, left, le)
 
 -- a pick leaves as many places more outstanding as it picks
-pub outstanding-pick : (rules : FrontRules) (late : Bool) (past : Past) (k : Content) (queue : Queue) (seen : List Seen) (pick : Pick) (board : BoardView)
-    → Holds rules late past k → CanPick rules past k queue pick board → outstanding rules (event.Pick seen pick ∷ past) ≡ outstanding rules past + pick.n
-outstanding-pick rules late past k queue seen pick board s can =
+pub outstanding-pick : (rules : FrontRules) (late : Bool) (past : Past) (k : Content) (queue : Queue) (seen : List Seen) (pick : Pick)
+    → Holds rules late past k → open_sq past pick.qid ≡ Some queue → pick.n ≤ length (k.sq queue.region).window → outstanding rules (event.Pick seen pick ∷ past) ≡ outstanding rules past + pick.n
+outstanding-pick rules late past k queue seen pick s is_open enough =
     outstanding_more rules past (event.Pick seen pick ∷ past) queue.region pick.n (served_now rules late past k s)
-    (λ (r : ℕ). few_picked past r (k.sq r) (s.regions r)) (few_picked_after rules late past k s queue seen pick can.is_open can.enough)
-    (picks_more rules late past k s queue seen pick can.is_open) (region_there rules late past k s pick.qid queue can.is_open)
+    (λ (r : ℕ). few_picked past r (k.sq r) (s.regions r)) (few_picked_after rules late past k s queue seen pick is_open enough)
+    (picks_more rules late past k s queue seen pick is_open) (region_there rules late past k s pick.qid queue is_open)
 
 -- ---- the steps
 -- an entry more counts no place that was posted
@@ -245,7 +245,7 @@ counts-io rules late past k queue seen pick board c s can is_seen not_admin atta
       posted = λ r. refl;
       served = λ (r : ℕ). pick_served past seen pick r (served_now rules late past k s r);
       balanced = Balanced-put k.sq queue.region (picked_sq (k.sq queue.region) pick.n) (picked_balanced rules late past k s (k.sq queue.region) pick.n can.enough);
-      in_log = outstanding-pick rules late past k queue seen pick board s can;
+      in_log = outstanding-pick rules late past k queue seen pick s can.is_open can.enough;
       kept = refl;
     }) s.counts
 
@@ -255,28 +255,28 @@ counts-close rules late past k d table s can after = record { unposted = s.count
 
 -- ---- an admin pick
 -- one place more is outstanding after an admin pick
-pub outstanding-admin : (rules : FrontRules) (late : Bool) (past : Past) (k : Content) (seen : List Seen) (pick : Pick) (board : BoardView)
-    → Holds rules late past k → CanPick rules past k admin_queue pick board → pick.n ≡ 1 → outstanding rules (event.Pick seen pick ∷ past) ≡ outstanding rules past + 1
-outstanding-admin rules late past k seen pick board s can one =
-    outstanding-pick rules late past k admin_queue seen pick board s can ∙ ap (λ (z : ℕ). outstanding rules past + z) one
+pub outstanding-admin : (rules : FrontRules) (late : Bool) (past : Past) (k : Content) (seen : List Seen) (pick : Pick)
+    → Holds rules late past k → open_sq past pick.qid ≡ Some admin_queue → pick.n ≤ length (k.sq 0).window → pick.n ≡ 1 → outstanding rules (event.Pick seen pick ∷ past) ≡ outstanding rules past + 1
+outstanding-admin rules late past k seen pick s is_open enough one =
+    outstanding-pick rules late past k admin_queue seen pick s is_open enough ∙ ap (λ (z : ℕ). outstanding rules past + z) one
 
 -- the abort of an Abort command leaves one place more outstanding
 pub outstanding-request : (rules : FrontRules) (late : Bool) (past : Past) (k : Content) (seen : List Seen) (pick : Pick) (picked : BoardView)
-    (candidate : Candidate) (rest : List Candidate) (table : QueueTable) (s : Holds rules late past k) → CanPick rules past k admin_queue pick picked
+    (candidate : Candidate) (rest : List Candidate) (table : QueueTable) (s : Holds rules late past k) → open_sq past pick.qid ≡ Some admin_queue
     → pick.qid ≡ 0 → (k.sq 0).window ≡ candidate ∷ rest → (sqid cid : ℕ) (queue : Queue) (found : Candidate) → target_of past sqid ≡ Some queue
     → oldest_named cid ((applied_to k picked table).sq queue.region).window ≡ Some found → verdict_at rules s.tabled.history candidate ≡ verdict.Abort sqid cid
     → outstanding rules (event.Abort queue.region found.index ∷ event.Pick seen pick ∷ past) ≡ outstanding rules (event.Pick seen pick ∷ past) + 1
-outstanding-request rules late past k seen pick picked candidate rest table s can first oldest sqid cid queue found target finds is =
+outstanding-request rules late past k seen pick picked candidate rest table s is_open first oldest sqid cid queue found target finds is =
     let mid : Past = event.Pick seen pick ∷ past in
-    let before = found_before rules late past k seen pick picked s can first table sqid cid queue found target finds in
+    let before = found_before rules late past k seen pick picked s is_open first table sqid cid queue found target finds in
     let waited : is_waiting (fate_of past queue.region found.index) ≡ true =
     found_is cid (k.sq queue.region).window found before (λ (d : Candidate). is_waiting (fate_of past queue.region d.index) ≡ true) (window-waits past queue.region (k.sq queue.region) (s.regions queue.region)) in
     outstanding-abort rules mid queue.region found.index
-    (ap is_waiting (others_fate rules late past k seen pick picked s can first queue.region (target_region rules late past k seen pick picked s can first sqid queue target) found.index) ∙ waited)
+    (ap is_waiting (others_fate rules late past k seen pick picked s is_open first queue.region (target_region rules late past k seen pick picked s is_open first sqid queue target) found.index) ∙ waited)
     (found_is cid (k.sq queue.region).window found before (λ (d : Candidate). d.index < length (fetched past queue.region)) (window-below past queue.region (k.sq queue.region) (s.regions queue.region)))
     (false_from_ne_true (is_posted past queue.region found.index) (λ posted. true≢false (sym waited ∙ served_now rules late past k s queue.region found.index posted)))
     (region_there rules late past k s sqid queue (target_is past sqid queue target).1)
-    ∙ ap (λ (b : Bool). outstanding rules mid + one_if b) (took_request rules late past k seen pick picked s can first candidate rest sqid cid oldest is)
+    ∙ ap (λ (b : Bool). outstanding rules mid + one_if b) (took_request rules late past k seen pick picked s is_open first candidate rest sqid cid oldest is)
 
 module _ (rules : FrontRules) (late : Bool) (past : Past) (k : Content) (seen : List Seen) (pick : Pick) (picked : BoardView)
     (candidate : Candidate) (rest : List Candidate) (table : QueueTable) (c : ℕ) (board : BoardView) (s : Holds rules late past k)
@@ -300,7 +300,7 @@ module _ (rules : FrontRules) (late : Bool) (past : Past) (k : Content) (seen : 
     balanced =
         let enough = can.enough in
         Balanced-put k.sq 0 (picked_sq (k.sq 0) 1) (picked_balanced rules late past k s (k.sq 0) 1 (omega (arith, enough, one)));
-    in_log = outstanding-admin rules late past k seen pick picked s can one;
+    in_log = outstanding-admin rules late past k seen pick s can.is_open can.enough one;
     kept = refl;
   }
 
@@ -334,15 +334,15 @@ module _ (rules : FrontRules) (late : Bool) (past : Past) (k : Content) (seen : 
   begins_delete qid (Some queue) is begins =
       let base : Past = Closing qid queue.region ∷ mid in
       let ws : List ℕ = waiting past queue.region in
-      let apart = deleted_region rules late past k seen pick picked s can first candidate qid queue begins is in
+      let apart = deleted_region rules late past k seen pick picked s can.is_open first candidate qid queue begins is in
       leaves_none (closing_of past qid (Some queue)) (deleting_from now qid c candidate (Some queue))
       (λ (r : ℕ). aborts_posted queue.region ws base r)
       (λ (r : ℕ). aborts_served queue.region ws base r (mid_served r))
       (Balanced-put now.sq queue.region (record (now.sq queue.region) { window = []; unposted = (now.sq queue.region).unposted + length (now.sq queue.region).window })
       (omega arith))
-      (outstanding-aborts rules queue.region ws base (others_wait rules late past k seen pick picked s can first queue.region apart)
+      (outstanding-aborts rules queue.region ws base (others_wait rules late past k seen pick picked s can.is_open first queue.region apart)
       (waiting_unposted past queue.region (served_now rules late past k s queue.region))
-      (took_delete rules late past k seen pick picked s can first candidate rest qid oldest begins) (region_there rules late past k s qid queue is))
+      (took_delete rules late past k seen pick picked s can.is_open first candidate rest qid oldest begins) (region_there rules late past k s qid queue is))
       refl
 
   -- an Abort command finds a candidate of a queue, or none
@@ -360,7 +360,7 @@ module _ (rules : FrontRules) (late : Bool) (past : Past) (k : Content) (seen : 
           Balanced-put now.sq queue.region
           (record (now.sq queue.region) { window = without_oldest cid (now.sq queue.region).window; unposted = (now.sq queue.region).unposted + 1 })
           (omega (arith, fewer));
-      in_log = outstanding-request rules late past k seen pick picked candidate rest table s can first oldest sqid cid queue found target finds is;
+      in_log = outstanding-request rules late past k seen pick picked candidate rest table s can.is_open first oldest sqid cid queue found target finds is;
       kept = refl;
     },
   )
@@ -371,7 +371,7 @@ module _ (rules : FrontRules) (late : Bool) (past : Past) (k : Content) (seen : 
   aborts sqid cid None target is = leaves_none [] _ (λ r. refl) mid_served (λ r. refl) refl refl
   aborts sqid cid (Some queue) target is =
       subst (λ (ds : List ℕ). Leaves (map (λ (i : ℕ). event.Abort queue.region i) ds) (aborting_in now candidate sqid queue.region c cid board (oldest_named cid (now.sq queue.region).window)))
-      (sym (made_request rules late past k seen pick picked s can first table sqid cid queue target))
+      (sym (made_request rules late past k seen pick picked s can.is_open first table sqid cid queue target))
       (aborts_one sqid cid queue target is (oldest_named cid (now.sq queue.region).window) refl)
 
   -- a command of each verdict

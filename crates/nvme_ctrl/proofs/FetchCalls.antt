@@ -628,7 +628,6 @@ module _ (rules : FrontRules) (late : Bool) (notes : Notes) (c : Controller) (sl
           effects_at_once = next.effects_at_once;
           deletes = next.deletes;
           posts_own = tt;
-          leaves_places = next.leaves_places;
           fetches_submitted = more_submitted rules late notes c slots s qid e can;
           posts_on_free_slot = tt;
           posts_what_is_through = tt;

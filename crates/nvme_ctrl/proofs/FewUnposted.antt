@@ -85,7 +85,7 @@ aborted-posted past k r i regions h each deletes none gone fresh =
     ]
 
 -- a part of a sum is within it
-part_of : (f : ℕ → ℕ) (r n : ℕ) → r < n → f r ≤ sum_by f (upto n)
+pub part_of : (f : ℕ → ℕ) (r n : ℕ) → r < n → f r ≤ sum_by f (upto n)
 part_of f r zero l = absurd (omega arith)
 part_of f r (suc n) l =
     let split = sum_by-append f (upto n) (n ∷ []) in

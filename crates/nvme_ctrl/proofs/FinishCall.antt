@@ -578,7 +578,6 @@ module _ (rules : FrontRules) (late : Bool) (notes : Notes) (c : Controller) (sl
                 effects_at_once = n.effects_at_once;
                 deletes = n.deletes;
                 posts_own = tt;
-                leaves_places = n.leaves_places;
                 fetches_submitted = tt;
                 posts_on_free_slot = tt;
                 posts_what_is_through = tt;

@@ -1,30 +1,25 @@
--- A step of arbitration that does nothing, since there is no room for the next pick.
+-- The command that the next pick of the admin queue takes is the oldest of its slots.
 use Rattle.std.proofs.Common.{◌≡◌, ◌⊎◌, inl, inr, ℕ, ◌+◌, ◌-◌, ◌<◌, ◌≤◌, ◌==◌, ◌&&◌, Bool, true, false, if◌then◌else◌, List, ◌∷◌, length, map, drop, Option, Some, refl, sym, ap, ◌∙◌, subst, arith}
 use Rattle.std.specs.List.{All}
-use Rattle.std.proofs.lemmas.Bool.{eqb-true}
 use Rattle.std.proofs.lemmas.Option.{same_Some}
 use Rattle.std.proofs.lemmas.List.Elements.{All-head}
 use Rattle.nvme_entry.specs.declared.submission.Sqe.{Sqe}
-use Rattle.nvme_arbiter.specs.Lawful.{lawful_pick, cut}
+use Rattle.nvme_arbiter.specs.Lawful.{lawful_pick}
 use Rattle.nvme_arbiter.specs.declared.pick.Pick.{Pick}
 use Rattle.nvme_arbiter.specs.declared.pick.Seen.{Seen}
-use Rattle.nvme_log.specs.Aborts.{is_abort_entry, places_for}
-use Rattle.nvme_log.specs.Completions.{outstanding}
 use Rattle.nvme_log.specs.Histories.{admin_entry, arbitration_of}
-use Rattle.nvme_log.specs.Limits.{max_outstanding}
 use Rattle.nvme_log.specs.Queues.{Queue, admin_queue, open_sq}
 use Rattle.nvme_log.specs.Rules.{FrontRules, Past}
 use Rattle.nvme_ctrl.specs.Notes.{Notes, logged}
-use Rattle.nvme_ctrl.specs.Steps.{IsNextPick, LacksRoom}
+use Rattle.nvme_ctrl.specs.Steps.{IsNextPick}
 use Rattle.nvme_ctrl.specs.declared.slot.Slot.{Slot}
 use Rattle.nvme_ctrl.specs.declared.state.Controller.{Controller}
-use Rattle.nvme_ctrl.specs.inside.Picks.{oldest_entry, places_in}
+use Rattle.nvme_ctrl.specs.inside.Picks.{oldest_entry}
 use Rattle.nvme_ctrl.specs.kept.Content.{Candidate, Content}
 use Rattle.nvme_ctrl.specs.kept.Kept.{Item, Items, IsWaitingIn, StandsAt, tags_of, candidate_of}
 use Rattle.nvme_ctrl.specs.kept.Pool.{slot_at, IsChain}
 use Rattle.nvme_ctrl.specs.kept.State.{sq_at}
 use Rattle.nvme_ctrl.proofs.AdminCall.{IsSplit, split, length-candidates}
-use Rattle.nvme_ctrl.proofs.MayPick.{next_within}
 use Rattle.nvme_ctrl.proofs.Observing.{IsPickable, pickable, seen_is_observed}
 use Rattle.nvme_ctrl.proofs.Oldest.{admin_entry_is}
 use Rattle.nvme_ctrl.proofs.OpenQueues.{admin_is_open}
@@ -85,26 +80,3 @@ module _ (rules : FrontRules) (late : Bool) (notes : Notes) (c : Controller) (sl
     entry_is =
         ap (λ (e : Sqe). Some e) in_slot
         ∙ sym (admin_entry_is past (k.sq 0) (candidate_of x) (map candidate_of oldest.rest) (s.holds.regions 0) (window_all ∙ ap (λ (its : List Item). map candidate_of its) oldest.is))
-
-  -- what the slots say that a pick of its queue needs is what the log says
-  places_are : (pick : Pick) → pick.qid ≡ whole.qid → places_in c slots pick ≡ places_for past pick
-  places_are pick same = by (pick.qid == 0) refl where
-    by : (b : Bool) → (pick.qid == 0) ≡ b → places_in c slots pick ≡ places_for past pick
-    by true e = ap (λ (o : Option Sqe). if pick.qid == 0 && is_abort_entry o then 2 else pick.n) (entry_is (sym same ∙ eqb-true pick.qid 0 e))
-    by false e =
-        ap (λ (b : Bool). if b && is_abort_entry (Some (oldest_entry c slots)) then 2 else pick.n) e
-        ∙ sym (ap (λ (b : Bool). if b && is_abort_entry (admin_entry past) then 2 else pick.n) e)
-
-  -- there is no room for the next pick: none at all, or its places aren't free
-  pub lacks_room : (room : ℕ) (pick : Pick) → pick ≡ cut room whole → (room ≡ 0) ⊎ (max_outstanding - c.outstanding < places_in c slots pick) → LacksRoom rules notes room
-  lacks_room room pick is lacking = record {
-    pick = pick;
-    next = next_within rules notes room whole pick next is;
-    lacks = by lacking;
-  } where
-    by : (room ≡ 0) ⊎ (max_outstanding - c.outstanding < places_in c slots pick) → (room ≡ 0) ⊎ (max_outstanding < outstanding rules past + places_for past pick)
-    by (inl none) = inl none
-    by (inr more) = inr (
-        let count : c.outstanding ≡ outstanding rules past = s.numbers.outstanding_is ∙ s.holds.counts.outstanding_is in
-        let needs = places_are pick (ap (λ (p : Pick). p.qid) is) in
-        omega (arith, count, needs, more))

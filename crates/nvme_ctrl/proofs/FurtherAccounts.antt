@@ -10,7 +10,7 @@ use Rattle.nvme_admin.specs.History.{Kind}
 use Rattle.nvme_log.specs.declared.event.Event.{Event}
 use Rattle.nvme_log.specs.declared.event.Event.TheVariants.{Fetch, Post, Abort}
 use Rattle.nvme_log.specs.declared.event.Event.TheVariants as event
-use Rattle.nvme_log.specs.Limits.{max_outstanding, window_of}
+use Rattle.nvme_log.specs.Limits.{window_of}
 use Rattle.nvme_log.specs.Rules.{FrontRules, Past, upto, sq_regions_of, cq_regions_of}
 use Rattle.nvme_log.specs.Places.{Fate, WasAborted, WasPicked, Waits, fetched, places, waiting, entry_at, fate_of, is_waiting, is_picked}
 use Rattle.nvme_log.specs.Histories.{arbitration_of}
@@ -18,7 +18,7 @@ use Rattle.nvme_log.specs.Effects.{is_effect, effects_since, EffectsAtOnce}
 use Rattle.nvme_log.specs.Answers.{Answer, Executor, by_answers, outcome_answer}
 use Rattle.nvme_log.specs.Completions.{is_posted, posted_to, takes_place, outstanding, phase_after}
 use Rattle.nvme_log.specs.Dispatches.{place_at}
-use Rattle.nvme_log.specs.Account.{ServedWhileOpen, PostsOwnBy, LeavesPlaces}
+use Rattle.nvme_log.specs.Account.{ServedWhileOpen, PostsOwnBy}
 use Rattle.nvme_log.proofs.Waiting.{fetched-fetch}
 use Rattle.nvme_arbiter.specs.Lawful.{IsLimitedRun}
 use Rattle.nvme_ctrl.specs.Notes.{Notes, Note, Logged, Tail, Head, Kept, Passed, Taken, Answered, Marked, Held, Classed, EachNote, logged}
@@ -109,7 +109,7 @@ module _ (rules : FrontRules) (kind : Kind) (a n : ℕ) (some_sqs : 0 < length (
   ]
 
   -- no place is outstanding in a region of which nothing was fetched
-  outstanding-stays : (past : Past) → LeavesRegions rules others past → outstanding others past ≡ outstanding rules past
+  pub outstanding-stays : (past : Past) → LeavesRegions rules others past → outstanding others past ≡ outstanding rules past
   outstanding-stays past left =
       sum_by-further (λ (r : ℕ). length (filter (λ (i : ℕ). takes_place past r i && not (is_posted past r i)) (places past r))) (length (sq_regions_of rules)) (length (sq_regions_of others)) left.sqs
       (λ r beyond. ap (λ (xs : List Sqe). length (filter (λ (i : ℕ). takes_place past r i && not (is_posted past r i)) (upto (length xs)))) (left.none_fetched r beyond))
@@ -169,12 +169,6 @@ module _ (rules : FrontRules) (kind : Kind) (a n : ℕ) (some_sqs : 0 < length (
       by false own = own-stays (by_answers (answers notes)) c r i cqe before same own
     posts-stay e left h = tt
 
-    places-stay : (e : Event) → LeavesRegions rules others (e ∷ logged notes) → LeavesPlaces rules (logged notes) e → LeavesPlaces others (logged notes) e
-    places-stay (event.Pick seen pick) left h =
-        subst (λ (m : ℕ). nat_le m max_outstanding ≡ true) (sym (outstanding-stays (event.Pick seen pick ∷ logged notes) left)) h
-    places-stay (Abort r i) left h = subst (λ (m : ℕ). nat_le m max_outstanding ≡ true) (sym (outstanding-stays (Abort r i ∷ logged notes) left)) h
-    places-stay e left h = h
-
     fetch-stays : (e : Event) → LeavesRegions rules others (e ∷ logged notes) → FetchesSubmitted rules notes e → FetchesSubmitted others notes e
     fetch-stays (Fetch r i entry) left h =
         subst (λ (m : ℕ). length (fetched (logged notes) r) < m) (sym (submitted_same rules others notes r (fetch-there (logged notes) r i entry left))) h
@@ -195,7 +189,6 @@ module _ (rules : FrontRules) (kind : Kind) (a n : ℕ) (some_sqs : 0 < length (
       effects_at_once = effects-stay e h.effects_at_once;
       deletes = h.deletes;
       posts_own = posts-stay e left h.posts_own;
-      leaves_places = places-stay e left h.leaves_places;
       fetches_submitted = fetch-stays e left h.fetches_submitted;
       posts_on_free_slot = slot-stays e left h.posts_on_free_slot;
       posts_what_is_through = h.posts_what_is_through;

@@ -138,7 +138,6 @@ module _ (rules : FrontRules) (late later : Bool) (past : Past) (k : Content) (s
           over_further (λ (c : ℕ). length (filter (λ (t : Ready). not t.with_queue) (k.cq c).ready)) k.ncq ncq g.cqs
               (λ c beyond. ap (λ (ts : List Ready). length (filter (λ (t : Ready). not t.with_queue) ts)) (s.ready.none_beyond c beyond)),
         );
-    few_taken = s.ready.few_taken;
     none_beyond = λ c beyond. s.ready.none_beyond c (let more = g.cqs in omega (arith, beyond, more));
     admin_qid = s.ready.admin_qid;
     admin_region = s.ready.admin_region;

@@ -4,9 +4,8 @@ use Rattle.std.proofs.lemmas.Bool.{cases_lt, ne_eqb, and_parts, not-true}
 use Rattle.std.proofs.lemmas.List.{length_push}
 use Rattle.nvme_log.specs.declared.event.Event.TheVariants.{Fetch, Post}
 use Rattle.nvme_log.specs.Aborts.{is_abort_requested, is_aborted_with_queue}
-use Rattle.nvme_log.specs.Completions.{is_posted, takes_place, unposted_of}
+use Rattle.nvme_log.specs.Completions.{is_posted, takes_place, outstanding, unposted_of}
 use Rattle.nvme_log.specs.Laws.{count_of}
-use Rattle.nvme_log.specs.Limits.{max_outstanding}
 use Rattle.nvme_log.specs.Places.{fetched, waiting, places, picked, is_aborted, unaborted_below, fate_of, is_waiting, is_picked, one_if}
 use Rattle.nvme_log.specs.Rules.{FrontRules, Past, upto, sq_regions_of}
 use Rattle.nvme_log.proofs.Counting.{count_of-cons, count_of-push, counts_same, counts_less, counts_below, counts_change, fate_by}
@@ -116,7 +115,7 @@ module _ (rules : FrontRules) (late : Bool) (past : Past) (k : Content) (s : Hol
       omega (arith, less, count_false (size r)))
 
   -- what is fetched and not posted waits, is outstanding, or was aborted with its queue
-  held_by_few : all_fetches past ≤ all_posts past + all_waiting rules past + all_dropped rules past + max_outstanding
+  held_by_few : all_fetches past ≤ all_posts past + all_waiting rules past + all_dropped rules past + outstanding rules past
   held_by_few =
       let fetches = fetches-by past number fetched_none in
       let posts = posts-by (λ (r : ℕ). size r) number past in
@@ -125,7 +124,7 @@ module _ (rules : FrontRules) (late : Bool) (past : Past) (k : Content) (s : Hol
       let unposted = sum_add (λ (r : ℕ). length (waiting past r)) (λ (r : ℕ). unposted_of past r) (λ (r : ℕ). length (waiting past r) + unposted_of past r) number (λ r lt. refl) in
       let parts = sum_less (λ (r : ℕ). outstanding_of past r + deleted_of past r) (λ (r : ℕ). unposted_of past r) number (λ r lt. unposted_either past r) in
       let two = sum_add (λ (r : ℕ). outstanding_of past r) (λ (r : ℕ). deleted_of past r) (λ (r : ℕ). outstanding_of past r + deleted_of past r) number (λ r lt. refl) in
-      omega (arith, fetches, posts, all, unposted, parts, two, s.counts.outstanding_is, s.ready.few_taken)
+      omega (arith, fetches, posts, all, unposted, parts, two)
 
   -- no deletion of a region is kept, where no queue is being deleted
   pub not_deleted : NoneDeleting past → (r : ℕ) → k.deletion r ≡ None

@@ -114,7 +114,6 @@ module _ (rules : FrontRules) (late : Bool) (notes : Notes) (c : Controller) (sl
     once = m.once;
     each = m.each;
     taken = m.taken;
-    few_taken = m.few_taken;
     none_beyond = m.none_beyond;
     admin_qid = m.admin_qid;
     admin_region = m.admin_region;

@@ -12,6 +12,7 @@ use Rattle.nvme_log.specs.Rules.{FrontRules}
 use Rattle.nvme_log.specs.Places.{fate_of, is_waiting}
 use Rattle.nvme_ctrl.specs.Notes.{Notes, logged}
 use Rattle.nvme_ctrl.specs.Rings.{HasCounts}
+use Rattle.nvme_ctrl.proofs.PoolBounds.{few_outstanding}
 use Rattle.nvme_ctrl.specs.Ranges.{is_used_as, is_item, is_placed, is_link, are_linked, is_chain, is_ring, is_attached, is_sq, is_cq, is_deletion, has_counts, has_numbers, has_queues, is_in_range}
 use Rattle.nvme_ctrl.specs.Standing.{IsController}
 use Rattle.nvme_ctrl.specs.declared.ring.Ring.{Ring}
@@ -245,9 +246,9 @@ module _ (rules : FrontRules) (late : Bool) (notes : Notes) (c : Controller) (sl
         omega (arith, s.has.picked_there, window.len_is, length-map (s.items.windows r) (λ (it : Item). it.tag)))
   ]
 
-  counts_in_range : has_counts c ≡ true
+  counts_in_range : has_counts c slots ≡ true
   counts_in_range =
-      and_from _ _ (le-leb c.outstanding 256 (omega (arith, s.numbers.outstanding_is, s.holds.ready.few_taken)))
+      and_from _ _ (le-leb c.outstanding (length slots) (few_outstanding rules late notes c slots s))
       (le-leb c.picked (sq_at c.sqs c.picked_qid).window.len few_picked)
 
   -- the free slots

@@ -47,7 +47,6 @@ pub mod DeletedQueues
 pub mod HandSteps
 pub mod AnswerSteps
 pub mod OwnStatus
-pub mod MadePlaces
 pub mod EffectEvents
 pub mod OwnSteps
 pub mod NextEvents
@@ -140,5 +139,6 @@ pub mod UnpostedPlaces
 pub mod SomeDeleting
 pub mod ServedQueues
 pub mod PlacesNeeded
+pub mod PoolBounds
 pub mod NextPost
 pub mod ClearPools

@@ -12,13 +12,12 @@ use Rattle.nvme_arbiter.specs.declared.pick.Seen.{Seen}
 use Rattle.nvme_arbiter.specs.declared.settings.Mechanism.{Mechanism}
 use Rattle.nvme_arbiter.proofs.PickLaws.{limits_are_picks}
 use Rattle.nvme_arbiter.proofs.Stands.{lawful as lawful_where_stands}
-use Rattle.nvme_log.specs.Limits.{max_outstanding}
 use Rattle.nvme_log.specs.Histories.{arbitration_of}
 use Rattle.nvme_log.specs.Rules.{FrontRules}
 use Rattle.nvme_ctrl.specs.Notes.{Notes, logged}
 use Rattle.nvme_ctrl.specs.Standing.{IsController}
 use Rattle.nvme_ctrl.specs.Steps.{IsNextPick, IsNextWithin}
-use Rattle.nvme_ctrl.specs.inside.Picks.{CanPickNow, places_in}
+use Rattle.nvme_ctrl.specs.inside.Picks.{CanPickNow}
 use Rattle.nvme_ctrl.specs.declared.slot.Slot.{Slot}
 use Rattle.nvme_ctrl.specs.declared.state.Controller.{Controller}
 use Rattle.nvme_ctrl.proofs.PickCall.{board_stands}
@@ -29,9 +28,8 @@ some_room zero none = absurd (none refl)
 some_room (suc room) none = omega arith
 
 pub can_pick : (c : Controller) (slots : List Slot) (whole pick : Pick) (room : ℕ) → IsController c slots → c.picked ≡ 0
-    → pick_of (board_of c.board).kept (seen_of (board_of c.board).queues) ≡ Some whole → pick ≡ cut room whole → 1 ≤ room → places_in c slots pick ≤ max_outstanding - c.outstanding
-    → CanPickNow c slots pick
-can_pick c slots whole pick room front none peeked is one places =
+    → pick_of (board_of c.board).kept (seen_of (board_of c.board).queues) ≡ Some whole → pick ≡ cut room whole → 1 ≤ room → CanPickNow c slots pick
+can_pick c slots whole pick room front none peeked is one =
     let s = front.stands in
     let m : Mechanism = front.rules.mechanism in
     let first : ArbitrationFields = front.rules.start.settings in
@@ -41,14 +39,12 @@ can_pick c slots whole pick room front none peeked is one places =
     let lawful : lawful_pick m first h seen ≡ Some whole = sym (lawful_where_stands m first h (board_of c.board).kept seen stands.stands) ∙ peeked in
     let limited : limited_pick room m first h seen ≡ Some pick = ap (option_map (cut room)) lawful ∙ ap (λ (p : Pick). Some p) (sym is) in
     let it = limits_are_picks room m first h seen pick stands.observed one limited in
-    let few : c.outstanding ≤ max_outstanding = omega (arith, s.numbers.outstanding_is, s.holds.ready.few_taken) in
     let is_cut : IsCutOf whole pick = subst (λ (p : Pick). IsCutOf whole p) (sym is) (record { qid = refl; fresh = refl; few = omega arith }) in
     record {
       front = front;
       none_picked = none;
       next = subst (λ (o : Option Pick). IsSomeAnd o (λ w. IsCutOf w pick)) (sym peeked) is_cut;
       some = it.0.some;
-      places = omega (arith, places, few);
     }
 
 -- it is the next pick within the room

@@ -58,32 +58,18 @@ next-fetch rules late past k q queue entry s can regions on_time =
       served_while_open = (open_region rules late past k s q queue can.is_open, le-leb (length (waiting (fetch_event k queue entry ∷ past) r)) (window_at rules r) fits);
       effects_at_once = a.effects_whole;
       deletes = (undeleted_region rules late past k s q queue can.is_open, not_closed_region rules late past k s q queue can.is_open);
-      leaves_places = tt;
     }
 
 -- ---- a pick
--- a pick of n places makes n more outstanding
-abbrev pub PickedAreOutstanding : Type 0
-PickedAreOutstanding = (rules : FrontRules) (late : Bool) (past : Past) (k : Content) (queue : Queue) (seen : List Seen) (pick : Pick) (board : BoardView)
-    → Holds rules late past k → CanPick rules past k queue pick board → outstanding rules (event.Pick seen pick ∷ past) ≡ outstanding rules past + pick.n
-
--- a pick leaves no more places outstanding than there may be
-pub leaves_places : PickedAreOutstanding → (rules : FrontRules) (late : Bool) (past : Past) (k : Content) (queue : Queue) (seen : List Seen) (pick : Pick) (board : BoardView)
-    → Holds rules late past k → CanPick rules past k queue pick board → nat_le (outstanding rules (event.Pick seen pick ∷ past)) max_outstanding ≡ true
-leaves_places more rules late past k queue seen pick board s can =
-    le-leb (outstanding rules (event.Pick seen pick ∷ past)) max_outstanding
-    (rw (more rules late past k queue seen pick board s can, ← s.counts.outstanding_is) can.places)
-
 -- an I/O pick is of an open queue
-pub next-io : PickedAreOutstanding → KeepsIo Next
-next-io more rules late past k queue seen pick board c s can saw io attached regions on_time =
+pub next-io : KeepsIo Next
+next-io rules late past k queue seen pick board c s can saw io attached regions on_time =
     let a = s.own on_time in
     record {
       index_counts = tt;
       served_while_open = rw can.is_open refl;
       effects_at_once = a.effects_whole;
       deletes = undeleted_queue rules late past k s pick.qid queue can.is_open;
-      leaves_places = leaves_places more rules late past k queue seen pick board s can;
     }
 
 -- ---- a post
@@ -134,7 +120,6 @@ next-post rules late past k c t rest cqe s can regions on_time =
       served_while_open = tt;
       effects_at_once = a.effects_whole;
       deletes = (unclosed rules late past k s r i answerable, unheld_undeleting rules late past k s r i answerable.not_held);
-      leaves_places = tt;
     }
 
 -- the posted completion is the own one of its place, where the answer is that of the ready completion
@@ -225,5 +210,4 @@ next-close rules late past k d table s can regions on_time =
         s.queues.qid_is d.region ∙ stands.attached,
         all_posted (λ (i : ℕ). is_waiting (fate_of past d.region i)) (λ (i : ℕ). is_posted past d.region i) (places past d.region) posted none_waits,
       );
-      leaves_places = tt;
     }

@@ -17,7 +17,6 @@ use Rattle.nvme_arbiter.specs.declared.pick.Pick.{Pick}
 use Rattle.nvme_arbiter.specs.declared.board_fields.BoardFields.{BoardFields}
 use Rattle.nvme_log.specs.declared.event.Event.TheVariants as event
 use Rattle.nvme_log.specs.declared.place.Place.{Place}
-use Rattle.nvme_log.specs.Limits.{max_outstanding}
 use Rattle.nvme_log.specs.Rules.{FrontRules, Past}
 use Rattle.nvme_log.specs.Queues.{Queue, admin_queue, open_sq}
 use Rattle.nvme_ctrl.specs.inside.Loose.{Keeps}
@@ -37,12 +36,11 @@ use Rattle.nvme_ctrl.specs.declared.state.Controller.{Controller}
 use Rattle.nvme_ctrl.specs.kept.Content.{Candidate, Content, Ready}
 use Rattle.nvme_ctrl.specs.kept.Standing.{Holds, IsInHand, hand_of}
 use Rattle.nvme_ctrl.specs.kept.Kept.{Item, Items, IsWaitingIn, IsUnanswered, IsDevices, HasEntry, HoldsDoorbells, HoldsPassed, HoldsTags, StandsAt, candidate_of, places_of, tags_of, untaken, IsReadyOf, ReadyItem, is_passed_at, DeleteItem, deletion_in}
-use Rattle.nvme_ctrl.specs.inside.Picks.{oldest_entry, places_in}
+use Rattle.nvme_ctrl.specs.inside.Picks.{oldest_entry}
 use Rattle.nvme_ctrl.proofs.AdminCall.{queue_is, one, can_admin, oldest, linked, window_is, first, unanswered_all}
 use Rattle.nvme_ctrl.proofs.AfterSteps.{after_io}
 use Rattle.nvme_ctrl.proofs.CarriedOut.{was_picked}
 use Rattle.nvme_ctrl.proofs.Cookies.{cookies_later}
-use Rattle.nvme_ctrl.proofs.Counts.{outstanding-pick}
 use Rattle.nvme_ctrl.proofs.HandSteps.{hand_done}
 use Rattle.nvme_ctrl.proofs.NextEvents.{next-io}
 use Rattle.nvme_ctrl.proofs.OwnStatus.{candidates_wait, oldest_waits, All-unmap, IsAnswerable, answerable_is_done, ready_is_answerable}
@@ -63,8 +61,7 @@ module _ (rules : FrontRules) (late : Bool) (notes : Notes) (c : Controller) (sl
     (stands : (m : Mechanism) (first : ArbitrationFields) (h : History) → BoardStandsAt m first h (board_of c.board) → BoardStandsAt m first (Picked (seen_of (board_of c.board).queues) pick ∷ h) (board_of board))
     (queues : (board_of board).queues ≡ queues_after (board_of c.board).queues pick)
     (arbiter : IsTrue (is_arbiter board.arbiter))
-    (needs : places_in c slots pick + c.outstanding ≤ max_outstanding)
-    (places : c.outstanding + pick.n ≤ max_outstanding) (first_is : pick.qid ≡ 0)
+    (first_is : pick.qid ≡ 0)
     (may : may_be_own (logged notes) (oldest_entry c slots) ≡ true) where
   abbrev k : Content
   k = s.content
@@ -76,28 +73,28 @@ module _ (rules : FrontRules) (late : Bool) (notes : Notes) (c : Controller) (sl
   now = logged notes
 
   pub one_is : pick.n ≡ 1
-  one_is = one rules late notes c slots s none pick board lawful stands queues arbiter needs places first_is
+  one_is = one rules late notes c slots s none pick board lawful stands queues arbiter first_is
 
   pub keeps : Keeps rules notes c slots k g
   keeps = keeps_standing rules late notes c slots s
 
   pub can_be : CanPick rules (logged notes) k admin_queue pick (board_of board)
-  can_be = can_admin rules late notes c slots s none pick board lawful stands queues arbiter needs places first_is
+  can_be = can_admin rules late notes c slots s none pick board lawful stands queues arbiter first_is
 
   abbrev x : Item
-  x = (oldest rules late notes c slots k g s.holds s.shown s.account keeps none pick board can_be arbiter needs places first_is one_is).first
+  x = (oldest rules late notes c slots k g s.holds s.shown s.account keeps none pick board can_be arbiter first_is one_is).first
 
   abbrev rest : List Item
-  rest = (oldest rules late notes c slots k g s.holds s.shown s.account keeps none pick board can_be arbiter needs places first_is one_is).rest
+  rest = (oldest rules late notes c slots k g s.holds s.shown s.account keeps none pick board can_be arbiter first_is one_is).rest
 
   windows_are : g.windows 0 ≡ x ∷ rest
-  windows_are = (oldest rules late notes c slots k g s.holds s.shown s.account keeps none pick board can_be arbiter needs places first_is one_is).is
+  windows_are = (oldest rules late notes c slots k g s.holds s.shown s.account keeps none pick board can_be arbiter first_is one_is).is
 
   abbrev queue : Queue
-  queue = (due rules late notes c slots s none pick board lawful stands queues arbiter places).queue
+  queue = (due rules late notes c slots s none pick board lawful stands queues arbiter).queue
 
   region_is : queue.region ≡ 0
-  region_is = ap (λ (q : Queue). q.region) (queue_is rules late notes c slots s none pick board lawful stands queues arbiter needs places first_is)
+  region_is = ap (λ (q : Queue). q.region) (queue_is rules late notes c slots s none pick board lawful stands queues arbiter first_is)
 
   abbrev new : Controller
   new = after_pick_io c board pick.qid pick.n
@@ -112,15 +109,15 @@ module _ (rules : FrontRules) (late : Bool) (notes : Notes) (c : Controller) (sl
   later = Passed i ∷ picked_notes notes pick
 
   window_here : (k.sq 0).window ≡ candidate_of x ∷ map candidate_of rest
-  window_here = window_is rules late notes c slots k g s.holds s.shown s.account keeps none pick board can_be arbiter needs places first_is one_is
+  window_here = window_is rules late notes c slots k g s.holds s.shown s.account keeps none pick board can_be arbiter first_is one_is
 
   waits_there : IsWaitingIn slots 0 0 x
-  waits_there = first rules late notes c slots k g s.holds s.shown s.account keeps none pick board can_be arbiter needs places first_is one_is
+  waits_there = first rules late notes c slots k g s.holds s.shown s.account keeps none pick board can_be arbiter first_is one_is
 
   -- it is the one that is looked at
   entry_is : x.entry ≡ oldest_entry c slots
   entry_is =
-      let there = linked rules late notes c slots k g s.holds s.shown s.account keeps none pick board can_be arbiter needs places first_is one_is in
+      let there = linked rules late notes c slots k g s.holds s.shown s.account keeps none pick board can_be arbiter first_is one_is in
       let first_slot : (sq_at c.sqs 0).window.first ≡ x.tag = linked-head slots (sq_at c.sqs 0).window.first (sq_at c.sqs 0).window.last x.tag (tags_of rest) there.linked in
       sym (ap (λ (z : ℕ). (slot_at slots z).entry) first_slot ∙ waits_there.entry)
 
@@ -156,7 +153,7 @@ module _ (rules : FrontRules) (late : Bool) (notes : Notes) (c : Controller) (sl
   -- ---- what is handed over
   untaken_one : untaken new after g ≡ x ∷ []
   untaken_one =
-      picked_items rules late notes c slots s none pick board lawful stands queues arbiter places
+      picked_items rules late notes c slots s none pick board lawful stands queues arbiter
       ∙ ap (λ (r : ℕ). take pick.n (g.windows r)) region_is ∙ ap (λ (its : List Item). take pick.n its) windows_are ∙ ap (λ (n : ℕ). take n (x ∷ rest)) one_is
 
   quiet : (o : Option Queue) → dispatched_by now pick o ≡ []
@@ -170,14 +167,14 @@ module _ (rules : FrontRules) (late : Bool) (notes : Notes) (c : Controller) (sl
   untaken_now =
       hands
       ∙ ap (λ (ps : List Place). ps ++ place_at 0 i ∷ [])
-      (s.tags.untaken_are ∙ ap (λ (its : List Item). taken notes ++ places_of its) (none_untaken rules late notes c slots s none pick board lawful stands queues arbiter places) ∙ append-nil (taken notes))
+      (s.tags.untaken_are ∙ ap (λ (its : List Item). taken notes ++ places_of its) (none_untaken rules late notes c slots s none pick board lawful stands queues arbiter) ∙ append-nil (taken notes))
       ∙ ap (λ (p : Place). taken notes ++ p ∷ []) (sym place_is) ∙ ap (λ (its : List Item). taken notes ++ places_of its) (sym untaken_one)
 
   pass-holds : Holds rules late (event.Pick (observed_of notes) pick ∷ now) after
   pass-holds =
-      holds-io rules late now k queue (observed_of notes) pick (board_of board) (attached rules late notes c slots s none pick board lawful stands queues arbiter places).cq_region s.holds
-      (can rules late notes c slots s none pick board lawful stands queues arbiter places) (saw rules late notes c slots s none pick board lawful stands queues arbiter places) (inr passing)
-      (attached rules late notes c slots s none pick board lawful stands queues arbiter places).attached
+      holds-io rules late now k queue (observed_of notes) pick (board_of board) (attached rules late notes c slots s none pick board lawful stands queues arbiter).cq_region s.holds
+      (can rules late notes c slots s none pick board lawful stands queues arbiter) (saw rules late notes c slots s none pick board lawful stands queues arbiter) (inr passing)
+      (attached rules late notes c slots s none pick board lawful stands queues arbiter).attached
 
   -- its place is in hand now, so it waits no longer
   in_hand : (P : Place → Type 0) → All P after.hand → P (place_at 0 i)
@@ -187,7 +184,7 @@ module _ (rules : FrontRules) (late : Bool) (notes : Notes) (c : Controller) (sl
       (All-same P (x.place ∷ []) (places_of (untaken new after g)) (sym (ap places_of untaken_one))
       (All-parts P (places_of g.outs) (places_of (untaken new after g)) (subst (All P) (hand_now ∙ places-append g.outs (untaken new after g)) all)).1)) where
         hand_now : after.hand ≡ places_of (g.outs ++ untaken new after g)
-        hand_now = (pick-items rules late notes c slots s none pick board lawful stands queues arbiter places).hand_is
+        hand_now = (pick-items rules late notes c slots s none pick board lawful stands queues arbiter).hand_is
 
         places-append : (xs ys : List Item) → places_of (xs ++ ys) ≡ places_of xs ++ places_of ys
         places-append [] ys = refl
@@ -277,7 +274,7 @@ module _ (rules : FrontRules) (late : Bool) (notes : Notes) (c : Controller) (sl
   -- the note is lawful
   unanswered : answer_of notes 0 i ≡ None
   unanswered = subst (λ (r : ℕ). answer_of notes r i ≡ None) waits_there.place
-      (All-head (λ (it : Item). IsUnanswered notes it.place) x rest (unanswered_all rules late notes c slots k g s.holds s.shown s.account keeps none pick board can_be arbiter needs places first_is one_is))
+      (All-head (λ (it : Item). IsUnanswered notes it.place) x rest (unanswered_all rules late notes c slots k g s.holds s.shown s.account keeps none pick board can_be arbiter first_is one_is))
 
   is_passed_now : IsPassed (picked_notes notes pick) i
   is_passed_now = record {
@@ -291,7 +288,7 @@ module _ (rules : FrontRules) (late : Bool) (notes : Notes) (c : Controller) (sl
   }
 
   pass-doorbells : HoldsDoorbells rules later new after
-  pass-doorbells = let d = pick-doorbells rules late notes c slots s none pick board lawful stands queues arbiter places in
+  pass-doorbells = let d = pick-doorbells rules late notes c slots s none pick board lawful stands queues arbiter in
       record { sqs = d.sqs; cqs = d.cqs; phases = d.phases; no_tails = d.no_tails; no_heads = d.no_heads; no_posts = d.no_posts }
 
   -- the controller stands at its log with the pick and the note
@@ -300,17 +297,17 @@ module _ (rules : FrontRules) (late : Bool) (notes : Notes) (c : Controller) (sl
     content = after;
     items = g;
     holds = pass-holds;
-    numbers = pick-numbers rules late notes c slots s none pick board lawful stands queues arbiter places;
-    has = pick-items rules late notes c slots s none pick board lawful stands queues arbiter places;
+    numbers = pick-numbers rules late notes c slots s none pick board lawful stands queues arbiter;
+    has = pick-items rules late notes c slots s none pick board lawful stands queues arbiter;
     doorbells = pass-doorbells;
     tags = pass-tags;
     shown = record { held = s.shown.held; classed = s.shown.classed };
     regions = record { sqs = s.regions.sqs; cqs = s.regions.cqs };
     account = λ on_time.
-        let next = next-io outstanding-pick rules late now k queue (observed_of notes) pick (board_of board)
-        (attached rules late notes c slots s none pick board lawful stands queues arbiter places).cq_region s.holds
-        (can rules late notes c slots s none pick board lawful stands queues arbiter places) (saw rules late notes c slots s none pick board lawful stands queues arbiter places) (inr passing)
-        (attached rules late notes c slots s none pick board lawful stands queues arbiter places).attached pass-holds.regions on_time in
+        let next = next-io rules late now k queue (observed_of notes) pick (board_of board)
+        (attached rules late notes c slots s none pick board lawful stands queues arbiter).cq_region s.holds
+        (can rules late notes c slots s none pick board lawful stands queues arbiter) (saw rules late notes c slots s none pick board lawful stands queues arbiter) (inr passing)
+        (attached rules late notes c slots s none pick board lawful stands queues arbiter).attached pass-holds.regions on_time in
         record {
           each = (
             is_passed_now,
@@ -322,7 +319,6 @@ module _ (rules : FrontRules) (late : Bool) (notes : Notes) (c : Controller) (sl
                 effects_at_once = next.effects_at_once;
                 deletes = next.deletes;
                 posts_own = tt;
-                leaves_places = next.leaves_places;
                 fetches_submitted = tt;
                 posts_on_free_slot = tt;
                 posts_what_is_through = tt;

@@ -38,7 +38,6 @@ posted = record {
     other_dw0 = 0;
     all_else = (refl, refl, record { entry = identify 0; is_there = refl; region = refl; sqid = refl; cid = refl; status = refl; dw0 = refl; sqhd = refl; phase = refl });
   };
-  leaves_places = tt;
   fetches_submitted = tt;
   posts_on_free_slot = omega arith;
   posts_what_is_through = refl;

@@ -8,9 +8,8 @@ use Rattle.std.proofs.lemmas.Bool.{eq-eqb, ne_eqb}
 use Rattle.std.proofs.lemmas.List.{append-nil, drop-map, length-map, length-set, map-append, take-map}
 use Rattle.std.proofs.lemmas.List.Elements.{All-append, All-head, All-same, All-tail, All-take}
 use Rattle.nvme_arbiter.specs.declared.board_fields.BoardFields.{BoardFields}
-use Rattle.nvme_log.specs.Limits.{max_outstanding}
 use Rattle.nvme_log.specs.Aborts.{is_abort_entry}
-use Rattle.nvme_ctrl.specs.inside.Picks.{oldest_entry, places_in}
+use Rattle.nvme_ctrl.specs.inside.Picks.{oldest_entry}
 use Rattle.nvme_log.specs.Queues.{Queue}
 use Rattle.nvme_log.specs.declared.event.Event.TheVariants as event
 use Rattle.nvme_log.specs.declared.place.Place.{Place}
@@ -37,8 +36,7 @@ use Rattle.std.specs.Prelude.{not, ◌||◌}
 use Rattle.nvme_ctrl.specs.kept.Kept.{IsDevices, HoldsPassed}
 use Rattle.nvme_ctrl.proofs.AfterSteps.{after_io, place_of}
 use Rattle.nvme_ctrl.proofs.Cookies.{cookies_later}
-use Rattle.nvme_ctrl.proofs.Counts.{outstanding-pick}
-use Rattle.nvme_ctrl.proofs.FewUnposted.{few_unposted}
+use Rattle.nvme_ctrl.proofs.PoolBounds.{unposted_held, window_held}
 use Rattle.nvme_ctrl.proofs.NextEvents.{next-io}
 use Rattle.nvme_log.proofs.AdminPicks.{admin_is_whole}
 use Rattle.nvme_ctrl.proofs.Observing.{IsPickable, pickable, seen_is_observed}
@@ -106,14 +104,6 @@ next_lawful c pick next some m first h stands = by (pick_of (board_of c.board).k
   by None e is = absurd is
   by (Some whole) e is = record { whole = whole; lawful = sym (lawful_where_stands m first h (board_of c.board).kept (seen_of (board_of c.board).queues) stands.stands) ∙ e; is_cut = is; some = some }
 
--- a pick of an I/O queue needs a place for each command
-pub io_places : (c : Controller) (slots : List Slot) (pick : Pick) → (pick.qid ≡ 0 → ⊥) → places_in c slots pick + c.outstanding ≤ max_outstanding
-    → c.outstanding + pick.n ≤ max_outstanding
-io_places c slots pick io places = by (pick.qid == 0) (ne_eqb pick.qid 0 io) places where
-  by : (b : Bool) → b ≡ false → (if b && is_abort_entry (Some (oldest_entry c slots)) then 2 else pick.n) + c.outstanding ≤ max_outstanding → c.outstanding + pick.n ≤ max_outstanding
-  by true e places = cc e
-  by false e places = omega (arith, places)
-
 -- ---- candidates of items
 -- the places of the candidates of waiting items are those of the items
 places-are : (slots : List Slot) (q r : ℕ) (its : List Item) → All (IsWaitingIn slots q r) its → map (place_of r) (map candidate_of its) ≡ places_of its
@@ -152,8 +142,7 @@ module _ (rules : FrontRules) (late : Bool) (notes : Notes) (c : Controller) (sl
     (lawful : (m : Mechanism) (first : ArbitrationFields) (h : History) → BoardStandsAt m first h (board_of c.board) → IsLimitedPick m first h (seen_of (board_of c.board).queues) pick)
     (stands : (m : Mechanism) (first : ArbitrationFields) (h : History) → BoardStandsAt m first h (board_of c.board) → BoardStandsAt m first (Picked (seen_of (board_of c.board).queues) pick ∷ h) (board_of board))
     (queues : (board_of board).queues ≡ queues_after (board_of c.board).queues pick)
-    (is_arbiter_still : IsTrue (is_arbiter board.arbiter))
-    (places : c.outstanding + pick.n ≤ max_outstanding) where
+    (is_arbiter_still : IsTrue (is_arbiter board.arbiter)) where
   abbrev k : Content
   k = s.content
 
@@ -186,9 +175,6 @@ module _ (rules : FrontRules) (late : Bool) (notes : Notes) (c : Controller) (sl
   pub there : q < length c.sqs
   there = kept_there c k s.numbers q r due_life
 
-  places_now : k.outstanding + pick.n ≤ max_outstanding
-  places_now = omega (arith, places, s.numbers.outstanding_is)
-
   pub saw : observed_of notes ≡ seen_of k.board.queues
   saw = sym (saw_board rules late notes c slots s)
 
@@ -196,7 +182,6 @@ module _ (rules : FrontRules) (late : Bool) (notes : Notes) (c : Controller) (sl
   can = record {
     is_open = due.is_open;
     enough = due.enough;
-    places = places_now;
     lawful = subst (λ (b : BoardView). IsLimitedPick rules.mechanism rules.start.settings (arbitration_of now) (seen_of b.queues) pick) s.numbers.board_is
         ((lawful rules.mechanism rules.start.settings (arbitration_of now) (board_stands rules late notes c slots s)));
     board_queues = queues ∙ ap (λ (b : BoardView). queues_after b.queues pick) s.numbers.board_is;
@@ -204,17 +189,17 @@ module _ (rules : FrontRules) (late : Bool) (notes : Notes) (c : Controller) (sl
         (stands rules.mechanism rules.start.settings (arbitration_of now) (board_stands rules late notes c slots s));
   }
 
-  -- few places are unposted
-  few : (k.sq r).unposted ≤ k.outstanding
-  few = few_unposted rules late now k s.holds r (open_undeleted rules late now k s.holds pick.qid due.queue due.is_open) there_in
-
+  -- the counts are within the pool
   unposted_is : (picked_state c q pick.n).unposted ≡ (k.sq r).unposted + pick.n
   unposted_is =
       let was = (s.numbers.sqs q r due_life).unposted in
-      capped ((sq_at c.sqs q).unposted + pick.n) (omega (arith, was, few, places_now)) ∙ ap (λ (n : ℕ). n + pick.n) was
+      let held = unposted_held rules late now k s.holds r there_in in
+      capped ((sq_at c.sqs q).unposted + pick.n) (omega (arith, was, held, due.enough, s.tags.free_count, s.has.few)) ∙ ap (λ (n : ℕ). n + pick.n) was
 
   outstanding_is : (after_pick_io c board q pick.n).outstanding ≡ k.outstanding + pick.n
-  outstanding_is = capped (c.outstanding + pick.n) (omega (arith, places)) ∙ ap (λ (n : ℕ). n + pick.n) s.numbers.outstanding_is
+  outstanding_is =
+      let held = window_held rules late now k s.holds r there_in in
+      capped (c.outstanding + pick.n) (omega (arith, s.numbers.outstanding_is, held, due.enough, s.tags.free_count, s.has.few)) ∙ ap (λ (n : ℕ). n + pick.n) s.numbers.outstanding_is
 
   abbrev after : Content
   after = after_io k due.queue pick.n (board_of board)
@@ -405,7 +390,7 @@ module _ (rules : FrontRules) (late : Bool) (notes : Notes) (c : Controller) (sl
       shown = record { held = s.shown.held; classed = s.shown.classed };
       regions = record { sqs = s.regions.sqs; cqs = s.regions.cqs };
       account = λ on_time.
-          let next = next-io outstanding-pick rules late now k due.queue (observed_of notes) pick (board_of board) attached.cq_region s.holds can saw (inl io) attached.attached pick-holds.regions on_time in
+          let next = next-io rules late now k due.queue (observed_of notes) pick (board_of board) attached.cq_region s.holds can saw (inl io) attached.attached pick-holds.regions on_time in
           record {
             each = (
               record {
@@ -415,7 +400,6 @@ module _ (rules : FrontRules) (late : Bool) (notes : Notes) (c : Controller) (sl
                 effects_at_once = next.effects_at_once;
                 deletes = next.deletes;
                 posts_own = tt;
-                leaves_places = next.leaves_places;
                 fetches_submitted = tt;
                 posts_on_free_slot = tt;
                 posts_what_is_through = tt;

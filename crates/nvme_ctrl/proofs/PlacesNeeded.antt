@@ -1,6 +1,6 @@
 -- Whether the places of the next pick are free, whatever is picked and not taken.
 use Rattle.std.proofs.Common.{◌≡◌, ℕ, ◌+◌, ◌-◌, ◌<◌, ◌≤◌, Bool, List, [], ◌∷◌, length, Some, None, refl, sym, ap, ◌∙◌, subst, arith}
-use Rattle.std.specs.Prelude.{option_and_then, slice_get}
+use Rattle.std.specs.Prelude.{option_and_then, slice_get, min}
 use Rattle.std.proofs.lemmas.Option.{same_Some}
 use Rattle.nvme_arbiter.specs.declared.pick.Pick.{Pick}
 use Rattle.nvme_entry.specs.declared.submission.Sqe.{Sqe}
@@ -42,7 +42,7 @@ module _ (rules : FrontRules) (late : Bool) (notes : Notes) (c : Controller) (sl
     by (i ∷ is) few = absurd (omega (arith, few))
 
   -- the next pick lacks places where it needs more than are free
-  pub lacks : (pick : Pick) (places : ℕ) → IsNextPick rules notes (Some pick) → places ≡ places_for (logged notes) pick → max_outstanding - c.outstanding < places
+  pub lacks : (pick : Pick) (places : ℕ) → IsNextPick rules notes (Some pick) → places ≡ places_for (logged notes) pick → max_outstanding < min (c.outstanding + places) 65535
       → LacksPlaces rules notes
   lacks pick places next is lacking = record {
     pick = pick;
@@ -53,12 +53,11 @@ module _ (rules : FrontRules) (late : Bool) (notes : Notes) (c : Controller) (sl
   }
 
   -- and nowhere else
-  pub lacks_none : (pick : Pick) (places : ℕ) → IsNextPick rules notes (Some pick) → places ≡ places_for (logged notes) pick → places ≤ max_outstanding - c.outstanding
+  pub lacks_none : (pick : Pick) (places : ℕ) → IsNextPick rules notes (Some pick) → places ≡ places_for (logged notes) pick → min (c.outstanding + places) 65535 ≤ max_outstanding
       → LacksPlaces rules notes → ⊥
   lacks_none pick places next is fits lacking =
       let count : c.outstanding ≡ outstanding rules (logged notes) = s.numbers.outstanding_is ∙ s.holds.counts.outstanding_is in
       let same : lacking.pick ≡ pick = same_Some lacking.pick pick (lacking.next ∙ sym next) in
       let more = subst (λ (p : Pick). max_outstanding < outstanding rules (logged notes) + places_for (logged notes) p) same lacking.places in
       let kept = s.numbers.outstanding_is in
-      let few = s.holds.ready.few_taken in
-      omega (arith, count, is, fits, more, kept, few)
+      omega (arith, count, is, fits, more, kept)

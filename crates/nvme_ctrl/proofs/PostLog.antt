@@ -295,7 +295,6 @@ module _ (p : PostCall) where
         effects_at_once = next.effects_at_once;
         deletes = next.deletes;
         posts_own = posts_own on_time first.no_post first.was_served;
-        leaves_places = next.leaves_places;
         fetches_submitted = tt;
         posts_on_free_slot = omega (arith, has_room p, p.stands.holds.tabled.cq_slots p.x, (p.stands.numbers.cqs p.cqid p.x p.life).slots);
         posts_what_is_through = is_done;

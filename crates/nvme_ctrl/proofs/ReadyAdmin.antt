@@ -17,7 +17,6 @@ use Rattle.nvme_ctrl.specs.kept.Content.{Candidate}
 use Rattle.nvme_ctrl.specs.kept.Content.{Ready}
 use Rattle.nvme_ctrl.specs.kept.Content.{PendingDelete}
 use Rattle.nvme_ctrl.specs.kept.Content.{Attachment}
-use Rattle.nvme_log.specs.Limits.{max_outstanding}
 use Rattle.nvme_log.specs.Rules.{FrontRules, Past}
 use Rattle.nvme_log.specs.Queues.{cq_region_of, qid_of_region}
 use Rattle.nvme_log.specs.Places.{fetched, fate_of, is_waiting, waiting, entry_at, is_aborted}
@@ -119,9 +118,9 @@ at_oldest P xs x rest e h = All-head P x rest (All-same P (x ∷ rest) xs (sym e
 -- the relation of what is ready to the log is kept
 pub answers-ready : (past later : Past) (k after : Content) (candidate : Candidate) (rest : List Candidate) (status : StatusCode) (dw0 : ℕ)
     → HoldsReady past k (hand_of k) → ((r : ℕ) → HoldsSq past r (k.sq r)) → (k.sq 0).window ≡ candidate ∷ rest
-    → 0 < k.ncq → k.outstanding + 1 ≤ max_outstanding → SamePlaces past later → Answers k after (told candidate status dw0) → ((r : ℕ) → HoldsSq later r (after.sq r))
+    → 0 < k.ncq → SamePlaces past later → Answers k after (told candidate status dw0) → ((r : ℕ) → HoldsSq later r (after.sq r))
     → HoldsReady later after (hand_of after)
-answers-ready past later k after candidate rest status dw0 ready before oldest some few same a regions =
+answers-ready past later k after candidate rest status dw0 ready before oldest some same a regions =
     let hand : hand_of after ≡ hand_of k =
     ap (λ (ps : List Place). ps ++ held_upto after.deletion after.nsq) a.hand ∙ ap (λ (d : ℕ → Option PendingDelete). k.hand ++ held_upto d after.nsq) a.deletion
     ∙ ap (λ (n : ℕ). k.hand ++ held_upto k.deletion n) a.nsq in
@@ -161,7 +160,6 @@ answers-ready past later k after candidate rest status dw0 ready before oldest s
         deleting = λ e. cc;
       }) (All-nil (IsReady later after.deletion 0));
       taken = omega (arith, a.outstanding, ap (λ (xs : List Place). length xs) hand);
-      few_taken = omega (arith, a.outstanding);
       admin_qid = same.qids 0 0 ready.admin_qid;
       admin_region = same.cq_regions 0 0 ready.admin_region;
     })
@@ -206,11 +204,11 @@ left-candidates k Q = at_put (λ (x : ℕ) (u v : SqContent). All Q u.window →
 -- the relation of what is ready to the log is kept
 pub deletes-ready : (past : Past) (k : Content) (candidate : Candidate) (rest : List Candidate) (seen : List Seen) (pick : Pick) (board : BoardView) (table : QueueTable) (region qid c : ℕ)
     → HoldsReady past k (hand_of k) → ((r : ℕ) → HoldsSq past r (k.sq r)) → (k.sq 0).window ≡ candidate ∷ rest → k.deletion region ≡ None
-    → region < k.nsq → k.outstanding + 1 ≤ max_outstanding → c < k.ncq → cq_region_of past region ≡ Some c → qid_of_region past region ≡ Some qid → took_abort (event.Pick seen pick ∷ past) ≡ false
+    → region < k.nsq → c < k.ncq → cq_region_of past region ≡ Some c → qid_of_region past region ≡ Some qid → took_abort (event.Pick seen pick ∷ past) ≡ false
     → ((r : ℕ) → HoldsSq (with_events (map (λ (i : ℕ). Abort region i) (waiting past region)) (Closing qid region ∷ event.Pick seen pick ∷ past)) r ((with_deleting (applied_to k board table) qid region c candidate).sq r))
     → HoldsReady (with_events (map (λ (i : ℕ). Abort region i) (waiting past region)) (Closing qid region ∷ event.Pick seen pick ∷ past))
     (with_deleting (applied_to k board table) qid region c candidate) (hand_of (with_deleting (applied_to k board table) qid region c candidate))
-deletes-ready past k candidate rest seen pick board table region qid c ready before oldest none within few small attached named_by took regions =
+deletes-ready past k candidate rest seen pick board table region qid c ready before oldest none within small attached named_by took regions =
     let ws : List ℕ = waiting past region in
     let middle : Past = Closing qid region ∷ event.Pick seen pick ∷ past in
     let later : Past = with_events (map (λ (i : ℕ). Abort region i) ws) middle in
@@ -280,7 +278,6 @@ deletes-ready past k candidate rest seen pick board table region qid c ready bef
             held-put (λ (xs : List Place). length xs) (λ xs ys. length-append xs ys) k.deletion region (Some place) k.nsq within,
             ap (λ (o : Option PendingDelete). length (held_by o)) none,
           );
-      few_taken = few;
       admin_qid = qid_stays 0 ∙ ready.admin_qid;
       admin_region = region_stays 0 ∙ ready.admin_region;
     })

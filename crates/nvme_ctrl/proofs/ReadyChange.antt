@@ -8,7 +8,6 @@ use Rattle.std.proofs.lemmas.List.Elements.{All-append, All-same}
 use Rattle.nvme_ctrl.specs.kept.Content.{Attachment}
 use Rattle.nvme_ctrl.specs.kept.Content.{Candidate}
 use Rattle.nvme_ctrl.specs.kept.Content.{Ready}
-use Rattle.nvme_log.specs.Limits.{max_outstanding}
 use Rattle.nvme_log.specs.Rules.{Past}
 use Rattle.nvme_log.specs.Queues.{cq_region_of, qid_of_region}
 use Rattle.nvme_log.specs.Completions.{posts_of}
@@ -80,7 +79,6 @@ pub record Becomes (past later : Past) (k after : Content) (hand held : List Pla
   pub stay : (c : ℕ) (t : Ready) → IsServed past t → IsReady past k.deletion c t → IsReady later after.deletion c t
   pub new : All (IsReady later after.deletion a) ts
   pub taken : sum_by (λ (t : Ready). one_if (not t.with_queue)) ts + length held + k.outstanding ≡ after.outstanding + length hand
-  pub few_taken : after.outstanding ≤ max_outstanding
   pub admin_qid : qid_of_region later 0 ≡ Some 0
   pub admin_region : cq_region_of later 0 ≡ Some 0
 
@@ -111,7 +109,6 @@ becomes-ready past later k after hand held a ts h b = record {
     sum_ready-grows (λ (t : Ready). one_if (not t.with_queue)) (readies k.cq) (readies after.cq) a k.ncq ts b.grows b.small,
     ap (λ (n : ℕ). sum_ready (λ (t : Ready). one_if (not t.with_queue)) (readies after.cq) n) b.ncq,
   );
-  few_taken = b.few_taken;
   none_beyond = λ c l. b.grows.elsewhere c (λ e. absurd (omega (arith, b.small, b.ncq))) ∙ h.none_beyond c (omega (arith, l, b.ncq));
   admin_qid = b.admin_qid;
   admin_region = b.admin_region;

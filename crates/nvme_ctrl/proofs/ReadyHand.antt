@@ -102,7 +102,6 @@ ready-answer rules late past k p before after sqid c cid answer entry s can ther
             length-append before (p ∷ after),
             ap (λ (ps : List Place). length ps) can.in_hand,
           );
-      few_taken = s.ready.few_taken;
       admin_qid = s.ready.admin_qid;
       admin_region = s.ready.admin_region;
     })

@@ -82,7 +82,6 @@ ready-fetch rules late past k q queue entry s can after =
       };
       new = λ j d l. absurd (omega arith);
       taken = omega arith;
-      few_taken = s.ready.few_taken;
       admin_qid = s.ready.admin_qid;
       admin_region = s.ready.admin_region;
     })
@@ -126,7 +125,6 @@ ready-io rules late past k queue seen pick board c s can observed io attached af
             length-append k.hand places,
             length-map taken (place_of region),
           );
-      few_taken = can.places;
       admin_qid = s.ready.admin_qid;
       admin_region = s.ready.admin_region;
     })
@@ -170,7 +168,6 @@ ready-post rules late past k c t rest cqe s can after =
           (All-tail (IsReady later k.deletion c) t rest (All-same (IsReady later k.deletion c) _ _ (sym can.oldest) (stays c)))
           (λ x d. stays x);
       taken = omega (arith, s.ready.taken);
-      few_taken = omega (arith, s.ready.few_taken);
       none_beyond = at_put_cq (λ (x : ℕ) (u : CqContent). k.ncq ≤ x → u.ready ≡ []) k.cq c (posted_cq (k.cq c) rest cqe)
           (λ l. absurd (omega (arith, small))) (λ x d. s.ready.none_beyond x);
       admin_qid = s.ready.admin_qid;
@@ -245,7 +242,6 @@ ready-close rules late past k d table s can after =
         held-put (λ (xs : List Place). length xs) (λ xs ys. length-append xs ys) k.deletion d.region None k.nsq there,
         ap (λ (o : Option PendingDelete). length (held_by o)) can.pending,
       );
-      few_taken = s.ready.few_taken;
       admin_qid = s.ready.admin_qid;
       admin_region = s.ready.admin_region;
     })
@@ -261,7 +257,7 @@ module _ (rules : FrontRules) (late : Bool) (past : Past) (k : Content) (seen : 
   -- the answer of a command is ready, where the places of the log are as before
   answer : (later : Past) (after : Content) (status : StatusCode) (dw0 : ℕ) → SamePlaces past later → Answers k after (told candidate status dw0) → ReadyOnes rules late later after
   answer later after status dw0 same a regions =
-      answers-ready past later k after candidate rest status dw0 s.ready s.regions apply.oldest (some_cqs past k (hand_of k) s.ready s.queues) (omega (arith, can.places)) same a regions
+      answers-ready past later k after candidate rest status dw0 s.ready s.regions apply.oldest (some_cqs past k (hand_of k) s.ready s.queues) same a regions
 
   -- with the status and the Command Dword 0 of a verdict
   answer_by : (later : Past) (after : Content) (v : Verdict) → SamePlaces past later → Answers k after (answered candidate v) → ReadyOnes rules late later after
@@ -287,11 +283,11 @@ module _ (rules : FrontRules) (late : Bool) (past : Past) (k : Content) (seen : 
   begins_delete qid (Some queue) e is chosen =
       let attached = chosen queue e in
       deletes-ready past k candidate rest seen pick picked table queue.region qid c s.ready s.regions apply.oldest (open_undeleted rules late past k s qid queue e)
-      (s.queues.sq_there queue.region (record { qid = qid; cq_region = c }) attached) (omega (arith, can.places))
+      (s.queues.sq_there queue.region (record { qid = qid; cq_region = c }) attached)
       (s.queues.posts_there queue.region (record { qid = qid; cq_region = c }) attached)
       (s.queues.cq_region_is queue.region ∙ ap (option_map (λ (a : Attachment). a.cq_region)) attached)
       (s.queues.qid_is queue.region ∙ ap (option_map (λ (a : Attachment). a.qid)) attached)
-      (took_delete rules late past k seen pick picked s can first candidate rest qid apply.oldest is)
+      (took_delete rules late past k seen pick picked s can.is_open first candidate rest qid apply.oldest is)
 
   -- the closing of a completion queue, where it is open, leaves the places
   closing-leaves : (qid : ℕ) (o : Option ℕ) → SamePlaces past (with_events (closed_cq_of qid o) (event.Pick seen pick ∷ past))
@@ -310,14 +306,13 @@ module _ (rules : FrontRules) (late : Bool) (past : Past) (k : Content) (seen : 
       (aborting_in (applied_to k picked table) candidate sqid queue.region c cid board o)
   aborts_one sqid cid queue target is chosen None finds = answer _ _ success 1 pick-leaves (leaves_answer picked (told_abort candidate 1))
   aborts_one sqid cid queue target is chosen (Some found) finds =
-      let before = found_before rules late past k seen pick picked s can first table sqid cid queue found target finds in
+      let before = found_before rules late past k seen pick picked s can.is_open first table sqid cid queue found target finds in
       let attached = (chosen queue found target before).attached in
       aborts-ready past k candidate rest seen pick picked board table sqid queue.region c cid found s.ready s.regions apply.oldest
-      (apply.second (verdict_is_abort rules.start s.tabled.history candidate.entry sqid cid is))
       (s.queues.posts_there queue.region (record { qid = sqid; cq_region = c }) attached)
       (s.queues.cq_region_is queue.region ∙ ap (option_map (λ (a : Attachment). a.cq_region)) attached)
       (s.queues.qid_is queue.region ∙ ap (option_map (λ (a : Attachment). a.qid)) attached)
-      (took_request rules late past k seen pick picked s can first candidate rest sqid cid apply.oldest is)
+      (took_request rules late past k seen pick picked s can.is_open first candidate rest sqid cid apply.oldest is)
       (found_is cid (k.sq queue.region).window found before (λ (d : Candidate). entry_at past queue.region d.index ≡ Some d.entry) (s.regions queue.region).entries)
       (found_is cid (k.sq queue.region).window found before (λ (d : Candidate). is_aborted past queue.region d.index ≡ false)
       (waiting-unaborted past queue.region (k.sq queue.region) (s.regions queue.region)))
@@ -333,7 +328,7 @@ module _ (rules : FrontRules) (late : Bool) (past : Past) (k : Content) (seen : 
       let o : Option Candidate = oldest_named cid (now.sq queue.region).window in
       subst (λ (ds : List ℕ). ReadyOnes rules late (with_events (map (λ (i : ℕ). event.Abort queue.region i) ds) (event.Pick seen pick ∷ past))
       (aborting_in now candidate sqid queue.region c cid board o))
-      (sym (made_request rules late past k seen pick picked s can first table sqid cid queue target))
+      (sym (made_request rules late past k seen pick picked s can.is_open first table sqid cid queue target))
       (aborts_one sqid cid queue target is chosen o refl)
 
   -- a command of each verdict

@@ -26,7 +26,6 @@ other_answer = record {
   effects_at_once = refl;
   deletes = (refl, λ s. refl);
   posts_own = (refl, refl, record { entry = read 0; is_there = refl; region = refl; sqid = refl; cid = refl; status = refl; dw0 = refl; sqhd = refl; phase = refl });
-  leaves_places = tt;
   fetches_submitted = tt;
   posts_on_free_slot = omega arith;
   posts_what_is_through = refl;

@@ -1,5 +1,5 @@
 -- What a controller may note, after what it noted before.
--- (Base Specification, Command Submission and Completion Mechanism, Command Arbitration, Admin Command Set; tags, windows, outstanding places, queues that
+-- (Base Specification, Command Submission and Completion Mechanism, Command Arbitration, Admin Command Set; tags, windows, queues that
 -- are held, classes that are set: profile)
 use Rattle.std.specs.Prelude.{◌≡◌, ◌≢◌, ℕ, ◌+◌, ◌<◌, ◌≤◌, Bool, true, false, ◌∷◌, length, Some, None, is_some, slice_get, MatchBool, ◌==◌, ◌&&◌}
 use Rattle.std.specs.List.{list_any}
@@ -19,7 +19,7 @@ use Rattle.nvme_log.specs.Effects.{made_last, effects_since, EffectsAtOnce}
 use Rattle.nvme_log.specs.Dispatches.{place_at}
 use Rattle.nvme_log.specs.Completions.{posted_to, own_status, own_dw0}
 use Rattle.nvme_log.specs.Answers.{Answer, by_answers}
-use Rattle.nvme_log.specs.Account.{IndexCounts, ServedWhileOpen, PostsOwnBy, LeavesPlaces}
+use Rattle.nvme_log.specs.Account.{IndexCounts, ServedWhileOpen, PostsOwnBy}
 use Rattle.nvme_arbiter.specs.Limits.{queue_limit}
 use Rattle.nvme_log.specs.Rules.{upto}
 use Rattle.nvme_log.specs.Aborts.{is_index, just_picked}
@@ -75,7 +75,6 @@ pub record IsLawfulEvent (rules : FrontRules) (notes : Notes) (e : Event) : Type
   pub effects_at_once : EffectsAtOnce rules (logged notes) e
   pub deletes : FollowsDeletions (logged notes) e
   pub posts_own : PostsOwn rules notes e
-  pub leaves_places : LeavesPlaces rules (logged notes) e
   pub fetches_submitted : FetchesSubmitted rules notes e
   pub posts_on_free_slot : PostsOnFreeSlot rules notes e
   pub posts_what_is_through : PostsWhatIsThrough notes e

@@ -10,13 +10,12 @@ use Rattle.nvme_arbiter.specs.Lawful.{IsLawfulRun, IsLimitedPick}
 use Rattle.nvme_log.specs.declared.event.Event.TheVariants as event
 use Rattle.nvme_log.specs.Rules.{FrontRules, sq_regions_of, cq_regions_of, Each, Past, upto}
 use Rattle.nvme_log.specs.Places.{fetched, is_aborted, places, observation_of, waiting}
-use Rattle.nvme_log.specs.Limits.{max_outstanding}
 use Rattle.nvme_log.specs.declared.place.Place.{Place}
 use Rattle.nvme_log.specs.Aborts.{is_aborted_with_queue}
 use Rattle.nvme_log.specs.Histories.{arbitration_of}
-use Rattle.nvme_log.specs.Completions.{is_posted, posted_to, posts_of, phase_after}
+use Rattle.nvme_log.specs.Completions.{is_posted, posted_to, posts_of, phase_after, outstanding}
 use Rattle.nvme_log.specs.Answers.{Answer, by_answers}
-use Rattle.nvme_log.specs.Account.{Deletes, IsAccountBy, latest_admin_place}
+use Rattle.nvme_log.specs.Account.{Deletes, IsAccountBy, latest_admin_place, LeavesPlaces}
 use Rattle.nvme_log.specs.Laws.{PicksPlace, count_of}
 use Rattle.nvme_admin.specs.History.{Kind}
 use Rattle.nvme_ctrl.specs.Notes.{Notes, Logged, logged, Note, Held}
@@ -38,7 +37,7 @@ NonePassed notes = (i : ℕ) → is_passed notes i ≡ false
 -- which keep a front's order of deletions, one at a time with nothing fetched or picked meanwhile, are those of an accounted log, where the device answers:
 -- so every law of such logs holds of it
 abbrev pub EventsAreAccounted : Type 0
-EventsAreAccounted = (rules : FrontRules) (notes : Notes) (sent : ℕ → List Sqe) (collected : ℕ → List Cqe) → NonePassed notes → NoneArranged notes → Each Deletes (logged notes) → IsAccount rules notes
+EventsAreAccounted = (rules : FrontRules) (notes : Notes) (sent : ℕ → List Sqe) (collected : ℕ → List Cqe) → NonePassed notes → NoneArranged notes → Each Deletes (logged notes) → Each (LeavesPlaces rules) (logged notes) → IsAccount rules notes
     → IsLawfulRun rules.mechanism rules.start.settings (arbitration_of (logged notes))
     → ((r : ℕ) → IsPrefix (fetched (logged notes) r) (sent r)) → ((c : ℕ) → IsPrefix (collected c) (posted_to (logged notes) c))
     → IsAccountBy rules (by_answers (answers notes)) sent (logged notes) collected
@@ -159,11 +158,11 @@ all_dropped rules past =
 abbrev pub NoneDeleting : Past → Type 0
 NoneDeleting past = (r : ℕ) → deleting past r ≡ None
 
--- beside the commands that wait and those that were aborted with their queue, no more have no completion than may be outstanding; where no queue is being
+-- beside the commands that wait and those that were aborted with their queue, no more have no completion than are outstanding; where no queue is being
 -- deleted, that is so beside the commands that wait alone. Each command without a completion holds a slot of the pool
 pub record HoldsFewSlots (rules : FrontRules) (past : Past) : Type 0 where
-  pub always : all_fetches past ≤ all_posts past + all_waiting rules past + all_dropped rules past + max_outstanding
-  pub none_deleting : NoneDeleting past → all_fetches past ≤ all_posts past + all_waiting rules past + max_outstanding
+  pub always : all_fetches past ≤ all_posts past + all_waiting rules past + all_dropped rules past + outstanding rules past
+  pub none_deleting : NoneDeleting past → all_fetches past ≤ all_posts past + all_waiting rules past + outstanding rules past
 
 abbrev pub FewHoldSlots : Type 0
 FewHoldSlots = (rules : FrontRules) (late : Bool) (notes : Notes) (c : Controller) (slots : List Slot) → Stands rules late notes c slots → HoldsFewSlots rules (logged notes)

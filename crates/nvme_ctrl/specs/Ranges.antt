@@ -3,7 +3,6 @@ use Rattle.std.specs.Prelude.{ℕ, zero, suc, ◌==◌, ◌&&◌, ◌||◌, nat_
 use Rattle.std.specs.List.{list_all}
 use Rattle.nvme_arbiter.specs.Layout.{is_arbiter}
 use Rattle.nvme_admin.specs.declared.bounds.TheConstants.{MAX_REGIONS}
-use Rattle.nvme_log.specs.Limits.{max_outstanding}
 use Rattle.nvme_ctrl.specs.declared.ring.Ring.{Ring}
 use Rattle.nvme_ctrl.specs.declared.chain.Chain.{Chain}
 use Rattle.nvme_ctrl.specs.declared.slot.Slot.{Slot}
@@ -63,13 +62,13 @@ is_cq slots s = is_ring s.ring && is_chain 3 5 slots s.ready
 abbrev pub is_deletion : List Slot → Deletion → Bool
 is_deletion slots d = if d.pending == 0 then true else nat_lt d.tag (length slots) && ((slot_at slots d.tag).state == 6)
 
--- the counts are within their limits
-abbrev pub has_counts : Controller → Bool
-has_counts c = nat_le c.outstanding max_outstanding && nat_le c.picked (sq_at c.sqs c.picked_qid).window.len
+-- no more commands are outstanding than there are slots, nor more of a queue picked than are in its window
+abbrev pub has_counts : Controller → List Slot → Bool
+has_counts c slots = nat_le c.outstanding (length slots) && nat_le c.picked (sq_at c.sqs c.picked_qid).window.len
 
 -- its own numbers
 abbrev pub has_numbers : Controller → List Slot → Bool
-has_numbers c slots = is_arbiter c.board.arbiter && (has_counts c && (list_all (is_deletion slots) c.deletions && is_chain 0 0 slots c.free))
+has_numbers c slots = is_arbiter c.board.arbiter && (has_counts c slots && (list_all (is_deletion slots) c.deletions && is_chain 0 0 slots c.free))
 
 -- those of its queues
 abbrev pub has_queues : Controller → List Slot → Bool

@@ -1,5 +1,5 @@
 -- The steps of arbitration of a controller, and the end of a deletion. (Base Specification, Command Arbitration, Admin Command Set)
-use Rattle.std.specs.Prelude.{◌≡◌, ◌≢◌, ◌⊎◌, ℕ, ◌+◌, ◌<◌, Bool, List, [], ◌∷◌, length, Option, Some, None, IsSomeAnd, slice_get}
+use Rattle.std.specs.Prelude.{◌≡◌, ◌≢◌, ℕ, ◌+◌, ◌<◌, Bool, List, [], ◌∷◌, length, Option, Some, None, IsSomeAnd, slice_get}
 use Rattle.nvme_arbiter.specs.Lawful.{lawful_pick, limited_pick}
 use Rattle.nvme_arbiter.specs.declared.pick.Pick.{Pick}
 use Rattle.nvme_admin.specs.declared.verdict.Verdict.{Verdict}
@@ -32,7 +32,7 @@ use Rattle.nvme_ctrl.specs.Standing.{Stands}
 use Rattle.nvme_ctrl.specs.declared.slot.Slot.{Slot}
 use Rattle.nvme_ctrl.specs.declared.state.Controller.{Controller}
 use Rattle.nvme_ctrl.specs.declared.picks.Step.{Step}
-use Rattle.nvme_ctrl.specs.declared.picks.Step.TheVariants.{Idle, Busy, Full, Picked, Passed as PassedOn, Done}
+use Rattle.nvme_ctrl.specs.declared.picks.Step.TheVariants.{Idle, Busy, NoRoom, Picked, Passed as PassedOn, Done}
 
 -- the next pick is the lawful one, on exactly what arbitration sees
 abbrev pub IsNextPick : FrontRules → Notes → Option Pick → Type 0
@@ -122,17 +122,17 @@ pub record LacksPlaces (rules : FrontRules) (notes : Notes) : Type 0 where
   pub next : IsNextPick rules notes (Some pick)
   pub places : max_outstanding < outstanding rules (logged notes) + places_for (logged notes) pick
 
--- there is a next pick, but no room for it: the device has room for no command, or what it has room for needs more places than are free
+-- there is a next pick, but the device has room for no command
 pub record LacksRoom (rules : FrontRules) (notes : Notes) (room : ℕ) : Type 0 where
   pub pick : Pick
-  pub next : IsNextWithin rules notes room (Some pick)
-  pub lacks : (room ≡ 0) ⊎ (max_outstanding < outstanding rules (logged notes) + places_for (logged notes) pick)
+  pub next : IsNextPick rules notes (Some pick)
+  pub none : room ≡ 0
 
 -- a step of arbitration, with room for so many commands. Where it did nothing, it leaves the controller as it was
 abbrev pub HasStepped : FrontRules → Bool → Notes → (room : ℕ) → Step → Controller → List Slot → Type 0
 HasStepped rules late notes room Idle c slots = Stands rules late notes c slots × IsNextPick rules notes None
 HasStepped rules late notes room Busy c slots = Stands rules late notes c slots × IsBusy notes
-HasStepped rules late notes room Full c slots = Stands rules late notes c slots × LacksRoom rules notes room
+HasStepped rules late notes room NoRoom c slots = Stands rules late notes c slots × LacksRoom rules notes room
 HasStepped rules late notes room (Picked pick) c slots = IsNextWithin rules notes room (Some pick) × Stands rules late (picked_notes notes pick) c slots
 HasStepped rules late notes room (PassedOn pick) c slots = HasPassed rules late notes pick c slots
 HasStepped rules late notes room (Done effect entry) c slots = HasDone rules late notes effect entry c slots

@@ -62,8 +62,9 @@ impl Controller {
         }
     }
 
-    /// Whether the next pick needs more outstanding places than are free. `pick` with room for all of it answers `Full`
-    /// then, unless it answers `Busy`. Where there is no next pick, no place is lacked.
+    /// Whether the next pick would leave more commands outstanding than `MAX_OUTSTANDING`, with one more for an Abort
+    /// command: the one that it aborts. `pick` has no such limit: a caller that keeps to one asks here before. Where there
+    /// is no next pick, no place is lacked.
     pub fn lacks_places(&self, slots: &[Slot]) -> bool
         requires front { IsController self.now slots.now }
         ensures lacks { (rules : FrontRules) (late : Bool) (notes : Notes) → Stands rules late notes self.now slots.now → result ≡ true → LacksPlaces rules notes }
@@ -71,7 +72,7 @@ impl Controller {
     {
         match self.board.peek() {
             Some(pick) => {
-                self.needs(slots, pick) > MAX_OUTSTANDING.saturating_sub(self.outstanding)
+                self.outstanding.saturating_add(self.needs(slots, pick)) > MAX_OUTSTANDING
             }
             None => false,
         }

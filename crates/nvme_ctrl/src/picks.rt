@@ -1,10 +1,9 @@
-// The picks of a controller. (Base Specification, Command Arbitration; outstanding places: profile)
+// The picks of a controller. (Base Specification, Command Arbitration)
 use crate::slot::{Slot, slot_at};
 use crate::state::Controller;
 use nvme_admin::Effect;
 use nvme_arbiter::Pick;
 use nvme_entry::{AdminCommand, Sqe, admin_of};
-use nvme_log::MAX_OUTSTANDING;
 
 /// What a step of arbitration did.
 #[derive(Clone, Copy, Debug, PartialEq, Eq)]
@@ -13,9 +12,8 @@ pub enum Step {
     Idle,
     /// Commands are picked that the device hasn't taken.
     Busy,
-    /// There is a next pick, but no room for it: the device has room for no command, or what it has room for needs more
-    /// places than are free. A place is free again after its command's completion was posted.
-    Full,
+    /// There is a next pick, but the device has room for no command.
+    NoRoom,
     /// Commands of an I/O queue were picked, for the device to take: no more than it has room for.
     Picked(Pick),
     /// A command of the admin queue was picked that is the device's, which is to take it.
@@ -31,8 +29,6 @@ impl Controller {
     ghost use Rattle.nvme_arbiter.specs.Queues.{seen_of};
     ghost use Rattle.nvme_arbiter.specs.Standing.{pick_of};
     ghost use Rattle.nvme_log.specs.Rules.{FrontRules};
-    ghost use Rattle.nvme_log.specs.Limits.{max_outstanding};
-    ghost use Rattle.nvme_log.specs.Aborts.{is_abort_entry};
     ghost use Rattle.nvme_ctrl.specs.Notes.{Notes, logged};
     ghost use Rattle.nvme_ctrl.specs.Standing.{Stands, IsController};
     ghost use Rattle.nvme_arbiter.specs.declared.pick.Pick.{Pick};
@@ -45,7 +41,7 @@ impl Controller {
     ghost use Rattle.nvme_ctrl.specs.Making.{placing_in};
     ghost use Rattle.nvme_admin.specs.Effects.{verdict_in};
     ghost use Rattle.nvme_ctrl.specs.Steps.{IsNextPick, IsVerdictOf, IsBusy, HasStepped, HasPassed, HasDone, NamesQueues, picked_notes};
-    ghost use Rattle.nvme_ctrl.specs.inside.Picks.{CanPickNow, oldest_entry, places_in};
+    ghost use Rattle.nvme_ctrl.specs.inside.Picks.{CanPickNow, oldest_entry};
     ghost use Rattle.nvme_ctrl.specs.declared.slot.Slot.{Slot};
     ghost use Rattle.nvme_ctrl.specs.declared.picks.Step.TheVariants as step;
 
@@ -56,19 +52,6 @@ impl Controller {
         ensures { (rules : FrontRules) (late : Bool) (notes : Notes) → Stands rules late notes self.now slots.now → IsNextPick rules notes result }
     {
         self.board.peek()
-    }
-
-    // How many outstanding places a pick needs: one for each command, and for an Abort command a second one, for the
-    // command that it aborts.
-    fn places_for(&self, slots: &[Slot], pick: Pick) -> u16
-        ensures { result ≡ places_in self.now slots.now pick }
-    {
-        let oldest = slot_at(slots, self.sq(0).window.first);
-        if pick.qid == 0 && matches!(admin_of(&oldest.entry), AdminCommand::Abort { .. }) {
-            2
-        } else {
-            pick.n
-        }
     }
 
     // Makes the next pick, which is of an I/O queue.
@@ -168,7 +151,7 @@ impl Controller {
         ensures idle { result ≡ step.Idle → (self.new ≡ self.old) × (slots.new ≡ slots.old) }
         ensures busy { result ≡ step.Busy → (self.new ≡ self.old) × (slots.new ≡ slots.old) }
         ensures taken { (rules : FrontRules) (late : Bool) (notes : Notes) → Stands rules late notes self.old slots.old → IsBusy notes → result ≡ step.Busy }
-        ensures full { result ≡ step.Full → (self.new ≡ self.old) × (slots.new ≡ slots.old) }
+        ensures no_room { result ≡ step.NoRoom → (self.new ≡ self.old) × (slots.new ≡ slots.old) }
         ensures io { (pick : Pick) → result ≡ step.Picked pick → pick.qid ≢ 0 }
         ensures commanded { (rules : FrontRules) (late : Bool) (notes : Notes) → Stands rules late notes self.old slots.old → (effect : Effect) (entry : Sqe) → result ≡ step.Done effect entry → IsVerdictOf (admin_command_of entry) (verdict_in effect) }
         ensures passed { (rules : FrontRules) (late : Bool) (notes : Notes) → Stands rules late notes self.old slots.old → (pick : Pick) → result ≡ step.Passed pick → oldest_is_own (own_of self.old) notes ≡ Some true }
@@ -186,12 +169,9 @@ impl Controller {
             return Step::Idle;
         };
         if room == 0 {
-            return Step::Full;
+            return Step::NoRoom;
         }
         let pick = whole.up_to(room);
-        if self.places_for(slots, pick) > MAX_OUTSTANDING.saturating_sub(self.outstanding) {
-            return Step::Full;
-        }
         if pick.qid != 0 {
             self.pick_io(slots, pick);
             Step::Picked(pick)

@@ -8,7 +8,6 @@ use crate::ring::Ring;
 use crate::slot::{ANSWERED, DELETING, DROPPED, FREE, OUT, Slot, WAITING, slot_at};
 use crate::state::{Controller, CqState, Deletion, SqState};
 use nvme_admin::MAX_REGIONS;
-use nvme_log::MAX_OUTSTANDING;
 
 impl Controller {
     ghost use Rattle.std.specs.Prelude.{◌≡◌, true};
@@ -38,7 +37,7 @@ impl Controller {
         ensures { result ≡ has_numbers self.now slots.now }
     {
         self.board.arbiter.is_arbiter()
-            && self.has_counts()
+            && self.has_counts(slots)
             && are_deletions(&self.deletions, slots)
             && is_chain(&self.free, slots, FREE, FREE)
     }
@@ -51,10 +50,10 @@ impl Controller {
     }
 
     // Whether the counts are within their limits.
-    fn has_counts(&self) -> bool
-        ensures { result ≡ has_counts self.now }
+    fn has_counts(&self, slots: &[Slot]) -> bool
+        ensures { result ≡ has_counts self.now slots.now }
     {
-        self.outstanding <= MAX_OUTSTANDING && self.picked <= self.sq(self.picked_qid).window.len
+        usize::from(self.outstanding) <= slots.len() && self.picked <= self.sq(self.picked_qid).window.len
     }
 }
 

@@ -190,7 +190,7 @@ pub record IsAbortableIn (notes : Notes) (k : Content) (sqid cid : ℕ) (entry :
   pub is_aborted : (found : Candidate) → oldest_named cid (k.sq entry.region).window ≡ Some found → is_aborted (logged notes) entry.region found.index ≡ true
   pub on_board : queue_at k.board.queues sqid ≡ Some (on_board k (queue_in entry))
   pub few_unposted : (k.sq entry.region).unposted + 1 < 2 ^ 16
-  pub few_outstanding : k.outstanding + 1 < 2 ^ 16
+  pub few_outstanding : (found : Candidate) → oldest_named cid (k.sq entry.region).window ≡ Some found → k.outstanding + 1 < 2 ^ 16
 
 abbrev pub IsAbortable : Notes → Content → (sqid cid : ℕ) → Type 0
 IsAbortable notes k sqid cid = (entry : SqEntry) → sqid ≢ 0 → k.table.sq sqid ≡ Some entry → entry.closing ≡ false → IsAbortableIn notes k sqid cid entry

@@ -3,7 +3,7 @@ use Rattle.std.specs.Prelude.{List, [], ◌∷◌}
 use Rattle.nvme_log.specs.declared.event.Event.{Event}
 use Rattle.nvme_log.specs.Rules.{FrontRules, Past}
 use Rattle.nvme_log.specs.Effects.{EffectsAtOnce}
-use Rattle.nvme_log.specs.Account.{IndexCounts, ServedWhileOpen, LeavesPlaces}
+use Rattle.nvme_log.specs.Account.{IndexCounts, ServedWhileOpen}
 use Rattle.nvme_ctrl.specs.Deletions.{FollowsDeletions}
 
 pub record IsNext (rules : FrontRules) (past : Past) (e : Event) : Type 0 where
@@ -11,7 +11,6 @@ pub record IsNext (rules : FrontRules) (past : Past) (e : Event) : Type 0 where
   pub served_while_open : ServedWhileOpen rules past e
   pub effects_at_once : EffectsAtOnce rules past e
   pub deletes : FollowsDeletions past e
-  pub leaves_places : LeavesPlaces rules past e
 
 -- something holds of each of some events that come one after another, with the events before it
 abbrev pub EachNext : (Past → Event → Type 0) → List Event → Past → Type 0

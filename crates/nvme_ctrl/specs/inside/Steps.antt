@@ -13,14 +13,12 @@ use Rattle.nvme_admin.specs.declared.verdict.Verdict.{Verdict}
 use Rattle.nvme_admin.specs.declared.verdict.Verdict.TheVariants.{OpenSq, OpenCq}
 use Rattle.nvme_entry.specs.AdminCommand.{admin_command_of}
 use Rattle.nvme_ctrl.specs.Making.{slots_asked}
-use Rattle.nvme_log.specs.Limits.{max_outstanding}
 use Rattle.nvme_log.specs.Rules.{FrontRules, Past, sq_regions_of, cq_regions_of}
 use Rattle.nvme_log.specs.Queues.{Queue, admin_queue, open_sq}
 use Rattle.nvme_log.specs.declared.place.Place.{Place}
 use Rattle.nvme_log.specs.Answers.{Answer}
 use Rattle.nvme_log.specs.Dispatches.{place_at}
 use Rattle.nvme_log.specs.Histories.{arbitration_of}
-use Rattle.nvme_log.specs.Aborts.{is_abort_entry}
 use Rattle.nvme_ctrl.specs.kept.Content.{Candidate, Ready, SqContent, Content, with_sq}
 use Rattle.nvme_ctrl.specs.kept.Standing.{FewQueues}
 
@@ -28,7 +26,6 @@ use Rattle.nvme_ctrl.specs.kept.Standing.{FewQueues}
 pub record CanPick (rules : FrontRules) (past : Past) (k : Content) (queue : Queue) (pick : Pick) (board : BoardView) : Type 0 where
   pub is_open : open_sq past pick.qid ≡ Some queue
   pub enough : pick.n ≤ length (k.sq queue.region).window
-  pub places : k.outstanding + pick.n ≤ max_outstanding
   pub lawful : IsLimitedPick rules.mechanism rules.start.settings (arbitration_of past) (seen_of k.board.queues) pick
   pub board_queues : board.queues ≡ queues_after k.board.queues pick
   pub board_stands : BoardStandsAt rules.mechanism rules.start.settings (Picked (seen_of k.board.queues) pick ∷ arbitration_of past) board
@@ -51,14 +48,13 @@ HasNextRegion rules t candidate (OpenCq qid region) = is_some t.placing ≡ true
     → slice_get (cq_regions_of rules) region ≡ Some (record { address = candidate.entry.prp1; slots = slots_asked (admin_command_of candidate.entry) })
 HasNextRegion rules t candidate verdict = Unit {0}
 
--- an admin pick: its command is applied to the table. An Abort command needs a second place, for what it may abort
+-- an admin pick: its command is applied to the table
 pub record CanApply (rules : FrontRules) (past : Past) (k : Content) (history : TableHistory) (candidate : Candidate) (rest : List Candidate) (table : QueueTable) : Type 0 where
   pub oldest : (k.sq 0).window ≡ candidate ∷ rest
   pub table_is : table ≡ queue_table rules.start (EntryApplied candidate.entry ∷ history)
   pub few_queues : FewQueues table
   -- the rules have the region of a queue that is created anywhere
   pub placed : HasNextRegion rules k.table candidate (verdict_at rules history candidate)
-  pub second : is_abort_entry (Some candidate.entry) ≡ true → k.outstanding + 2 ≤ max_outstanding
 
 -- the admin queue's oldest candidate is picked, and the table is changed
 abbrev pub applied_to : Content → BoardView → QueueTable → Content

@@ -12,7 +12,6 @@ use Rattle.nvme_admin.specs.Accepted.{queue_table}
 use Rattle.nvme_admin.specs.QueueTable.{QueueTable}
 use Rattle.nvme_admin.specs.declared.verdict.SqEntry.{SqEntry}
 use Rattle.nvme_log.specs.declared.event.Event.TheVariants.{OpenCq}
-use Rattle.nvme_log.specs.Limits.{max_outstanding}
 use Rattle.nvme_log.specs.Rules.{FrontRules, Past, sq_regions_of, cq_regions_of, slots_at}
 use Rattle.nvme_log.specs.Queues.{Queue, open_sq, open_cq, is_closed_region, qid_of_region, cq_region_of}
 use Rattle.nvme_log.specs.Places.{fetched, waiting, picked, is_aborted, unaborted_below, entry_at, is_served, one_if}
@@ -88,7 +87,6 @@ pub record HoldsReady (past : Past) (k : Content) (hand : List Place) : Type 0 w
   pub once : (r i : ℕ) → times_ready k r i + posts_of past r i + times_held r i hand ≡ one_if (is_served past r i)
   pub each : (c : ℕ) → All (IsReady past k.deletion c) (k.cq c).ready
   pub taken : ready_picked k + length hand ≡ k.outstanding
-  pub few_taken : k.outstanding ≤ max_outstanding
   pub none_beyond : (c : ℕ) → k.ncq ≤ c → (k.cq c).ready ≡ []
   -- the admin queue is that of region 0, and posts to completion region 0
   pub admin_qid : qid_of_region past 0 ≡ Some 0

@@ -51,7 +51,8 @@ returns-clause-aborted c = λ rules notes k g y _ h none may other.
     (c.take_named.ensures.rest xs chain) c.take_named.ensures.items (c.take_named.ensures.links xs chain)
     (c.saturating_add.ensures ∙ few_unposted_more rules notes c.args.self.now c.args.slots.now k g c.args.sqid c.args.cid t.entry c.sq-sq.result h ab c.sq-sq.ensures)
     (c.saturating_add-self.ensures
-    ∙ few_outstanding_more rules notes c.args.self.now c.put_sq.new.self c.args.slots.now k g c.args.sqid c.args.cid t.entry h ab (ap (λ (x : Controller). x.outstanding) c.put_sq.ensures))
+    ∙ few_outstanding_more rules notes c.args.self.now c.put_sq.new.self c.args.slots.now k g c.args.sqid c.args.cid t.entry h none ab c.in-Some-take_named.x
+    (sym (c.take_named.ensures.named xs chain) ∙ c.in-Some-take_named.is) (ap (λ (x : Controller). x.outstanding) c.put_sq.ensures))
     (subst (λ (x : Controller). WentBoard x.board c.went.new.board c.args.sqid (c.sq-sq.result.held == 1)) c.put_sq.ensures c.went.ensures.went)
     (c.went.ensures.arbiter ∙ ap (λ (x : Controller). x.board.arbiter) c.put_sq.ensures)
     (λ mechanism first past stands. c.went.ensures.stands mechanism first past (subst (λ (x : Controller). BoardStandsAt mechanism first past (board_of x.board)) (sym c.put_sq.ensures) stands))

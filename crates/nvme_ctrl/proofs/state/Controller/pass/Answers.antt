@@ -6,7 +6,6 @@ use Rattle.nvme_ctrl.specs.Steps.{HasPassed}
 use Rattle.nvme_ctrl.specs.inside.Picks.{oldest_entry}
 use Rattle.nvme_ctrl.specs.declared.state.SqState.{SqState}
 use Rattle.nvme_ctrl.specs.declared.state.Controller.{Controller}
-use Rattle.nvme_ctrl.proofs.AdminCall.{admin_places, admin_one}
 use Rattle.nvme_ctrl.proofs.PassCall.{pass-call}
 use Rattle.nvme_ctrl.proofs.PickCall.{next_lawful, picked_state}
 use Rattle.nvme_ctrl.proofs.WaitingNames.{own_may}
@@ -20,10 +19,8 @@ returns c = record {
       let self : Controller = c.args.self.now in
       let can = c.requires.can in
       let lawful = next_lawful self c.args.pick can.next can.some in
-      let one = admin_one rules late notes self c.args.slots.now s c.args.pick lawful c.requires.of_admin in
       let done = pass-call rules late notes self c.args.slots.now s can.none_picked c.args.pick c.keep.new.self
-      lawful c.keep.ensures.stands c.keep.ensures.queues c.keep.ensures.is_arbiter can.places
-      (admin_places self c.args.slots.now c.args.pick (omega (arith, one)) can.places) c.requires.of_admin (own_may self.own (logged notes) (oldest_entry self c.args.slots.now) (c.requires.own rules late notes s)) in
+      lawful c.keep.ensures.stands c.keep.ensures.queues c.keep.ensures.is_arbiter c.requires.of_admin (own_may self.own (logged notes) (oldest_entry self c.args.slots.now) (c.requires.own rules late notes s)) in
       let unposted : c.saturating_add.result ≡ min (c.sq-sq.result.unposted + 1) 65535 = c.saturating_add.ensures in
       let put : c.put_sq.new.self ≡ record self { board = c.keep.new.self; sqs = slice_set self.sqs 0 (picked_state self 0 1) } =
       c.put_sq.ensures

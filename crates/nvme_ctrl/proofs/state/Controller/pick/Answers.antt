@@ -1,14 +1,11 @@
 use Rattle.std.specs.Prelude.{option_map}
-use Rattle.std.proofs.Common.{◌-◌, ◌<◌, Bool, inl, inr, refl, ap, sym, ◌∙◌, Option, Some, subst, arith}
+use Rattle.std.proofs.Common.{Bool, ap, sym, ◌∙◌, Option, Some, subst}
 use Rattle.nvme_arbiter.specs.declared.pick.Pick.{Pick}
-use Rattle.nvme_arbiter.specs.Lawful.{cut}
-use Rattle.nvme_log.specs.Limits.{max_outstanding}
 use Rattle.nvme_ctrl.specs.Notes.{logged}
 use Rattle.nvme_ctrl.specs.Steps.{IsNextPick}
-use Rattle.nvme_ctrl.specs.inside.Picks.{places_in}
 use Rattle.nvme_ctrl.specs.Own.{is_own}
 use Rattle.nvme_ctrl.proofs.MayPick.{can_pick, next_within, some_room}
-use Rattle.nvme_ctrl.proofs.FullCall.{lacks_room, entry_is}
+use Rattle.nvme_ctrl.proofs.FullCall.{entry_is}
 use Rattle.nvme_ctrl.proofs.CommandVerdicts.{IsCommanded}
 use Rattle.nvme_ctrl.proofs.PickCall.{next_is, is_busy, isnt_busy}
 use Rattle.nvme_ctrl.specs.declared.picks.Step.{Step}
@@ -26,15 +23,7 @@ pub returns-then-room-eq0-clause-stands : goal.returns-then-room-eq0-clause-stan
 returns-then-room-eq0-clause-stands c rules late notes s =
     let next : IsNextPick rules notes (Some c.in-Some.whole) =
     subst (λ (o : Option Pick). IsNextPick rules notes o) c.in-Some.is (next_is rules late notes c.args.self.now c.args.slots.now s c.peek.result c.peek.ensures.lawful) in
-    (s, lacks_room rules late notes c.args.self.now c.args.slots.now s c.if-self-ne0.false c.in-Some.whole next c.args.room (cut c.args.room c.in-Some.whole) refl (inl c.if-room-eq0.true))
-
-pub returns-then-places_for-saturating_sub-clause-stands : goal.returns-then-places_for-saturating_sub-clause-stands
-returns-then-places_for-saturating_sub-clause-stands c rules late notes s =
-    let next : IsNextPick rules notes (Some c.in-Some.whole) =
-    subst (λ (o : Option Pick). IsNextPick rules notes o) c.in-Some.is (next_is rules late notes c.args.self.now c.args.slots.now s c.peek.result c.peek.ensures.lawful) in
-    let lacking : max_outstanding - c.args.self.now.outstanding < places_in c.args.self.now c.args.slots.now c.up_to-pick.result =
-    (let a = c.if-places_for-saturating_sub.true in let b = c.places_for.ensures in let d = c.saturating_sub.ensures in omega (arith, a, b, d)) in
-    (s, lacks_room rules late notes c.args.self.now c.args.slots.now s c.if-self-ne0.false c.in-Some.whole next c.args.room c.up_to-pick.result c.up_to-pick.ensures (inr lacking))
+    (s, record { pick = c.in-Some.whole; next = next; none = c.if-room-eq0.true })
 
 pub returns-else-is_own-clause-front : goal.returns-else-is_own-clause-front
 returns-else-is_own-clause-front c =
@@ -81,24 +70,15 @@ returns-else-is_own-clause-commanded c rules late notes s effect entry is =
 
 pub pick_io-requires-clause-can : goal.pick_io-requires-clause-can
 pick_io-requires-clause-can c =
-    let a = c.if-places_for-saturating_sub.false in
-    let b = c.places_for.ensures in
-    let d = c.saturating_sub.ensures in
-    can_pick c.args.self.now c.args.slots.now c.in-Some.whole c.up_to-pick.result c.args.room c.requires.front c.if-self-ne0.false (sym c.peek.ensures.by_what_is_kept ∙ c.in-Some.is) c.up_to-pick.ensures (some_room c.args.room c.if-room-eq0.false) (omega (arith, a, b, d))
+    can_pick c.args.self.now c.args.slots.now c.in-Some.whole c.up_to-pick.result c.args.room c.requires.front c.if-self-ne0.false (sym c.peek.ensures.by_what_is_kept ∙ c.in-Some.is) c.up_to-pick.ensures (some_room c.args.room c.if-room-eq0.false)
 
 pub pass-requires-clause-can : goal.pass-requires-clause-can
 pass-requires-clause-can c =
-    let a = c.if-places_for-saturating_sub.false in
-    let b = c.places_for.ensures in
-    let d = c.saturating_sub.ensures in
-    can_pick c.args.self.now c.args.slots.now c.in-Some.whole c.up_to-pick.result c.args.room c.requires.front c.if-self-ne0.false (sym c.peek.ensures.by_what_is_kept ∙ c.in-Some.is) c.up_to-pick.ensures (some_room c.args.room c.if-room-eq0.false) (omega (arith, a, b, d))
+    can_pick c.args.self.now c.args.slots.now c.in-Some.whole c.up_to-pick.result c.args.room c.requires.front c.if-self-ne0.false (sym c.peek.ensures.by_what_is_kept ∙ c.in-Some.is) c.up_to-pick.ensures (some_room c.args.room c.if-room-eq0.false)
 
 pub pick_admin-effect-requires-clause-can : goal.pick_admin-effect-requires-clause-can
 pick_admin-effect-requires-clause-can c =
-    let a = c.if-places_for-saturating_sub.false in
-    let b = c.places_for.ensures in
-    let d = c.saturating_sub.ensures in
-    can_pick c.args.self.now c.args.slots.now c.in-Some.whole c.up_to-pick.result c.args.room c.requires.front c.if-self-ne0.false (sym c.peek.ensures.by_what_is_kept ∙ c.in-Some.is) c.up_to-pick.ensures (some_room c.args.room c.if-room-eq0.false) (omega (arith, a, b, d))
+    can_pick c.args.self.now c.args.slots.now c.in-Some.whole c.up_to-pick.result c.args.room c.requires.front c.if-self-ne0.false (sym c.peek.ensures.by_what_is_kept ∙ c.in-Some.is) c.up_to-pick.ensures (some_room c.args.room c.if-room-eq0.false)
 
 pub returns-then-pick-ne0-clause-stands : goal.returns-then-pick-ne0-clause-stands
 returns-then-pick-ne0-clause-stands c rules late notes s =
@@ -111,9 +91,6 @@ returns-in_default-clause-taken c rules late notes s busy = absurd (isnt_busy ru
 
 pub returns-then-room-eq0-clause-taken : goal.returns-then-room-eq0-clause-taken
 returns-then-room-eq0-clause-taken c rules late notes s busy = absurd (isnt_busy rules late notes c.args.self.now c.args.slots.now s c.if-self-ne0.false busy)
-
-pub returns-then-places_for-saturating_sub-clause-taken : goal.returns-then-places_for-saturating_sub-clause-taken
-returns-then-places_for-saturating_sub-clause-taken c rules late notes s busy = absurd (isnt_busy rules late notes c.args.self.now c.args.slots.now s c.if-self-ne0.false busy)
 
 pub returns-then-pick-ne0-clause-taken : goal.returns-then-pick-ne0-clause-taken
 returns-then-pick-ne0-clause-taken c rules late notes s busy = absurd (isnt_busy rules late notes c.args.self.now c.args.slots.now s c.if-self-ne0.false busy)

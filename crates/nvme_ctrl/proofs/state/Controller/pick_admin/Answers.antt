@@ -18,7 +18,7 @@ carry_out-requires c =
     let h = c.requires.can.front in
     let a = c.args.self.now in
     let placed = admin_call h.rules h.late h.notes a c.args.slots.now h.stands c.requires.can.none_picked c.args.pick c.keep.new.self (next_lawful a c.args.pick c.requires.can.next c.requires.can.some)
-    c.keep.ensures.stands c.keep.ensures.queues c.keep.ensures.is_arbiter c.requires.can.places c.requires.of_admin
+    c.keep.ensures.stands c.keep.ensures.queues c.keep.ensures.is_arbiter c.requires.of_admin
     c.sq-sq.result c.pop.new.self c.pop.result c.unwrap_or-tag.result c.saturating_add.result c.saturating_add-self.result c.slot_at.result.entry c.execute-effect.new.self _ c.execute-effect.result
     c.sq-sq.ensures c.pop.ensures.some c.pop.ensures.rest (λ x is. c.unwrap_or-tag.ensures ∙ ap (λ (o : Option ℕ). unwrap_or o 0) is) c.saturating_add.ensures
     (c.saturating_add-self.ensures ∙ ap (λ (z : Controller). min (z.outstanding + 1) 65535) c.put_sq.ensures) (ap (λ (z : Slot). z.entry) c.slot_at.ensures)
@@ -47,7 +47,7 @@ returns c =
           (subst (λ (z : Controller). placing_of z.table ≡ None → NamesRegions (content_of z.table) c.execute-effect.result) c.put_sq.ensures c.execute-effect.ensures.regions);
       stands = λ rules late notes s.
           let placed = admin_call rules late notes a c.args.slots.now s c.requires.can.none_picked c.args.pick c.keep.new.self (next_lawful a c.args.pick c.requires.can.next c.requires.can.some)
-          c.keep.ensures.stands c.keep.ensures.queues c.keep.ensures.is_arbiter c.requires.can.places c.requires.of_admin
+          c.keep.ensures.stands c.keep.ensures.queues c.keep.ensures.is_arbiter c.requires.of_admin
           c.sq-sq.result c.pop.new.self c.pop.result c.unwrap_or-tag.result c.saturating_add.result c.saturating_add-self.result c.slot_at.result.entry c.execute-effect.new.self _ c.execute-effect.result
           c.sq-sq.ensures c.pop.ensures.some c.pop.ensures.rest (λ x is. c.unwrap_or-tag.ensures ∙ ap (λ (o : Option ℕ). unwrap_or o 0) is) c.saturating_add.ensures
           (c.saturating_add-self.ensures ∙ ap (λ (z : Controller). min (z.outstanding + 1) 65535) c.put_sq.ensures) (ap (λ (z : Slot). z.entry) c.slot_at.ensures)

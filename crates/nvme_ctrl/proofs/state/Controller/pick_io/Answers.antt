@@ -4,7 +4,7 @@ use Rattle.nvme_ctrl.specs.Steps.{picked_notes}
 use Rattle.nvme_ctrl.specs.Standing.{Stands}
 use Rattle.nvme_ctrl.specs.declared.state.SqState.{SqState}
 use Rattle.nvme_ctrl.specs.declared.state.Controller.{Controller}
-use Rattle.nvme_ctrl.proofs.PickCall.{next_lawful, io_places, pick-stands, picked_state}
+use Rattle.nvme_ctrl.proofs.PickCall.{next_lawful, pick-stands, picked_state}
 use Rattle.nvme_ctrl.proofs.state.Controller.pick_io.Goals as goal
 
 pub returns : goal.returns
@@ -17,8 +17,7 @@ returns c = record {
       let q : ℕ = c.args.pick.qid in
       let n : ℕ = c.args.pick.n in
       let done = pick-stands rules late notes self c.args.slots.now s can.none_picked c.args.pick c.keep.new.self
-      (next_lawful self c.args.pick can.next can.some) c.keep.ensures.stands c.keep.ensures.queues c.keep.ensures.is_arbiter
-      (io_places self c.args.slots.now c.args.pick c.requires.io can.places) c.requires.io in
+      (next_lawful self c.args.pick can.next can.some) c.keep.ensures.stands c.keep.ensures.queues c.keep.ensures.is_arbiter c.requires.io in
       let unposted : c.saturating_add.result ≡ min (c.sq-sq.result.unposted + n) 65535 = c.saturating_add.ensures in
       let put : c.put_sq.new.self ≡ record self { board = c.keep.new.self; sqs = slice_set self.sqs q (picked_state self q n) } =
       c.put_sq.ensures
