@@ -25,7 +25,7 @@ pub mod QueueChanges
 pub mod QueueVerdicts
 pub mod QueueSteps
 pub mod Passed
-mod Observing
+pub mod Observing
 pub mod Showing
 pub mod Oldest
 pub mod DeletionSteps

@@ -4,12 +4,13 @@ use Rattle.std.proofs.lemmas.Option.{slice_get_cases}
 use Rattle.nvme_entry.specs.declared.submission.Sqe.{Sqe}
 use Rattle.nvme_arbiter.specs.Lawful.{IsLawfulRun}
 use Rattle.nvme_log.specs.Histories.{arbitration_of}
-use Rattle.nvme_log.specs.Rules.{FrontRules, Past}
+use Rattle.nvme_log.specs.Rules.{FrontRules, Past, Each}
 use Rattle.nvme_log.specs.Places.{fetched, fate_of, is_picked, is_aborted, entry_at}
 use Rattle.nvme_log.specs.Completions.{is_posted, posted_to}
 use Rattle.nvme_log.specs.Answers.{outcome_at, outcomes}
 use Rattle.nvme_log.specs.Dispatches.{place_at}
 use Rattle.nvme_log.specs.Account as log
+use Rattle.nvme_log.specs.Account.{LeavesPlaces}
 use Rattle.nvme_log.specs.AnswerLaws.{IsAnsweredPick}
 use Rattle.nvme_log.proofs.AnswerLaws.{answers_by_outcome_are_accounted}
 use Rattle.nvme_log.proofs.Prefixes.{IsPrefix-refl}
@@ -39,6 +40,9 @@ module _ (rules : FrontRules) (notes : Notes) (e : Engine) (s : StandsAt rules f
   its_run : IsLawfulRun rules.mechanism rules.start.settings (arbitration_of (logged notes))
   its_run = let early = s.in_time refl in subst (λ (x : FrontRules). IsLawfulRun x.mechanism x.start.settings (arbitration_of (logged notes))) early.0 s.lawful
 
+  its_places : Each (LeavesPlaces rules) (logged notes)
+  its_places = let early = s.in_time refl in subst (λ (x : FrontRules). Each (LeavesPlaces x) (logged notes)) early.0 s.places.each
+
   command_of : (r i : ℕ) → is_posted (logged notes) r i ≡ true → HasCommand (logged notes) r i
   command_of r i posted = elim ((slice_get_cases (fetched (logged notes) r) i).1) [
     | inl there ↦ record { entry = there.0; is_there = there.2 }
@@ -61,7 +65,7 @@ module _ (rules : FrontRules) (notes : Notes) (e : Engine) (s : StandsAt rules f
   pub keeps_account : log.IsAccount rules (fetched (logged notes)) (logged notes) (posted_to (logged notes))
   keeps_account =
       answers_by_outcome_are_accounted rules (answers notes) (fetched (logged notes)) (logged notes) (posted_to (logged notes)) by_outcome
-      (events_are_accounted rules notes (fetched (logged notes)) (posted_to (logged notes)) s.plain.none_passed s.plain.none_arranged s.plain.deletes its_account its_run
+      (events_are_accounted rules notes (fetched (logged notes)) (posted_to (logged notes)) s.plain.none_passed s.plain.none_arranged s.plain.deletes its_places its_account its_run
       (λ r. IsPrefix-refl (fetched (logged notes) r)) (λ c. IsPrefix-refl (posted_to (logged notes) c)))
 
 pub engines_keep_accounts : EnginesKeepAccounts

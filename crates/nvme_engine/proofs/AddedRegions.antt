@@ -22,6 +22,7 @@ use Rattle.nvme_ctrl.specs.kept.Content.{Attachment}
 use Rattle.nvme_ctrl.specs.kept.Standing.{is_opened_cq}
 use Rattle.nvme_ctrl.proofs.AddedTables.{slots_last, slots_other, sq-more, sq-same, cq-more, cq-same}
 use Rattle.nvme_ctrl.proofs.DoorbellCounts.{submitted_same, submitted_none, consumed_same, consumed_none}
+use Rattle.nvme_engine.proofs.Places.{places_with}
 use Rattle.nvme_engine.specs.Standing.{AreAlike, HaveRings, StandsAt}
 use Rattle.nvme_engine.specs.declared.engine.Engine.{Engine}
 use Rattle.nvme_engine.proofs.Additions.{on_regions, none_named}
@@ -169,6 +170,7 @@ module _ (kind : Kind) (a n : ℕ) (rules : FrontRules) (late : Bool) (notes : N
           answers = s.answers;
           untaken = s.untaken;
           lawful = s.lawful;
+          places = places_with kind a n s.their s.their_late (logged notes) s.stands.content s.stands.holds s.places;
           pool = s.pool;
           depths = depths ∙ s.depths;
           own = own ∙ s.own;

@@ -60,6 +60,7 @@ module _ (rules : FrontRules) (late : Bool) (notes : Notes) (e : Engine) (s : St
     answers = answered_by_outcome rules notes marks p.region p.index entry answer s.answers at (ap (λ (x : StatusCode). record { status = x; dw0 = 0 }) is);
     untaken = s.untaken;
     lawful = s.lawful;
+    places = s.places;
     pool = same_pool e f left s.pool;
     depths = left.depths ∙ s.depths;
     own = left.own ∙ s.own;

@@ -18,6 +18,7 @@ use Rattle.nvme_ctrl.specs.Standing as ctrl
 use Rattle.nvme_ctrl.specs.kept.Content.{Candidate, PendingDelete}
 use Rattle.nvme_ctrl.specs.declared.slot.Slot.{Slot}
 use Rattle.nvme_ctrl.specs.declared.state.Controller.{Controller}
+use Rattle.nvme_engine.proofs.Places.{places_closed}
 use Rattle.nvme_engine.specs.Standing.{StandsAt, AnswersByOutcome, ServesItsQueues}
 use Rattle.nvme_engine.specs.Calls.{HasFinished}
 use Rattle.nvme_engine.specs.declared.engine.Engine.{Engine}
@@ -115,6 +116,7 @@ module _ (rules : FrontRules) (late : Bool) (notes : Notes) (e : Engine) (s : St
     answers = admin_answered rules notes d.qid d.region index done s.answers;
     untaken = s.untaken;
     lawful = s.lawful;
+    places = places_closed s.their past d.qid d.region s.places;
     pool = same_pool e f left s.pool;
     depths = left.depths ∙ s.depths;
     own = left.own ∙ s.own;

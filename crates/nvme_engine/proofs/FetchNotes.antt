@@ -30,9 +30,10 @@ use Rattle.nvme_ctrl.proofs.HeldSlots.{few_hold_slots, not_deleted}
 use Rattle.nvme_ctrl.proofs.OpenQueues.{open_region, not_closed_region}
 use Rattle.nvme_ctrl.proofs.Sums.{sum_below}
 use Rattle.nvme_engine.specs.Calls.{MayFetch, HasFetched}
-use Rattle.nvme_engine.specs.Standing.{StandsAt, AnswersByOutcome, pool_size, queue_depth}
+use Rattle.nvme_engine.specs.Standing.{StandsAt, HasPlaces, AnswersByOutcome, pool_size, queue_depth}
 use Rattle.nvme_engine.specs.declared.engine.Engine.{Engine}
 use Rattle.nvme_engine.proofs.Endings.{few_wait}
+use Rattle.nvme_engine.proofs.Places.{places_fetched}
 use Rattle.nvme_engine.proofs.OneDeletion.{none_deleting}
 use Rattle.nvme_engine.proofs.Turn.{gap-one}
 
@@ -96,7 +97,7 @@ module _ (rules : FrontRules) (late : Bool) (notes : Notes) (e : Engine) (s : St
       let h = s.stands.holds in
       let few = few_unposted s.their s.their_late (logged notes) s.stands.content h m.queue.region
       (not_deleted s.their s.their_late (logged notes) s.stands.content h none m.queue.region) (omega (arith, there, h.tabled.sq_number)) in
-      omega (arith, in_window, few, h.counts.unposted m.queue.region, h.ready.few_taken)
+      omega (arith, in_window, few, h.counts.unposted m.queue.region, h.counts.outstanding_is, s.places.few)
 
   -- that of its queue, where the depths are an engine's
   depth_is : (c : Controller) → calls.depths_of c ≡ calls.depths_of e.controller → calls.depth_of c qid ≡ queue_depth
@@ -111,7 +112,7 @@ module _ (rules : FrontRules) (late : Bool) (notes : Notes) (e : Engine) (s : St
       let pool : pool_size ≤ length e.slots.items = s.pool in
       let waits = sum_below (λ (r : ℕ). length (waiting (logged notes) r)) highest_count m.queue.region (length (sq_regions_of s.their)) (few_wait rules late notes [] e s) there in_window in
       let held = (few_hold_slots s.their s.their_late notes e.controller e.slots.items s.stands).none_deleting none in
-      omega (arith, regions, pool, waits, held)
+      omega (arith, regions, pool, waits, held, s.places.few)
 
   -- so the controller may fetch it, once its doorbell is rung
   pub may_fetch : (c : Controller) → calls.depths_of c ≡ calls.depths_of e.controller
@@ -182,6 +183,10 @@ module _ (rules : FrontRules) (late : Bool) (notes : Notes) (e : Engine) (s : St
       | inr other ↦ ap (λ (xs : List Sqe). slice_get xs i) (sym (as_before r other)) ∙ there
     ]
 
+  places-fetch : HasPlaces s.their (logged with_fetch)
+  places-fetch = places_fetched s.their s.their_late (logged notes) s.stands.content s.stands.holds qid m.queue m.is_open
+      (subst (λ (rs : List Region). length (waiting (logged notes) m.queue.region) < window_of (slots_at rs m.queue.region)) (sym s.alike.sqs) m.room) n counts entry s.places
+
   not_closed : is_closed_region (logged notes) m.queue.region ≡ false
   not_closed = not_closed_region s.their s.their_late (logged notes) s.stands.content s.stands.holds qid m.queue m.is_open
 
@@ -210,6 +215,7 @@ module _ (rules : FrontRules) (late : Bool) (notes : Notes) (e : Engine) (s : St
     answers = answers-fetch;
     untaken = s.untaken;
     lawful = s.lawful;
+    places = places-fetch;
     pool = subst (λ (x : ℕ). pool_size ≤ x) (sym size) s.pool;
     depths = depths ∙ s.depths;
     own = own ∙ s.own;

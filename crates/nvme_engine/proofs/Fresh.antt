@@ -14,6 +14,7 @@ use Rattle.nvme_ctrl.specs.Calls.{depths_of, equal_depths}
 use Rattle.nvme_ctrl.specs.Making.{first_rules, admin_fault}
 use Rattle.nvme_ctrl.specs.Own.{no_own, own_of}
 use Rattle.nvme_ctrl.specs.Standing.{Stands}
+use Rattle.nvme_engine.proofs.Places.{no_places}
 use Rattle.nvme_engine.specs.Standing.{HaveRings, StandsAt, HasPool, ServesItsQueues, queue_depth}
 use Rattle.nvme_engine.specs.declared.engine.Engine.{Engine}
 
@@ -80,6 +81,7 @@ module _ (mechanism : Mechanism) (settings : ArbitrationFields) (limits : Limits
         answers = λ r i entry answer io there answered. absurd (cc answered);
         untaken = refl;
         lawful = tt;
+        places = no_places _;
         pool = pool;
         depths = depths;
         own = own;

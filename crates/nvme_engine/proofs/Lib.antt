@@ -17,9 +17,11 @@ pub mod Posting
 pub mod PostSteps
 pub mod Ends
 pub mod Serving
+pub mod MadePlaces
 pub mod NextPicks
 pub mod QuietNotes
 pub mod NoneOwn
 pub mod Endings
 pub mod AdminQueues
 pub mod PickCalls
+pub mod Places

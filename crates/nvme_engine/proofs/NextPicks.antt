@@ -22,9 +22,13 @@ use Rattle.nvme_log.proofs.Members.{IsIn}
 use Rattle.nvme_log.specs.declared.event.Event.TheVariants as event
 use Rattle.nvme_ctrl.specs.Notes.{Notes, Logged, logged}
 use Rattle.nvme_ctrl.specs.Observation.{observed_of}
-use Rattle.nvme_ctrl.specs.Steps.{IsNextPick, IsNextWithin, LacksPlaces, LacksRoom, picked_notes}
+use Rattle.nvme_ctrl.specs.Steps.{IsNextPick, IsNextWithin, LacksPlaces, picked_notes}
 use Rattle.nvme_ctrl.proofs.Arranged.{observed_as_in_the_log}
 use Rattle.nvme_ctrl.proofs.PickCall.{saw_board}
+use Rattle.nvme_arbiter.specs.Queues.{seen_of}
+use Rattle.nvme_arbiter.proofs.PickLaws.{whole_is_limited}
+use Rattle.nvme_ctrl.specs.kept.Content.{Content}
+use Rattle.nvme_ctrl.proofs.Observing.{IsPickable, pickable, seen_is_observed}
 use Rattle.nvme_engine.specs.Standing.{StandsBut, IsEngine}
 use Rattle.nvme_engine.proofs.Controllers.{is_controller}
 use Rattle.nvme_engine.specs.Calls.{next_of, seen_notes}
@@ -109,6 +113,16 @@ module _ (rules : FrontRules) (late : Bool) (notes : Notes) (rest : List Place) 
   pub same_outstanding : outstanding s.their past ≡ outstanding rules past
   same_outstanding = ap (outstanding_of past) (λ t. length (s.alike.sqs t))
 
+  -- what is picked waits in an open queue
+  pub due : (pick : Pick) → next_of rules notes ≡ Some pick → IsPickable past s.stands.content pick
+  due pick next =
+      let k : Content = s.stands.content in
+      let h = s.stands.holds in
+      let there : lawful_pick s.their.mechanism s.their.start.settings (arbitration_of past) (seen_of k.board.queues) ≡ Some pick =
+      ap (λ (xs : List Seen). lawful_pick s.their.mechanism s.their.start.settings (arbitration_of past) xs) (seen_is_observed notes k h.regions h.queues s.stands.shown) ∙ sym (next_was (Some pick) next) in
+      pickable s.their.mechanism s.their.start.settings (arbitration_of past) past k pick h.queues h.arbitration.stands.observed
+      (whole_is_limited s.their.mechanism s.their.start.settings (arbitration_of past) (seen_of k.board.queues) pick h.arbitration.stands.observed there)
+
   -- ---- the places that the next pick needs
   module _ (pick : Pick) (next : next_of rules notes ≡ Some pick) where
     abbrev needed : ℕ
@@ -120,13 +134,6 @@ module _ (rules : FrontRules) (late : Bool) (notes : Notes) (rest : List Place) 
         let few = h.places in
         let count = same_outstanding in
         omega (arith, few, same, count)
-
-    -- there is room for it where its places are free
-    pub fits : LacksRoom s.their notes highest_count → needed ≤ max_outstanding → ⊥
-    fits h few = by h.lacks where
-      by : (highest_count ≡ 0) ⊎ (max_outstanding < outstanding s.their past + places_for past h.pick) → ⊥
-      by (inl none) = omega (arith, none)
-      by (inr more) = let over = lacks (record { pick = h.pick; next = within_is h.pick h.next; places = more }) in omega (arith, over, few)
 
     pub lacks_more : max_outstanding < needed → LacksPlaces s.their notes
     lacks_more more = record {

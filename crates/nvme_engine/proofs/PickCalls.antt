@@ -1,5 +1,5 @@
 -- The pick of an engine: of an I/O queue, and of the admin queue.
-use Rattle.std.proofs.Common.{◌≡◌, ◌≢◌, ℕ, ◌<◌, Bool, true, List, [], ◌∷◌, ◌++◌, length, Option, Some, None, refl, sym, ap, ◌∙◌, subst, arith, append-nil}
+use Rattle.std.proofs.Common.{◌≡◌, ◌≢◌, ℕ, ◌≤◌, false, option_and_then, ◌&&◌, ◌+◌, ◌<◌, Bool, true, List, [], ◌∷◌, ◌++◌, length, Option, Some, None, refl, sym, ap, ◌∙◌, subst, arith, append-nil, eq-eqb}
 use Rattle.std.specs.Prelude.{slice_get}
 use Rattle.nvme_entry.specs.AdminCommand.{admin_command_of}
 use Rattle.nvme_entry.specs.declared.admin.AdminCommand.{AdminCommand}
@@ -11,6 +11,7 @@ use Rattle.nvme_admin.specs.History.{Placing}
 use Rattle.nvme_admin.specs.declared.effect.Effect.{Effect}
 use Rattle.nvme_admin.specs.declared.effect.Effect.TheVariants as effect
 use Rattle.nvme_admin.specs.declared.verdict.Verdict.{Verdict}
+use Rattle.nvme_admin.specs.declared.verdict.Verdict.TheVariants as verdict
 use Rattle.nvme_admin.specs.Effects.{verdict_in}
 use Rattle.nvme_placing.specs.Telling.{IsToldBy}
 use Rattle.nvme_log.specs.declared.event.Event.{Event}
@@ -41,7 +42,14 @@ use Rattle.nvme_ctrl.proofs.DeletedQueues.{undeleted_region}
 use Rattle.nvme_ctrl.proofs.EffectEvents.{AreEffects, made_are_effects, made_delete}
 use Rattle.nvme_ctrl.proofs.LaterNotes.{logged-with}
 use Rattle.nvme_ctrl.proofs.OpenQueues.{not_closed_region}
-use Rattle.nvme_engine.specs.Standing.{StandsAt, BeginsAlone, ServesItsQueues, DeletesItsQueue}
+use Rattle.nvme_log.specs.Aborts.{took_abort, is_abort_entry, places_for}
+use Rattle.nvme_log.specs.Completions.{outstanding}
+use Rattle.nvme_log.specs.Limits.{max_outstanding}
+use Rattle.nvme_log.specs.Places.{observation_of}
+use Rattle.nvme_log.proofs.AbortEntries.{delete_is_no_abort}
+use Rattle.nvme_ctrl.proofs.Observing.{IsPickable}
+use Rattle.nvme_engine.proofs.MadePlaces.{picked_leaves, made_leave_places}
+use Rattle.nvme_engine.specs.Standing.{StandsAt, HasPlaces, BeginsAlone, ServesItsQueues, DeletesItsQueue}
 use Rattle.nvme_engine.specs.Calls.{MayPick, HasPicked, HasCarriedOut, seen_notes}
 use Rattle.nvme_engine.specs.Making.{made_in, dropped_in, IsEnding}
 use Rattle.nvme_engine.specs.declared.admin.Ending.{Ending}
@@ -50,7 +58,7 @@ use Rattle.nvme_engine.proofs.Additions.{on_regions}
 use Rattle.nvme_engine.proofs.AdminQueues.{kept_made, begins_made}
 use Rattle.nvme_engine.proofs.Calls.{Leaves, same_pool}
 use Rattle.nvme_engine.proofs.NoneOwn.{oldest_isnt_own}
-use Rattle.nvme_engine.proofs.NextPicks.{next_is, within_is, whole_next, observes, same_pick, same_notes, next_open, fits}
+use Rattle.nvme_engine.proofs.NextPicks.{next_is, within_is, whole_next, observes, same_pick, same_notes, next_open, same_outstanding, due}
 use Rattle.nvme_engine.proofs.QuietNotes.{IsQuiet, quiet_more, quiet_effects, quiet_pick, quiet_answer, stands_quiet}
 
 -- ---- deletions
@@ -100,7 +108,7 @@ module _ (rules : FrontRules) (late : Bool) (notes : Notes) (e now : Engine) (s 
       omega (arith, busy, same)
 
   not_full : LacksRoom s.their notes highest_count → ⊥
-  not_full full = fits rules late notes [] e s pick may.next full may.places
+  not_full full = omega (arith, full.none)
 
   same : (other : Pick) → IsNextPick s.their notes (Some other) → other ≡ pick
   same other next = same_pick rules late notes [] e s pick other may.next next
@@ -114,6 +122,16 @@ module _ (rules : FrontRules) (late : Bool) (notes : Notes) (e now : Engine) (s 
   -- the picks with the next one are lawful
   lawful_next : IsLawfulRun s.their.mechanism s.their.start.settings (arbitration_of (logged (seen_notes notes pick)))
   lawful_next = (observes rules late notes [] e s, whole_next rules late notes [] e s ∙ may.next, s.lawful)
+
+  -- its places are free
+  places_free : outstanding s.their past + places_for past pick ≤ max_outstanding
+  places_free = let same = same_outstanding rules late notes [] e s in omega (arith, same, may.places)
+
+  abbrev its : IsPickable past s.stands.content pick
+  its = due rules late notes [] e s pick may.next
+
+  places_picked : HasPlaces s.their (logged (seen_notes notes pick))
+  places_picked = picked_leaves s.their s.their_late past s.stands.content s.stands.holds (observation_of past) pick its.queue its.is_open its.enough its.one_of_admin places_free s.places
 
   -- ---- a pick of an I/O queue
   -- its controller picks, and its engine stands
@@ -142,6 +160,7 @@ module _ (rules : FrontRules) (late : Bool) (notes : Notes) (e now : Engine) (s 
           untaken = ap (λ (ps : List Place). ps ++ dispatched_by past pick (open_sq past pick.qid)) (s.untaken ∙ append-nil (taken notes))
               ∙ ap (λ (o : Option Queue). taken notes ++ dispatched_by past pick o) at.is;
           lawful = lawful_next;
+          places = places_picked;
           pool = same_pool e now left s.pool;
           depths = left.depths ∙ s.depths;
           own = left.own ∙ s.own;
@@ -151,7 +170,7 @@ module _ (rules : FrontRules) (late : Bool) (notes : Notes) (e now : Engine) (s 
   pub has_picked : (io : pick.qid ≢ 0) (did : Step) → HasStepped s.their s.their_late notes highest_count did now.controller now.slots.items → HasPicked rules late notes pick now
   has_picked io step.Idle h = absurd (not_idle h.1)
   has_picked io step.Busy h = absurd (not_busy h.1)
-  has_picked io step.Full h = absurd (not_full h.1)
+  has_picked io step.NoRoom h = absurd (not_full h.1)
   has_picked io (step.Picked other) h =
       picked_io (subst (λ (x : Notes). ctrl.Stands s.their s.their_late x now.controller now.slots.items) (same_notes rules late notes [] e s pick other (same other (within_is rules late notes [] e s other h.0))) h.1)
   has_picked io (step.Passed other) h = absurd (io (ap (λ (p : Pick). p.qid) (sym (same other h.next)) ∙ h.of_admin))
@@ -181,14 +200,15 @@ module _ (rules : FrontRules) (late : Bool) (notes : Notes) (e now : Engine) (s 
       → ((did_effect : Effect) (entry : Sqe) → did ≡ step.Done did_effect entry → ⊥) → ⊥
   is_carried_out admin step.Idle h io passed other = not_idle h.1
   is_carried_out admin step.Busy h io passed other = not_busy h.1
-  is_carried_out admin step.Full h io passed other = not_full h.1
+  is_carried_out admin step.NoRoom h io passed other = not_full h.1
   is_carried_out admin (step.Picked p) h io passed other = io p refl (ap (λ (x : Pick). x.qid) (same p (within_is rules late notes [] e s p h.0)) ∙ admin)
   is_carried_out admin (step.Passed p) h io passed other = oldest_isnt_own notes (ap (λ (o : OwnCommands). oldest_is_own o notes) (sym s.own) ∙ passed p refl)
   is_carried_out admin (step.Done did_effect entry) h io passed other = other did_effect entry refl
 
   module _ (admin : pick.qid ≡ 0) (old new : List Event) (ending : Ending)
       (ends : (index : ℕ) (entry : Sqe) → slice_get (waiting past 0) 0 ≡ Some index → entry_at past 0 index ≡ Some entry → IsEnding past (admin_command_of entry) ending) where
-    module _ (v : Verdict) (i : ℕ) (o : Option Answer) (oldest : slice_get (waiting past 0) 0 ≡ Some i) where
+    module _ (v : Verdict) (i : ℕ) (o : Option Answer) (oldest : slice_get (waiting past 0) 0 ≡ Some i)
+        (deletes : (qid : ℕ) → v ≡ verdict.BeginDelete qid → took_abort (event.Pick (observation_of past) pick ∷ past) ≡ false) where
       abbrev picked : Notes
       picked = seen_notes notes pick
 
@@ -226,7 +246,17 @@ module _ (rules : FrontRules) (late : Bool) (notes : Notes) (e now : Engine) (s 
           stands_quiet rules late notes later [] e now s quiet follows alone (subst (λ (x : Past). ServesItsQueues x) (sym later_is) kept.0) (subst (λ (x : Past). DeletesItsQueue x) (sym later_is) kept.1)
           (subst (λ (x : Past). IsLawfulRun s.their.mechanism s.their.start.settings (arbitration_of x)) (sym later_is)
           (lawful_effects s.their (made_by past v) (logged picked) (made_are_effects past v) lawful_next))
+          (subst (HasPlaces s.their) (sym later_is)
+          (made_leave_places s.their s.their_late past s.stands.content s.stands.holds (observation_of past) pick its.queue its.is_open its.enough its.one_of_admin places_free s.places admin
+          v deletes s.their_late stands.content (subst (λ (x : Past). Holds s.their s.their_late x stands.content) later_is stands.holds)))
           stands left
+
+    -- whether the pick took an Abort command, by its entry
+    took_by_entry : (entry : Sqe) (index : ℕ) → slice_get (waiting past 0) 0 ≡ Some index → entry_at past 0 index ≡ Some entry
+        → took_abort (event.Pick (observation_of past) pick ∷ past) ≡ is_abort_entry (Some entry)
+    took_by_entry entry index oldest there =
+        ap (λ (b : Bool). b && is_abort_entry (option_and_then (entry_at past 0) (slice_get (waiting past 0) 0))) (eq-eqb pick.qid 0 admin)
+        ∙ ap (λ (x : Option ℕ). is_abort_entry (option_and_then (entry_at past 0) x)) oldest ∙ ap (λ (x : Option Sqe). is_abort_entry x) there
 
     pub carried : (did : Effect) (entry : Sqe) → HasDone s.their s.their_late notes did entry now.controller now.slots.items → NamesQueues past did → IsVerdictOf (admin_command_of entry) (verdict_in did)
         → new ≡ old ++ made_in did ending → HasCarriedOut rules late notes pick old new now
@@ -236,8 +266,10 @@ module _ (rules : FrontRules) (late : Bool) (notes : Notes) (e now : Engine) (s 
         let told : verdict_in did ≡ v = subst (λ (p : Option Placing). IsToldBy p (verdict_in did) v) no_placing h.told in
         let made : made_in did ending ≡ made_by past v = made_is did entry ending names command (ends done.index entry done.oldest h.its_entry) ∙ ap (made_by past) told in
         let next : IsNextPick s.their notes (Some done.pick) = subst (λ (x : FrontRules). IsNextPick x notes (Some done.pick)) (rules_left v entry) done.next in
-        let stands : ctrl.Stands s.their s.their_late (later v done.index done.answer done.oldest) now.controller now.slots.items =
-        subst (λ (x : FrontRules). ctrl.Stands x s.their_late (later v done.index done.answer done.oldest) now.controller now.slots.items) (rules_left v entry)
+        let no_abort : (qid : ℕ) → v ≡ verdict.BeginDelete qid → took_abort (event.Pick (observation_of past) pick ∷ past) ≡ false =
+        λ qid is. took_by_entry entry done.index done.oldest h.its_entry ∙ delete_is_no_abort entry qid (subst (IsVerdictOf (admin_command_of entry)) (told ∙ is) command) in
+        let stands : ctrl.Stands s.their s.their_late (later v done.index done.answer done.oldest no_abort) now.controller now.slots.items =
+        subst (λ (x : FrontRules). ctrl.Stands x s.their_late (later v done.index done.answer done.oldest no_abort) now.controller now.slots.items) (rules_left v entry)
         (subst (λ (x : Notes). ctrl.Stands (placed v entry s.their) s.their_late (with_answer done.index done.answer (with_logged (made_by past v) x)) now.controller now.slots.items)
         (same_notes rules late notes [] e s pick done.pick (same done.pick next)) done.stands) in
         record {
@@ -246,5 +278,5 @@ module _ (rules : FrontRules) (late : Bool) (notes : Notes) (e now : Engine) (s 
           verdict = v;
           log_is = log_is ∙ ap (λ (es : List Event). old ++ es) made;
           answer = done.answer;
-          stands = stands_later v done.index done.answer done.oldest stands;
+          stands = stands_later v done.index done.answer done.oldest no_abort stands;
         }

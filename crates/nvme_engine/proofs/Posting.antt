@@ -29,6 +29,7 @@ use Rattle.nvme_ctrl.proofs.NoPosts as posts
 use Rattle.nvme_ctrl.proofs.DoorbellCalls.{cq_is_open}
 use Rattle.nvme_ctrl.proofs.DeletedQueues.{unheld_undeleting}
 use Rattle.nvme_ctrl.proofs.Readying.{unposted-counts}
+use Rattle.nvme_engine.proofs.Places.{places_posted}
 use Rattle.nvme_engine.specs.Standing.{StandsAt}
 use Rattle.nvme_engine.specs.Calls.{HasPosted}
 use Rattle.nvme_engine.specs.declared.engine.Engine.{Engine}
@@ -178,6 +179,7 @@ module _ (rules : FrontRules) (late : Bool) (notes : Notes) (e : Engine) (s : St
         answers = s.answers;
         untaken = s.untaken;
         lawful = s.lawful;
+        places = places_posted s.their past x region index cqe s.places;
         pool = same_pool e f left s.pool;
         depths = left.depths ∙ s.depths;
         own = left.own ∙ s.own;

@@ -26,7 +26,7 @@ use Rattle.nvme_ctrl.specs.Observation.{is_arrangement}
 use Rattle.nvme_ctrl.specs.Steps.{with_logged, with_answer}
 use Rattle.nvme_ctrl.specs.Standing as ctrl
 use Rattle.nvme_ctrl.proofs.EffectEvents.{AreEffects}
-use Rattle.nvme_engine.specs.Standing.{StandsBut, IsPlain, BeginsAlone, ServesItsQueues, DeletesItsQueue}
+use Rattle.nvme_engine.specs.Standing.{StandsBut, HasPlaces, IsPlain, BeginsAlone, ServesItsQueues, DeletesItsQueue}
 use Rattle.nvme_engine.specs.declared.engine.Engine.{Engine}
 use Rattle.nvme_engine.proofs.Calls.{Leaves, same_pool}
 
@@ -153,8 +153,8 @@ module _ (rules : FrontRules) (late : Bool) (notes later : Notes) (rest : List P
 
   -- an engine whose controller stands at later notes that are quiet stands at them
   pub stands_quiet : Each Deletes (logged later) → Each BeginsAlone (logged later) → ServesItsQueues (logged later) → DeletesItsQueue (logged later)
-      → IsLawfulRun s.their.mechanism s.their.start.settings (arbitration_of (logged later)) → ctrl.Stands s.their s.their_late later now.controller now.slots.items → Leaves e now → StandsBut rules late later rest now
-  stands_quiet deletes alone served named lawful stands left = record {
+      → IsLawfulRun s.their.mechanism s.their.start.settings (arbitration_of (logged later)) → HasPlaces s.their (logged later) → ctrl.Stands s.their s.their_late later now.controller now.slots.items → Leaves e now → StandsBut rules late later rest now
+  stands_quiet deletes alone served named lawful places stands left = record {
     their = s.their;
     their_late = s.their_late;
     alike = s.alike;
@@ -173,6 +173,7 @@ module _ (rules : FrontRules) (late : Bool) (notes later : Notes) (rest : List P
         (ap (λ (xs : List Sqe). slice_get xs i) (sym (quiet.fetches r)) ∙ there) (sym (quiet.answered r i io) ∙ is);
     untaken = quiet.same_handed ∙ s.untaken ∙ ap (λ (ps : List Place). ps ++ rest) (sym quiet.same_taken);
     lawful = lawful;
+    places = places;
     pool = same_pool e now left s.pool;
     depths = left.depths ∙ s.depths;
     own = left.own ∙ s.own;

@@ -12,6 +12,7 @@ use Rattle.nvme_log.specs.declared.place.Place.{Place}
 use Rattle.nvme_ctrl.specs.Notes.{Notes}
 use Rattle.nvme_ctrl.specs.Standing.{Stands}
 use Rattle.nvme_ctrl.proofs.Reordered as ctrl
+use Rattle.nvme_engine.proofs.Places.{no_places}
 use Rattle.nvme_engine.specs.Regions.{only_adds}
 use Rattle.nvme_engine.specs.Standing.{AreAlike, HaveRings, StandsBut, StandsAt, AnswersByOutcome}
 use Rattle.nvme_engine.specs.declared.engine.Engine.{Engine}
@@ -70,6 +71,7 @@ module _ (rules other : FrontRules) (h : AreReordered rules other) where
     answers = answers_other notes s.answers;
     untaken = s.untaken;
     lawful = s.lawful;
+    places = s.places;
     pool = s.pool;
     depths = s.depths;
     own = s.own;
@@ -99,6 +101,7 @@ module _ (rules other : FrontRules) (h : AreReordered rules other) where
         answers = answers_other [] s.answers;
         untaken = s.untaken;
         lawful = tt;
+        places = no_places other;
         pool = s.pool;
         depths = s.depths;
         own = s.own;

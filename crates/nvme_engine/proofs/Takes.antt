@@ -70,6 +70,7 @@ module _ (rules : FrontRules) (late : Bool) (notes : Notes) (p : Place) (rest : 
     answers = s.answers;
     untaken = untaken_after;
     lawful = s.lawful;
+    places = s.places;
     pool = same_pool e f left s.pool;
     depths = left.depths ∙ s.depths;
     own = left.own ∙ s.own;

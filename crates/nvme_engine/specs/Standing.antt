@@ -10,10 +10,10 @@ use Rattle.nvme_log.specs.Rules.{FrontRules, Past, Each, sq_regions_of, cq_regio
 use Rattle.nvme_log.specs.Queues.{Deletion, pending, is_serving, qid_of_region, is_closed_region}
 use Rattle.nvme_log.specs.Places.{fetched, entry_at}
 use Rattle.nvme_log.specs.declared.place.Place.{Place}
-use Rattle.nvme_log.specs.Completions.{posted_to}
+use Rattle.nvme_log.specs.Completions.{posted_to, outstanding}
 use Rattle.nvme_log.specs.Histories.{arbitration_of}
 use Rattle.nvme_log.specs.Answers.{Answer, outcome_answer}
-use Rattle.nvme_log.specs.Account.{Deletes, latest_admin_place}
+use Rattle.nvme_log.specs.Account.{Deletes, LeavesPlaces, latest_admin_place}
 use Rattle.nvme_log.specs.declared.event.Event.{Event}
 use Rattle.nvme_log.specs.declared.event.Event.TheVariants.{Closing}
 use Rattle.nvme_ctrl.specs.Notes.{Notes, logged}
@@ -78,6 +78,11 @@ abbrev pub AnswersByOutcome : FrontRules → Notes → Type 0
 AnswersByOutcome rules notes =
     (r i : ℕ) (entry : Sqe) (answer : Answer) → (r == 0) ≡ false → entry_at (logged notes) r i ≡ Some entry → answer_of notes r i ≡ Some answer → answer ≡ outcome_answer rules entry
 
+-- no more places are outstanding than there may be, and no more were after any pick or abort (profile)
+pub record HasPlaces (rules : FrontRules) (past : Past) : Type 0 where
+  pub each : Each (LeavesPlaces rules) past
+  pub few : outstanding rules past ≤ max_outstanding
+
 -- an engine stands at these notes, but for these picked places, which are still to be taken. `late` says that a region was added after the first event. Each
 -- fetched command was submitted just before, and each posted completion consumed right after. What is kept with a command is its index
 pub record StandsBut (rules : FrontRules) (late : Bool) (notes : Notes) (rest : List Place) (e : Engine) : Type 0 where
@@ -101,6 +106,8 @@ pub record StandsBut (rules : FrontRules) (late : Bool) (notes : Notes) (rest : 
   pub untaken : handed notes ≡ taken notes ++ rest
   -- each pick was made without a limit
   pub lawful : IsLawfulRun their.mechanism their.start.settings (arbitration_of (logged notes))
+  -- a pick is made where its places are free
+  pub places : HasPlaces their (logged notes)
   pub pool : pool_size ≤ length e.slots.items
   pub depths : depths_of e.controller ≡ equal_depths queue_depth
   pub own : own_of e.controller ≡ no_own
