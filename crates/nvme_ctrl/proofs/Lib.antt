@@ -52,6 +52,7 @@ pub mod OwnSteps
 pub mod NextEvents
 pub mod AdminEvents
 pub mod Standing
+pub mod Still
 pub mod Pools
 pub mod Chains
 pub mod QueueStates

@@ -18,5 +18,6 @@ pub mod Making
 pub mod Ranges
 pub mod Laws
 pub mod Depths
+pub mod Progress
 pub mod Outlook
 pub mod Examples

@@ -14,6 +14,7 @@ ghost use Rattle.nvme_ctrl.specs.Making.{is_named};
 ghost use Rattle.nvme_ctrl.specs.Account.{IsLawful, IsAccount};
 ghost use Rattle.nvme_ctrl.specs.Examples.{identify, identify_fetched, identify_picked, identify_passed, identify_taken, identify_answered, identified, get_feature, set_feature, told, three_of_four, four_fetched, first_picked, first_answered, first_posted, third_answered, two_passes, succeeded, out_of_range, without_region, with_late_region, creates_fetched, create_picked, create_refused, reads_submitted, reads_waiting, read_picked, read_taken, delete_begun, aborts_posted, read_answered, reads_posted, deletion_noted, unmarked, not_retried, more_told, abort_of_read, abort_waiting, abort_picked, abort_passed, abort_taken, aborted_read, read_aborted, abort_answered, abort_done, held_and_deleted, classed_and_picked, weighted_rules, two_waiting, pick_of, two_deletions, two_closing, third_served, second_gone, both_gone};
 ghost use Rattle.nvme_ctrl.specs.Depths.{DepthsSuffice, DepthsLeaveRoom, HeldWaitOrAreUnposted};
+ghost use Rattle.nvme_ctrl.specs.Progress.{IsWithDevice, NoneWaitDeleted, ServedAwait, UnfetchedAwait, WaitingAwait, WaitsForHost, WaitsForQueue};
 ghost use Rattle.nvme_ctrl.specs.Laws.{ControllersKeepAccounts, RegionsLeaveAccounts, EventsAreAccounted, SlotsAreFetchedInOrder, CompletionsFollowAnswers, OneCompletionEach, SlotsAreFree, CompletionsTellTheHead, DeletesAreAnsweredLast, NoneFetchedAfterDeletion, NonePickedAfterDeletion, PicksAreLawful, TagsAreApart, ObservedAsInTheLog, SeenOneByOne, HeldQueuesWait, HeldQueuesWaitUntilTold, FewHoldSlots};
 
 /// The log at which a controller stands is an account, where no region was added late: after a Create that named its
@@ -115,6 +116,30 @@ pub fn depths_suffice()
     ensures hold { DepthsSuffice }
     ensures leave { DepthsLeaveRoom }
     ensures held { HeldWaitOrAreUnposted }
+{}
+
+/// Where each call tells that there is nothing to do, each command waits for somebody else. What wasn't fetched of an open
+/// queue that isn't held waits for the queue's depth, which its own commands fill. What waits to be picked is of a queue
+/// that is held. What was picked or aborted waits for the device, which has it, or for a host that hasn't read its completion
+/// queue; or it is a Delete, and waits for such commands of its queue. So with a host that reads, and a device that answers
+/// and holds no queue, all that was submitted to queues that stay is posted. What was submitted to a queue and not fetched
+/// when the queue's deletion began is never completed, and nothing that waited to be picked still waits then.
+pub fn nothing_stands_still()
+    ensures unfetched { UnfetchedAwait }
+    ensures waiting { WaitingAwait }
+    ensures deleted { NoneWaitDeleted }
+    ensures served { ServedAwait }
+{}
+
+/// Worked: a read that the device has, until it answers it; a completion queue of two slots, which is full until its host
+/// reads it; and a Delete that waits for a command of its queue, until that has its completion.
+pub fn worked_commands_wait_for_others()
+    ensures device { IsWithDevice read_taken 1 0 }
+    ensures answered { IsWithDevice read_answered 1 0 → ⊥ }
+    ensures host { WaitsForHost two_slots first_posted 0 }
+    ensures host_read { WaitsForHost two_slots third_answered 0 → ⊥ }
+    ensures queue { WaitsForQueue delete_begun 0 2 }
+    ensures queue_done { WaitsForQueue reads_posted 0 2 → ⊥ }
 {}
 
 /// Worked: four completions through a completion queue of two slots, and a queue that is deleted while the device has
