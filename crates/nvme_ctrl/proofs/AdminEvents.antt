@@ -384,7 +384,7 @@ all_next : (rules : FrontRules) (rest : List Event) (past : Past) → EachNext I
     → EachNext (EffectsAtOnce rules) rest past → EachNext FollowsDeletions rest past → EachNext (IsNext rules) rest past
 all_next rules [] past i s e d = tt
 all_next rules (x ∷ rest) past i s e d = (
-  record { index_counts = i.0; served_while_open = s.0; effects_at_once = e.0; deletes = d.0; },
+  record { index_counts = i.0; served_while_open = s.0; effects_at_once = e.0; deletes = d.0 },
   all_next rules rest (x ∷ past) i.1 s.1 e.1 d.1,
 )
 

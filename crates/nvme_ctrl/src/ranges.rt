@@ -53,7 +53,8 @@ impl Controller {
     fn has_counts(&self, slots: &[Slot]) -> bool
         ensures { result ≡ has_counts self.now slots.now }
     {
-        usize::from(self.outstanding) <= slots.len() && self.picked <= self.sq(self.picked_qid).window.len
+        usize::from(self.outstanding) <= slots.len()
+            && self.picked <= self.sq(self.picked_qid).window.len
     }
 }
 

@@ -115,18 +115,18 @@ module _ (rules : FrontRules) (late : Bool) (past : Past) (k : Content) (s : Hol
         by (named past q.region cid)
         (All-filter (λ (i : ℕ). has_cid cid (entry_at past q.region i)) (λ (i : ℕ). is_waiting (fate_of past q.region i) ≡ true) (waiting past q.region) (waiting_wait past q.region))
         (All-filter (λ (i : ℕ). has_cid cid (entry_at past q.region i)) (λ (i : ℕ). i < length (fetched past q.region)) (waiting past q.region) (waiting-below past q.region)) where
-      by : (is : List ℕ) → All (λ (i : ℕ). is_waiting (fate_of past q.region i) ≡ true) is → All (λ (i : ℕ). i < length (fetched past q.region)) is
-          → HasPlaces rules (with_events (map (λ (i : ℕ). event.Abort q.region i) (take 1 is)) mid)
-      by [] wait below = picked_leaves
-      by (i ∷ is) wait below =
-          let waited = All-head (λ (j : ℕ). is_waiting (fate_of past q.region j) ≡ true) i is wait in
-          let apart = target_region rules late past k seen pick k.board s admin first sqid q target in
-          let more = outstanding-abort rules mid q.region i (ap is_waiting (others_fate rules late past k seen pick k.board s admin first q.region apart i) ∙ waited)
-          (All-head (λ (j : ℕ). j < length (fetched past q.region)) i is below)
-          (false_from_ne_true (is_posted past q.region i) (λ posted. true≢false (sym waited ∙ posted_served past k (hand_of k) s.ready q.region i posted)))
-          (region_there rules late past k s sqid q (target_is past sqid q target).1) in
-          let still : outstanding rules (event.Abort q.region i ∷ mid) ≤ max_outstanding = omega (arith, more, free_then) in
-          record { each = (le-leb (outstanding rules (event.Abort q.region i ∷ mid)) max_outstanding still, picked_leaves.each); few = still }
+          by : (is : List ℕ) → All (λ (i : ℕ). is_waiting (fate_of past q.region i) ≡ true) is → All (λ (i : ℕ). i < length (fetched past q.region)) is
+              → HasPlaces rules (with_events (map (λ (i : ℕ). event.Abort q.region i) (take 1 is)) mid)
+          by [] wait below = picked_leaves
+          by (i ∷ is) wait below =
+              let waited = All-head (λ (j : ℕ). is_waiting (fate_of past q.region j) ≡ true) i is wait in
+              let apart = target_region rules late past k seen pick k.board s admin first sqid q target in
+              let more = outstanding-abort rules mid q.region i (ap is_waiting (others_fate rules late past k seen pick k.board s admin first q.region apart i) ∙ waited)
+              (All-head (λ (j : ℕ). j < length (fetched past q.region)) i is below)
+              (false_from_ne_true (is_posted past q.region i) (λ posted. true≢false (sym waited ∙ posted_served past k (hand_of k) s.ready q.region i posted)))
+              (region_there rules late past k s sqid q (target_is past sqid q target).1) in
+              let still : outstanding rules (event.Abort q.region i ∷ mid) ≤ max_outstanding = omega (arith, more, free_then) in
+              record { each = (le-leb (outstanding rules (event.Abort q.region i ∷ mid)) max_outstanding still, picked_leaves.each); few = still }
 
     -- what a command of each verdict makes. A Delete is no Abort
     pub made_leave_places : (v : Verdict) → ((qid : ℕ) → v ≡ verdict.BeginDelete qid → took_abort mid ≡ false) → (later : Bool) (l : Content)

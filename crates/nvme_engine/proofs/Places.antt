@@ -64,7 +64,7 @@ places_fetched rules late past k s q queue is_open room i is entry h =
     let can : CanFetch past k q queue = record {
       is_open = is_open;
       room = (let size = ap (λ (xs : List ℕ). length xs) region.waiting_is ∙ length-map (k.sq queue.region).window (λ (c : Candidate). c.index) in
-      subst (λ (n : ℕ). length (k.sq queue.region).window < window_of n) (s.tabled.sq_slots queue.region) (subst (λ (n : ℕ). n < window_of (slots_at (sq_regions_of rules) queue.region)) size room));
+          subst (λ (n : ℕ). length (k.sq queue.region).window < window_of n) (s.tabled.sq_slots queue.region) (subst (λ (n : ℕ). n < window_of (slots_at (sq_regions_of rules) queue.region)) size room));
     } in
     let counts = (counts-fetch rules late past k q queue entry s can (regions-fetch rules late past k q queue entry s can)).outstanding_is in
     let index : (k.sq queue.region).fetched ≡ i = region.counted ∙ ap (λ (xs : List Sqe). length xs) (sym region.fetched_is) ∙ sym is in

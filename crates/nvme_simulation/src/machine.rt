@@ -269,12 +269,7 @@ impl Machine {
     }
 
     // A command of a queue comes, and where more come the next one behind it, but where that waits for a completion.
-    pub(crate) fn come(
-        &mut self,
-        qid: u16,
-        counts: bool,
-        more: bool,
-    ) -> Result<(), SimulationFault>
+    pub(crate) fn come(&mut self, qid: u16, counts: bool, more: bool) -> Result<(), SimulationFault>
         requires front { IsFront self.old.front }
         ensures goes { Goes self.old self.new }
         ensures cost { cost_with self.new ≤ cost_with self.old + 2 }
