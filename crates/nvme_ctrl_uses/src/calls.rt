@@ -288,7 +288,7 @@ fn take_three(rt: &impl Abort, ctrl: &mut Controller, slots: &mut [Slot]) -> Opt
     requires { IsController ctrl.old slots.old }
     ensures { IsController ctrl.new slots.new }
 {
-    assert_eq!(rt; ctrl.pick(slots, 0), Step::Full);
+    assert_eq!(rt; ctrl.pick(slots, 0), Step::NoRoom);
     let step = ctrl.pick(slots, ROOM);
     assert!(rt; matches!(step, Step::Picked(Pick { qid: 1, n: 3, .. })));
     assert_eq!(rt; ctrl.pick(slots, ROOM), Step::Busy);
