@@ -18,7 +18,7 @@ use Rattle.nvme_ctrl.specs.Standing.{Stands}
 use Rattle.nvme_ctrl.specs.Steps.{HasStepped}
 use Rattle.nvme_ctrl.specs.declared.marks.Marks.{Marks}
 use Rattle.nvme_ctrl.specs.declared.picks.Step.{Step}
-use Rattle.nvme_ctrl.specs.declared.picks.Step.TheVariants.{Idle, Busy, Full, Picked, Passed, Done}
+use Rattle.nvme_ctrl.specs.declared.picks.Step.TheVariants.{Idle, Busy, NoRoom, Picked, Passed, Done}
 use Rattle.nvme_ctrl.specs.declared.slot.Slot.{Slot}
 use Rattle.nvme_ctrl.specs.declared.state.Controller.{Controller}
 use Rattle.nvme_simulation.specs.Fronts.{Arbitrates}
@@ -53,7 +53,7 @@ pub stepped : (mechanism : Mechanism) (settings : ArbitrationFields) (before aft
     → Arbitrates mechanism settings after slots
 stepped mechanism settings before after old slots a room Idle h = again mechanism settings before after old slots a _ h.0
 stepped mechanism settings before after old slots a room Busy h = again mechanism settings before after old slots a _ h.0
-stepped mechanism settings before after old slots a room Full h = again mechanism settings before after old slots a _ h.0
+stepped mechanism settings before after old slots a room NoRoom h = again mechanism settings before after old slots a _ h.0
 stepped mechanism settings before after old slots a room (Picked pick) h = again mechanism settings before after old slots a _ h.1
 stepped mechanism settings before after old slots a room (Passed pick) h = again mechanism settings before after old slots a _ h.stands
 stepped mechanism settings before after old slots a room (Done effect entry) h = record {

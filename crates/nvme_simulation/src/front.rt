@@ -7,10 +7,10 @@ use nvme_entry::{Sqe, Status};
 use nvme_placing::Placement;
 use std::alloc::Global;
 
-// The most commands of a queue that hold a slot: as many as arbitration counts, and as many as may be outstanding.
+// The most commands of a queue that hold a slot: as many as arbitration counts, and as many as the device may have.
 const DEPTH: u16 = 512;
 
-// As many slots as commands may wait and be picked: those of the windows of 64 I/O queues and the admin queue, and 256.
+// As many slots as commands may wait, of 64 I/O queues and the admin queue, and as many as the device may have.
 const POOL: usize = 66 * 256;
 
 /// The slots of each admin ring, which the Creates of all queues fit into.
