@@ -5,7 +5,7 @@ use Rattle.std.specs.Borrow.{Bor}
 use Rattle.clap.specs.Walk.{texts}
 use Rattle.clap.specs.Words.{App, Rule, Text, new_app, new_rule, with_rule, with_subcommand}
 use Rattle.clap.specs.Simple.{new_shape}
-use Rattle.clap.specs.declared.builder.action.ArgAction.TheVariants.{Set, SetTrue}
+use Rattle.clap.specs.declared.builder.action.ArgAction.TheVariants.{Append, Set, SetTrue}
 use Rattle.clap.specs.declared.builder.value_parser.ValueParser.{ValueParser}
 use Rattle.clap.specs.declared.builder.value_parser.ValueParser.TheVariants as values
 
@@ -139,9 +139,29 @@ abbrev pub bounded : App
 bounded =
     with_rule (with_rule (with_rule (with_rule (trace (codes "simulate")) (number (codes "seed"))) (number (codes "commands"))) (text_option (codes "time"))) (number (codes "warm-up"))
 
+-- the values of a key in a sweep, which may come several times
+abbrev pub sweep : Rule
+sweep = record (new_rule (codes "sweep")) { long = Some (codes "sweep"); action = Some Append; value_names = 1 }
+
+-- from 1 to 1000 seeds
+abbrev pub seeds : Rule
+seeds = option (codes "seeds") (values.Unsigned 1 1000)
+
+-- the points of a sweep are printed, and not simulated
+abbrev pub points : Rule
+points = record (new_rule (codes "points")) { long = Some (codes "points"); action = Some SetTrue }
+
+-- the line of names is left out
+abbrev pub no_head : Rule
+no_head = record (new_rule (codes "no-head")) { long = Some (codes "no-head"); action = Some SetTrue }
+
+-- the subcommand that simulates, with the options of a sweep
+abbrev pub swept : App
+swept = with_rule (with_rule (with_rule (with_rule bounded sweep) seeds) points) no_head
+
 abbrev pub simulate : Names → App
 simulate names =
-    with_rule (with_rule (with_rule (with_rule bounded (format names)) (text_option (codes "log"))) (text_option (codes "trace"))) output
+    with_rule (with_rule (with_rule (with_rule swept (format names)) (text_option (codes "log"))) (text_option (codes "trace"))) output
 
 -- ---- the program
 

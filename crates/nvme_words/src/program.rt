@@ -1,7 +1,7 @@
 // The command line of the program, by `clap`.
 ghost use Rattle.std.specs.Prelude.{◌≡◌, IfOk, codes};
 ghost use Rattle.clap.specs.Words.{App, app_of};
-ghost use Rattle.nvme_words.specs.CommandLine.{OnCommandLine, all, backlogged, blocks, bounded, chart, check, dword, expand, file, first, format, last, lint, mode, number, once, option, ranged, run, output, quiet, settings, simulate, stats, text_option, trace, traced, window, with_file, with_input, with_run, with_trace, workers};
+ghost use Rattle.nvme_words.specs.CommandLine.{OnCommandLine, all, backlogged, blocks, bounded, chart, check, dword, expand, file, first, format, last, lint, mode, number, once, option, ranged, run, output, quiet, settings, simulate, stats, text_option, trace, traced, window, with_file, with_input, with_run, with_trace, workers, seeds, sweep, swept};
 ghost use Rattle.nvme_words.specs.inside.Built.{AddsIfMade, HasApp, HasRule};
 
 use clap::builder::ValueParser;
@@ -351,13 +351,54 @@ fn bounded_command<'a>(alloc: Global) -> Result<Command<'a>, AllocError>
         .arg(number_arg(alloc, "warm-up", warm_up))
 }
 
+// The values of a key in a sweep.
+fn sweep_arg<'a>(alloc: Global) -> Arg<'a>
+    ensures { HasRule sweep result }
+{
+    let help =
+        "A key of the file and its values, which all are simulated; with several, all combinations";
+    Arg::new(alloc, "sweep")
+        .long("sweep")
+        .value_name("KEY=A,B,..")
+        .help(help)
+        .action(ArgAction::Append)
+}
+
+// How many seeds each point of a sweep is run with.
+fn seeds_arg<'a>(alloc: Global) -> Arg<'a>
+    ensures { HasRule seeds result }
+{
+    let help = "How many seeds each is run with, 1 to 1000: means and their intervals of 95 %";
+    let range = value_parser!(u64).range(1..=1_000);
+    option_arg(alloc, "seeds", "N", help, range)
+}
+
+// The subcommand that simulates, with the options of a sweep.
+fn swept_command<'a>(alloc: Global) -> Result<Command<'a>, AllocError>
+    ensures { IfOk result (HasApp swept) }
+{
+    let points = Arg::new(alloc, "points")
+        .long("points")
+        .help("Print a command for each point of a sweep, and simulate none")
+        .action(ArgAction::SetTrue);
+    let no_head = Arg::new(alloc, "no-head")
+        .long("no-head")
+        .help("Leave the line of names of a sweep out")
+        .action(ArgAction::SetTrue);
+    bounded_command(alloc)?
+        .arg(sweep_arg(alloc))?
+        .arg(seeds_arg(alloc))?
+        .arg(points)?
+        .arg(no_head)
+}
+
 // The subcommand that simulates.
 fn simulate_command<'a>(alloc: Global, formats: &'a [&'a str]) -> Result<Command<'a>, AllocError>
     ensures { IfOk result (HasApp (simulate formats.entry)) }
 {
     let log = "A file that gets a line of comma-separated values for each finished command";
     let trace = "A file that gets the trace of the picks";
-    bounded_command(alloc)?
+    swept_command(alloc)?
         .arg(format_arg(alloc, formats))?
         .arg(text_arg(alloc, "log", "FILE", log))?
         .arg(text_arg(alloc, "trace", "FILE", trace))?

@@ -5,7 +5,7 @@ use Rattle.nvme_words.proofs.program.simulate_command.Goals as goal
 
 pub returns : goal.returns
 returns c =
-    let one = rule_added _ _ _ _ _ c.in_ok-arg.ensures c.in_ok-bounded_command.ensures c.format_arg.ensures in
+    let one = rule_added _ _ _ _ _ c.in_ok-arg.ensures c.in_ok-swept_command.ensures c.format_arg.ensures in
     let two = rule_added _ _ _ _ _ c.in_ok-arg-2.ensures one c.text_arg.ensures in
     let three = rule_added _ _ _ _ _ c.in_ok-arg-3.ensures two c.text_arg-2.ensures in
     IfOk-weaker c.arg-4.result _ _ (λ new added. rule_added _ new _ _ _ added three c.output_arg.ensures) c.arg-4.ensures
