@@ -15,6 +15,7 @@ mod tally;
 
 pub use answer::{About, Answer, Member};
 pub use finish_log::{log_header, log_line};
+pub use names::class_name;
 pub use numbers::Numbers;
 pub use nvme_output::WriteFault;
 pub use row::{Row, Spread};

@@ -20,7 +20,7 @@ pub use nvme_model::Model;
 pub use nvme_model_file::{ModelFault, Told, model_in, simulation_in};
 pub use overrides::{OverrideFault, Overrides};
 pub use progress::Progress;
-pub use runs::{Form, simulate};
+pub use runs::{Form, Measured, measure, simulate};
 pub use streams::Streams;
 pub use trace::{put_pick, put_trace_head};
 

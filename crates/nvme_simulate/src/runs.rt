@@ -4,10 +4,11 @@ ghost use Rattle.nvme_simulation.specs.Simulations.{IsSimulation};
 use crate::digest::Digest;
 use crate::fault::{SimulateFault, Stream};
 use crate::lengths::is_too_long;
+use crate::progress::Progress;
 use crate::streams::Streams;
 use crate::watch::Watch;
 use nvme_model::Model;
-use nvme_numbers::{About, Answer, Numbers};
+use nvme_numbers::{About, Answer, Member, Numbers, Row};
 use nvme_simulation::{Happening, Simulation, SimulationFault};
 use nvme_version::VERSION;
 use std::alloc::Global;
@@ -101,17 +102,22 @@ fn run<L: Write, T: Write, P: Write>(
     Ok(end)
 }
 
-/// Runs a model to its end, and writes its answer, with the digest of its file. What happens is written to the streams
-/// meanwhile. A model whose commands would come for longer than the clock goes, by their mean times, is refused before
-/// anything is written.
-pub fn simulate<L: Write, T: Write, P: Write, W: Write>(
+// A model that ran to its end.
+#[derive(Drop)]
+struct Played {
+    simulation: Simulation,
+    numbers: Numbers,
+    // When the last command was finished.
+    end: u64,
+}
+
+// Runs a model to its end. What happens is written to the streams meanwhile. A model whose commands would come for longer
+// than the clock goes is refused before anything is written.
+fn played_to_end<L: Write, T: Write, P: Write>(
     alloc: Global,
     model: Model,
-    digest: &Digest,
-    form: Form,
     streams: &mut Streams<L, T, P>,
-    output: &mut W,
-) -> Result<(), SimulateFault> {
+) -> Result<Played, SimulateFault> {
     if is_too_long(&model) {
         return Err(SimulateFault::Simulation(SimulationFault::TooLong));
     }
@@ -123,10 +129,73 @@ pub fn simulate<L: Write, T: Write, P: Write, W: Write>(
     streams.progress.clear();
     let end = ran?;
     streams.end()?;
+    Ok(Played {
+        simulation,
+        numbers,
+        end,
+    })
+}
+
+/// Runs a model to its end, and writes its answer, with the digest of its file. What happens is written to the streams
+/// meanwhile. A model whose commands would come for longer than the clock goes, by their mean times, is refused before
+/// anything is written.
+pub fn simulate<L: Write, T: Write, P: Write, W: Write>(
+    alloc: Global,
+    model: Model,
+    digest: &Digest,
+    form: Form,
+    streams: &mut Streams<L, T, P>,
+    output: &mut W,
+) -> Result<(), SimulateFault> {
+    let Played {
+        simulation,
+        numbers,
+        end,
+    } = played_to_end(alloc, model, streams)?;
     let about = About {
         version: VERSION,
         digest: digest.as_str(),
     };
     let answer = numbers.answer(end, simulation.channels(), about)?;
     form.put(&answer, output)
+}
+
+/// The numbers of a run.
+#[derive(Drop)]
+pub struct Measured {
+    /// Those of the queues, of the identifiers 1, 2 and so on.
+    pub queues: Vec<Member>,
+    /// Those of the classes that have a queue, from the urgent one down.
+    pub classes: Vec<Member>,
+    /// Those of all queues together.
+    pub all: Row,
+}
+
+/// Runs a model to its end. The answer is its numbers.
+pub fn measure<P: Write + Drop>(
+    alloc: Global,
+    model: Model,
+    progress: Progress<P>,
+) -> Result<Measured, SimulateFault> {
+    let mut streams = Streams {
+        log: None::<Vec<u8>>,
+        trace: None::<Vec<u8>>,
+        progress,
+    };
+    let Played { numbers, end, .. } = played_to_end(alloc, model, &mut streams)?;
+    let about = About {
+        version: VERSION,
+        digest: "",
+    };
+    let Answer {
+        queues,
+        classes,
+        all,
+        ..
+    } = numbers.answer(end, &[], about)?;
+    Ok(Measured {
+        queues,
+        classes,
+        all,
+    })
 }
