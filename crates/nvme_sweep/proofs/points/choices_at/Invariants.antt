@@ -1,0 +1,7 @@
+use Rattle.std.proofs.Common.{◌≡◌, ◌++◌, drop}
+use Rattle.nvme_sweep.specs.Points.{choices_of}
+use Rattle.nvme_sweep.proofs.points.choices_at.Given as goal
+
+-- the choices so far, and those of what is left, are those of the point
+abbrev pub invariant-loop-length : goal.invariant-loop-length
+invariant-loop-length l = l.choices.items ++ choices_of (drop l.length-index l.lengths) l.left ≡ choices_of l.lengths l.point

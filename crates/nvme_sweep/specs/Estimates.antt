@@ -1,0 +1,36 @@
+-- Means over seeds, and the intervals around them. (profile)
+use Rattle.std.specs.Prelude.{◌≡◌, ◌≤◌, ◌<◌, ℕ, ◌+◌, ◌-◌, ◌*◌, ◌/◌, List, get_or, length, min, sum}
+use Rattle.std.specs.Int.{abs_diff}
+use Rattle.std.specs.List.{sum_by}
+use Rattle.nvme_sweep.specs.declared.estimates.TheConstants.{QUANTILES}
+
+-- a mean, rounded down
+abbrev pub IsMean : List ℕ → ℕ → Type 0
+IsMean values mean = mean ≡ sum values / length values
+
+-- the squared differences between a value and values
+unfoldable pub differences_from : ℕ → List ℕ → ℕ
+differences_from value values = sum_by (λ other. abs_diff value other * abs_diff value other) values
+
+-- those between values and others. Of the same ones they are twice their number times the sum of the squares of what each
+-- differs from their mean
+abbrev pub pair_differences : List ℕ → List ℕ → ℕ
+pair_differences values others = sum_by (λ value. differences_from value others) values
+
+-- the square of half the width: that of the quantile, given in thousandths, times the variance divided by the number of values
+abbrev pub squared_width : ℕ → List ℕ → ℕ
+squared_width quantile values =
+    (quantile * quantile * pair_differences values values) / (length values * length values * (length values - 1) * 2_000_000)
+
+-- the whole root of the square
+pub record IsHalfWidth (quantile : ℕ) (values : List ℕ) (half : ℕ) : Type 0 where
+  pub least : half * half ≤ squared_width quantile values
+  pub most : squared_width quantile values < (half + 1) * (half + 1)
+
+-- the quantile for so many values: one degree of freedom less, and of more than 100 that of 100
+abbrev pub IsQuantile : ℕ → ℕ → Type 0
+IsQuantile count quantile = quantile ≡ get_or QUANTILES (min (count - 2) 99) 0
+
+-- half the width of the interval of 95 %
+abbrev pub IsInterval : List ℕ → ℕ → Type 0
+IsInterval values half = (quantile : ℕ) × IsQuantile (length values) quantile × IsHalfWidth quantile values half

@@ -1,0 +1,104 @@
+// A command line for each point of a sweep.
+use crate::fault::SweepFault;
+use crate::sweep::Sweep;
+use std::alloc::Global;
+use std::io::{self, Write};
+
+/// What a command line says beside the keys of a point.
+#[derive(Clone, Copy, Debug, PartialEq, Eq)]
+pub struct CommandWords<'a> {
+    /// The name of the simulation file.
+    pub file: &'a str,
+    pub seed: Option<u64>,
+    pub commands: Option<u64>,
+    pub time: Option<&'a str>,
+    pub warm_up: Option<u64>,
+    pub seeds: Option<u64>,
+    /// The name of the form.
+    pub format: &'a str,
+    /// Whether the first command writes the line of names, which no other does.
+    pub has_head: bool,
+}
+
+// Whether a shell takes a byte as it is.
+fn is_plain(byte: u8) -> bool {
+    byte.is_ascii_alphanumeric() || matches!(byte, b'/' | b'.' | b'_' | b'-' | b'+' | b':')
+}
+
+// Writes a word so that a shell takes it as it is.
+fn put_word<W: Write>(word: &str, writer: &mut W) -> io::Result<()> {
+    if !word.is_empty() && word.as_bytes().iter().all(|byte| is_plain(*byte)) {
+        return writer.write_all(word.as_bytes());
+    }
+    writer.write_all(b"'")?;
+    for byte in word.as_bytes() {
+        match byte {
+            b'\'' => writer.write_all(b"'\\''")?,
+            _ => writer.write_all(&[*byte])?,
+        }
+    }
+    writer.write_all(b"'")
+}
+
+// Writes an option with a number, if there is one.
+fn put_option<W: Write>(name: &str, number: Option<u64>, writer: &mut W) -> io::Result<()> {
+    match number {
+        Some(number) => write!(writer, " --{name} {number}"),
+        None => Ok(()),
+    }
+}
+
+// Writes what each command says.
+fn put_words<W: Write>(words: &CommandWords, writer: &mut W) -> io::Result<()> {
+    put_option("seed", words.seed, writer)?;
+    put_option("seeds", words.seeds, writer)?;
+    put_option("commands", words.commands, writer)?;
+    if let Some(time) = words.time {
+        writer.write_all(b" --time ")?;
+        put_word(time, writer)?;
+    }
+    put_option("warm-up", words.warm_up, writer)?;
+    let format = words.format;
+    write!(writer, " --format {format}")
+}
+
+// Writes the command of a point, which begins with its name and its file.
+fn put_command<W: Write>(
+    sweep: &Sweep,
+    words: &CommandWords,
+    values: &[&str],
+    has_head: bool,
+    writer: &mut W,
+) -> io::Result<()> {
+    writer.write_all(b"nvmearb simulate ")?;
+    put_word(words.file, writer)?;
+    for (axis, value) in sweep.axes.iter().zip(values) {
+        let key = axis.key;
+        write!(writer, " --sweep {key}={value}")?;
+    }
+    put_words(words, writer)?;
+    if !has_head {
+        writer.write_all(b" --no-head")?;
+    }
+    writer.write_all(b"\n")
+}
+
+impl<'a> Sweep<'a> {
+    /// Writes a command line for each point, for a shell. What they write, one behind the other, is the answer of the sweep as
+    /// text or as comma-separated values.
+    pub fn put_commands<W: Write>(
+        &self,
+        alloc: Global,
+        words: &CommandWords,
+        writer: &mut W,
+    ) -> Result<(), SweepFault<'a>> {
+        for number in 0..self.points(alloc)? {
+            let values = self.values_at(alloc, number)?;
+            let has_head = words.has_head && number == 0;
+            if put_command(self, words, &values, has_head, writer).is_err() {
+                return Err(SweepFault::Write);
+            }
+        }
+        Ok(())
+    }
+}

@@ -1,0 +1,79 @@
+// Why there is no sweep.
+use nvme_model_file::ModelFault;
+use nvme_simulate::SimulateFault;
+use std::alloc::AllocError;
+use std::fmt;
+
+/// Why the words of a sweep are refused, or why it has no answer.
+#[derive(Debug, Drop)]
+pub enum SweepFault<'a> {
+    /// These words are no key and its values.
+    NoValues(&'a str),
+    /// This value is empty, or has a character that none has.
+    BadValue(&'a str),
+    /// This key is there twice.
+    Twice(&'a str),
+    /// There are more than `MAX_POINTS` combinations.
+    TooManyPoints,
+    /// The tables of the file have no such key.
+    NoKey(&'a str),
+    /// The value of a key isn't one that it takes, as three weights.
+    Unfit(&'a str, &'a str),
+    /// The file isn't a TOML document.
+    NotToml,
+    /// At this point, whose values are told, the file has this fault.
+    Point(String, ModelFault),
+    /// The simulation of this point, whose values are told, has no answer.
+    Stopped(String, SimulateFault),
+    /// A write failed.
+    Write,
+    /// Out of memory.
+    NoMemory,
+}
+
+impl From<AllocError> for SweepFault<'_> {
+    fn from(_error: AllocError) -> Self {
+        SweepFault::NoMemory
+    }
+}
+
+/// Adds an item to a list.
+pub(crate) fn add<T: Drop>(list: &mut Vec<T>, item: T) -> Result<(), AllocError> {
+    list.push(item)?;
+    Ok(())
+}
+
+impl fmt::Display for SweepFault<'_> {
+    fn fmt<W: fmt::Write>(&self, f: &mut fmt::Formatter<W>) -> fmt::Result {
+        match self {
+            SweepFault::NoValues(words) => {
+                write!(
+                    f,
+                    "--sweep {words:?}: expected a key and its values, as burst=1,8"
+                )
+            }
+            SweepFault::BadValue(words) => {
+                write!(
+                    f,
+                    "--sweep {words:?}: expected values of letters, digits and . _ - : +"
+                )
+            }
+            SweepFault::Twice(key) => write!(f, "--sweep {key}: the key is swept twice"),
+            SweepFault::TooManyPoints => f.write_str("--sweep: expected at most 100000 points"),
+            SweepFault::NoKey(key) => {
+                write!(f, "--sweep {key}: the file has no table for such a key")
+            }
+            SweepFault::Unfit(key, value) => {
+                write!(
+                    f,
+                    "--sweep {key}={value}: expected three weights, as 8:4:2, or a number of 63 bits"
+                )
+            }
+            SweepFault::NotToml => f.write_str("expected a TOML document"),
+            SweepFault::Point(point, fault) => write!(f, "{point}: {fault}"),
+            SweepFault::Stopped(point, fault) => write!(f, "simulation: {point}: {fault}"),
+            SweepFault::Write => f.write_str("write failed"),
+            SweepFault::NoMemory => f.write_str("out of memory"),
+        }
+    }
+}

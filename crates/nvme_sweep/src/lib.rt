@@ -1,0 +1,28 @@
+//! Sweeps: a simulation at each combination of values of keys of its file, with several seeds, and what is told of them.
+#![tactic(auto)]
+
+mod answer;
+mod axis;
+mod commands;
+mod estimates;
+mod fault;
+pub mod laws;
+mod object;
+mod place;
+mod points;
+mod rows;
+mod sheet;
+mod sweep;
+mod table;
+
+pub use answer::Style;
+pub use axis::{Axis, MAX_POINTS, axes_of};
+pub use commands::CommandWords;
+pub use estimates::{Estimate, estimate_of, half_width, mean};
+pub use fault::SweepFault;
+pub use points::{choices_at, points_of};
+pub use rows::{Scope, SweepRow};
+pub use sweep::{Point, Sweep};
+
+#[cfg(test)]
+mod tests;

@@ -1,0 +1,38 @@
+// The points of a sweep.
+ghost use Rattle.std.specs.Prelude.{◌≡◌, IfOk, IfSome};
+ghost use Rattle.nvme_sweep.specs.Points.{choices_of, count_of};
+
+use std::alloc::{AllocError, Global};
+
+/// How many points keys of so many values have: one for each combination. `None` where the number doesn't fit.
+#[tactic(auto, using(crate::proofs::Combinations::next_count))]
+pub fn points_of(lengths: &[usize]) -> Option<usize>
+    ensures { IfSome result (λ n. n ≡ count_of lengths.now) }
+{
+    let mut count = 1usize;
+    for length in lengths {
+        count = count.checked_mul(*length)?;
+    }
+    Some(count)
+}
+
+/// Which value of each key a point has. Both lists begin with the key that is fastest: the next point has its next value.
+/// `None` where a key has no value.
+pub fn choices_at(
+    alloc: Global,
+    lengths: &[usize],
+    point: usize,
+) -> Result<Option<Vec<usize>>, AllocError>
+    ensures { IfOk result (λ found. IfSome found (λ c. c.items ≡ choices_of lengths.now point)) }
+{
+    let mut choices = Vec::new(alloc);
+    let mut left = point;
+    for length in lengths {
+        if *length == 0 {
+            return Ok(None);
+        }
+        choices.push(left % *length)?;
+        left /= *length;
+    }
+    Ok(Some(choices))
+}

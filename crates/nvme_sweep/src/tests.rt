@@ -1,0 +1,141 @@
+// Means and widths are worked out by hand, with quantiles of a printed table of Student's t.
+use crate::axis::axes_of;
+use crate::commands::CommandWords;
+use crate::estimates::{Estimate, estimate_of};
+use crate::fault::SweepFault;
+use crate::sweep::Sweep;
+use nvme_simulate::Overrides;
+use std::alloc::Global;
+use std::test::Fail;
+
+const FILE: &str = r#"version = 1
+mechanism = "weighted"
+weights = { high = 4, medium = 2, low = 1 }
+[simulation]
+seed = 3
+commands = 20
+[device]
+channels = 1
+read = "100us"
+[[queue]]
+class = "high"
+arrivals = { every = "150us" }
+[[queue]]
+class = "low"
+arrivals = { every = "1ms" }
+"#;
+
+// The sweep of words over the file.
+fn sweep_of<'a>(alloc: Global, words: &[&'a str]) -> Result<Sweep<'a>, SweepFault<'a>> {
+    let Ok(overrides) = Overrides::new(None, None, None, None) else {
+        return Err(SweepFault::NotToml);
+    };
+    let sweep = Sweep {
+        axes: axes_of(alloc, words)?,
+        seeds: 1,
+        overrides,
+        text: FILE,
+    };
+    sweep.look(alloc)?;
+    Ok(sweep)
+}
+
+// What is told of words that are refused, empty of others.
+fn refused(rt: &HostRuntime, words: &[&str]) -> Result<String, Fail> {
+    match sweep_of(rt.alloc(), words) {
+        Ok(_) => Ok(String::new(rt.alloc())),
+        Err(fault) => Ok(format!(in rt.alloc(); "{fault}")?),
+    }
+}
+
+#[test]
+fn the_last_key_is_the_fastest(rt: HostRuntime) -> Result<(), Fail> {
+    let words = ["weights=8:4:2,1:1:1", "device.channels=1,2"];
+    let Ok(sweep) = sweep_of(rt.alloc(), &words) else {
+        return Err(Fail::new("refused"));
+    };
+    let words = CommandWords {
+        file: "a b.toml",
+        seed: Some(7),
+        commands: None,
+        time: None,
+        warm_up: None,
+        seeds: None,
+        format: "csv",
+        has_head: true,
+    };
+    let mut lines = Vec::new(rt.alloc());
+    assert!(rt; sweep.put_commands(rt.alloc(), &words, &mut lines).is_ok());
+    assert_eq!(rt;
+        lines.as_slice(),
+        b"nvmearb simulate 'a b.toml' --sweep weights=8:4:2 --sweep device.channels=1 --seed 7 --format csv
+nvmearb simulate 'a b.toml' --sweep weights=8:4:2 --sweep device.channels=2 --seed 7 --format csv --no-head
+nvmearb simulate 'a b.toml' --sweep weights=1:1:1 --sweep device.channels=1 --seed 7 --format csv --no-head
+nvmearb simulate 'a b.toml' --sweep weights=1:1:1 --sweep device.channels=2 --seed 7 --format csv --no-head
+"
+            .as_slice()
+    );
+    Ok(())
+}
+
+#[test]
+fn bad_words_are_refused(rt: HostRuntime) -> Result<(), Fail> {
+    let rows = [
+        (
+            "burst",
+            "--sweep \"burst\": expected a key and its values, as burst=1,8",
+        ),
+        (
+            "=1",
+            "--sweep \"=1\": expected a key and its values, as burst=1,8",
+        ),
+        (
+            "burst=",
+            "--sweep \"burst=\": expected values of letters, digits and . _ - : +",
+        ),
+        (
+            "burst=1,,2",
+            "--sweep \"burst=1,,2\": expected values of letters, digits and . _ - : +",
+        ),
+        (
+            "queue.3.class=low",
+            "--sweep queue.3.class: the file has no table for such a key",
+        ),
+        (
+            "queue.0.class=low",
+            "--sweep queue.0.class: the file has no table for such a key",
+        ),
+        (
+            "weights=8:4",
+            "--sweep weights=8:4: expected three weights, as 8:4:2, or a number of 63 bits",
+        ),
+    ];
+    for (words, told) in rows {
+        assert_eq!(rt; refused(&rt, &[words])?.as_str(), told);
+    }
+    assert_eq!(rt;
+        refused(&rt, &["burst=1", "burst=2"])?.as_str(),
+        "--sweep burst: the key is swept twice"
+    );
+    assert_eq!(rt; refused(&rt, &["queue.2.class=low,urgent"])?.as_str(), "");
+    Ok(())
+}
+
+#[test]
+fn widths_are_those_of_student(rt: HostRuntime) -> Result<(), Fail> {
+    let whole = |mean: u128, half: u128| -> Estimate {
+        Estimate {
+            mean: Some(mean),
+            half: Some(half),
+        }
+    };
+    // (the deviation is 1000 times the root of 2, and 12.706 of it divided by the root of 2 are 12706)
+    assert_eq!(rt; estimate_of(&[1_000, 3_000], 2), whole(2_000, 12_706));
+    // (the deviation is the root of 13 times 1000, and 4.303 of it divided by the root of 3 are 8957.4)
+    assert_eq!(rt; estimate_of(&[2_000, 4_000, 9_000], 3), whole(5_000, 8_957));
+    assert_eq!(rt; estimate_of(&[7, 7, 7], 3), whole(7, 0));
+    assert_eq!(rt; estimate_of(&[7], 1).half, None);
+    assert_eq!(rt; estimate_of(&[7], 2).mean, None);
+    assert_eq!(rt; estimate_of(&[], 0).mean, None);
+    Ok(())
+}
