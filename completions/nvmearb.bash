@@ -12,12 +12,12 @@ _nvmearb() {
             --format) words=$([ "${COMP_WORDS[1]}" = check ] && echo text json junit || echo text json csv) ;;
             -o | --output | --log | --trace) files=any ;;
             --burst) words="1 2 4 8 16 32 64 none" ;;
-            --blocks | --from | --to | --weights | --window | --seed | --commands | --time | --warm-up) return ;;
+            --blocks | --from | --to | --weights | --window | --seed | --commands | --time | --warm-up | --sweep | --seeds) return ;;
             *)
                 case ${COMP_WORDS[1]} in
                     run) words="--live --workers --help" files=toml ;;
                     trace) words="--live --workers --output --help" files=toml ;;
-                    simulate) words="--seed --commands --time --warm-up --format --log --trace --output --help" files=toml ;;
+                    simulate) words="--seed --commands --time --warm-up --sweep --seeds --points --no-head --format --log --trace --output --help" files=toml ;;
                     lint | expand) words="--help" files=toml ;;
                     check) words="--spec --all --quiet --format --help" files=any ;;
                     chart) words="--from --to --output --help" files=any ;;

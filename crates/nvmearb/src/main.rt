@@ -11,6 +11,7 @@ mod kept;
 mod linting;
 mod noted;
 mod simulating;
+mod sweeping;
 mod telling;
 mod topics;
 

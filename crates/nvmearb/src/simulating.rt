@@ -4,6 +4,7 @@ ghost use Rattle.std.specs.Prelude.{◌≤◌, IfErr};
 use crate::files::{put_away, taken};
 use crate::kept::Kept;
 use crate::noted::{Noted, Notes};
+use crate::sweeping::{File, swept};
 use crate::telling::{failed, no_memory, unwritten};
 use nvme_program::{Format, SimulationWords};
 use nvme_simulate::{
@@ -69,6 +70,10 @@ fn overrides_of<E: Write>(line: &SimulationWords, errors: &mut E) -> Result<Over
     if let Some((one, other)) = clash_of(line) {
         let (option, name, role) = (one.option, one.name.unwrap_or(""), other.role);
         let _ = writeln!(errors, "nvmearb: {option} {name:?} is {role}");
+        return Err(BAD_LINE);
+    }
+    if let Err(fault) = sweep_words(line) {
+        let _ = writeln!(errors, "nvmearb: {fault}");
         return Err(BAD_LINE);
     }
     if line.log == Some("-") || line.trace == Some("-") {
@@ -155,8 +160,8 @@ fn tell_fault<E: Write>(
     }
 }
 
-// How the answer is written.
-fn form_of(format: Format) -> Form {
+/// How the answer is written.
+pub(crate) fn form_of(format: Format) -> Form {
     match format {
         Format::Text => Form::Text,
         Format::Json => Form::Json,
@@ -221,6 +226,23 @@ fn answered<R: AllocGlobal + Files, P: Write + Drop, W: Write, E: Write>(
     }
 }
 
+// What of the options of a sweep doesn't go together.
+fn sweep_words(line: &SimulationWords) -> Result<(), &'static str> {
+    if !line.is_sweep() {
+        return match line.points || line.no_head {
+            true => Err("--points and --no-head go with --sweep or --seeds"),
+            false => Ok(()),
+        };
+    }
+    if line.log.is_some() || line.trace.is_some() {
+        return Err("--log and --trace don't go with --sweep and --seeds");
+    }
+    if line.points && line.file.is_none() {
+        return Err("--points wants the name of a file");
+    }
+    Ok(())
+}
+
 /// Does what a line of `simulate` says. A terminal is told how far it is. The answer is the exit status.
 #[inline(never)]
 pub(crate) fn simulated<R, P: Write + Drop, W: Write, E: Write>(
@@ -248,5 +270,12 @@ where
         Err(status) => return status,
     };
     let digest = Digest::of(text.as_slice());
+    if line.is_sweep() {
+        let file = File {
+            text: text.as_slice(),
+            digest,
+        };
+        return swept(rt, line, overrides, &file, terminal, output, errors);
+    }
     answered(rt, line, model, &digest, terminal, output, errors)
 }
