@@ -1,5 +1,5 @@
 -- A pick of the admin queue: its command is applied to the table.
-use Rattle.std.proofs.Common.{◌≡◌, ℕ, suc, ◌+◌, ◌<◌, ◌≤◌, ◌==◌, ◌&&◌, Bool, true, false, if◌then◌else◌, List, [], ◌∷◌, length, map, drop, Option, Some, None, is_some, option_map, refl, sym, ap, ◌∙◌, subst, arith, true≢false}
+use Rattle.std.proofs.Common.{◌≡◌, ℕ, suc, ◌+◌, ◌<◌, ◌≤◌, ◌==◌, Bool, true, false, if◌then◌else◌, List, [], ◌∷◌, length, map, drop, Option, Some, None, is_some, option_map, refl, sym, ap, ◌∙◌, subst, arith, true≢false}
 use Rattle.std.specs.Prelude.{slice_get, slice_set, min, IsTrue}
 use Rattle.std.specs.List.{All}
 use Rattle.std.proofs.lemmas.Option.{same_Some, none-some}
@@ -29,7 +29,6 @@ use Rattle.nvme_placing.specs.Telling.{IsTold, IsToldBy, Tells, content_of, unpl
 use Rattle.nvme_placing.specs.declared.table.PlacedTable.{PlacedTable}
 use Rattle.nvme_entry.specs.AdminCommand.{admin_command_of}
 use Rattle.nvme_entry.specs.declared.submission.Sqe.{Sqe}
-use Rattle.nvme_log.specs.Aborts.{is_abort_entry}
 use Rattle.nvme_log.specs.Rules.{FrontRules, sq_regions_of, cq_regions_of}
 use Rattle.nvme_log.specs.Places.{entry_at, waiting}
 use Rattle.nvme_log.specs.Histories.{arbitration_of}
@@ -48,7 +47,6 @@ use Rattle.nvme_ctrl.specs.inside.Steps.{HasNextRegion, CanPick, CanApply, verdi
 use Rattle.nvme_ctrl.specs.kept.Kept.{Item, Items, IsWaitingIn, IsUnanswered, HasCookie, HoldsShown, HasRegionsMade, StandsAt, tags_of, candidate_of}
 use Rattle.nvme_ctrl.specs.inside.Loose.{IsLoose, Keeps}
 use Rattle.nvme_ctrl.specs.inside.Carrying.{IsApplied}
-use Rattle.nvme_ctrl.specs.inside.Picks.{oldest_entry}
 use Rattle.nvme_ctrl.specs.kept.Pool.{slot_at, IsChain}
 use Rattle.nvme_ctrl.specs.kept.State.{sq_at}
 use Rattle.nvme_ctrl.proofs.CarriedOut.{none_picked_of}
@@ -56,12 +54,10 @@ use Rattle.nvme_ctrl.proofs.ComingRegions.{Comes, with_next, region_comes}
 use Rattle.nvme_ctrl.proofs.CountedCreates.{IsCounted, OpensNext, sqs_with, cqs_with, counted}
 use Rattle.nvme_ctrl.proofs.Dropping.{loose_waited}
 use Rattle.nvme_ctrl.proofs.LifeLaws.{applied_stays}
-use Rattle.nvme_ctrl.proofs.DeletedQueues.{open_undeleted}
 use Rattle.nvme_ctrl.proofs.PoolBounds.{unposted_held, window_held}
 use Rattle.nvme_ctrl.proofs.Observing.{pickable}
 use Rattle.nvme_ctrl.proofs.OpenQueues.{admin_is_open}
 use Rattle.nvme_ctrl.proofs.PickCall.{board_stands, due, can}
-use Rattle.nvme_ctrl.proofs.Pools.{linked-head}
 use Rattle.nvme_ctrl.proofs.Standable.{keeps_standing}
 use Rattle.nvme_ctrl.proofs.Windowed.{with_window, keeps_windowed, keeps_outstanding, keeps_table}
 

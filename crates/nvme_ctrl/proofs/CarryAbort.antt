@@ -31,7 +31,6 @@ use Rattle.nvme_ctrl.proofs.AfterSteps.{IsChosen, IsAbortChosen, after_admin, wi
 use Rattle.nvme_ctrl.proofs.AppliedQueues.{queue_of, IsOpenEntry, open_entry, named_region, named_attached, named_on_board, aborts_is, aborts_open}
 use Rattle.nvme_ctrl.proofs.CarriedOut.{applied, logged_is, keeps_told}
 use Rattle.nvme_ctrl.proofs.CarryOut.{KeepsEnd, told_notes, ended_told}
-use Rattle.nvme_ctrl.proofs.DeletedQueues.{open_undeleted}
 use Rattle.nvme_ctrl.proofs.PoolBounds.{beside_held, windows_held}
 use Rattle.nvme_ctrl.proofs.Named.{made_abort}
 

@@ -1,5 +1,5 @@
 -- A log that is an account stays one at the rules with a region more, where no entry that was applied names its address, and where queues may lie anywhere.
-use Rattle.std.proofs.Common.{◌≡◌, ℕ, ◌<◌, ◌%◌, ◌==◌, ◌&&◌, Bool, true, false, if◌then◌else◌, List, [], ◌∷◌, ◌++◌, length, filter, not, Some, refl, sym, ap, ◌∙◌, subst, arith, inl, inr, MatchBool}
+use Rattle.std.proofs.Common.{◌≡◌, ℕ, ◌<◌, ◌%◌, ◌==◌, ◌&&◌, Bool, true, false, if◌then◌else◌, List, [], ◌∷◌, ◌++◌, length, Some, refl, sym, ap, ◌∙◌, subst, arith, inl, inr, MatchBool}
 use Rattle.std.specs.Prelude.{slice_get, nat_le}
 use mathlib.Core.List.{IsPrefix}
 use Rattle.std.proofs.lemmas.Bool.{cases_lt, eq-eqb}
@@ -8,15 +8,15 @@ use Rattle.nvme_entry.specs.declared.submission.Sqe.{Sqe}
 use Rattle.nvme_entry.specs.declared.completion.Cqe.{Cqe}
 use Rattle.nvme_admin.specs.History.{Kind}
 use Rattle.nvme_log.specs.declared.event.Event.{Event}
-use Rattle.nvme_log.specs.declared.event.Event.TheVariants.{Fetch, Post, Abort}
+use Rattle.nvme_log.specs.declared.event.Event.TheVariants.{Fetch, Post}
 use Rattle.nvme_log.specs.declared.event.Event.TheVariants as event
 use Rattle.nvme_log.specs.Limits.{window_of}
-use Rattle.nvme_log.specs.Rules.{FrontRules, Past, upto, sq_regions_of, cq_regions_of}
-use Rattle.nvme_log.specs.Places.{Fate, WasAborted, WasPicked, Waits, fetched, places, waiting, entry_at, fate_of, is_waiting, is_picked}
+use Rattle.nvme_log.specs.Rules.{FrontRules, Past, sq_regions_of, cq_regions_of}
+use Rattle.nvme_log.specs.Places.{Fate, WasAborted, WasPicked, Waits, fetched, waiting, entry_at, fate_of, is_waiting, is_picked}
 use Rattle.nvme_log.specs.Histories.{arbitration_of}
 use Rattle.nvme_log.specs.Effects.{is_effect, effects_since, EffectsAtOnce}
 use Rattle.nvme_log.specs.Answers.{Answer, Executor, by_answers, outcome_answer}
-use Rattle.nvme_log.specs.Completions.{is_posted, posted_to, takes_place, outstanding, phase_after}
+use Rattle.nvme_log.specs.Completions.{posted_to, phase_after}
 use Rattle.nvme_log.specs.Dispatches.{place_at}
 use Rattle.nvme_log.specs.Account.{ServedWhileOpen, PostsOwnBy}
 use Rattle.nvme_log.proofs.Waiting.{fetched-fetch}
@@ -30,7 +30,6 @@ use Rattle.nvme_ctrl.proofs.AddedTables.{slots_past}
 use Rattle.nvme_ctrl.proofs.DoorbellCounts.{submitted_same, consumed_same}
 use Rattle.nvme_ctrl.proofs.FurtherHistories.{IsPassedBy, passed-before, made_last-further}
 use Rattle.nvme_ctrl.proofs.FurtherAnswers.{status-stays, dw0-stays}
-use Rattle.nvme_ctrl.proofs.Growing.{sum_by-further}
 use Rattle.nvme_ctrl.proofs.Noted.{each-event}
 use Rattle.nvme_ctrl.proofs.NotedRegions.{LeavesRegions, leaves_regions}
 use Rattle.nvme_ctrl.proofs.TakenCommands.{IsSound, lawful-before}
@@ -107,12 +106,6 @@ module _ (rules : FrontRules) (kind : Kind) (a n : ℕ) (some_sqs : 0 < length (
     | inl below ↦ left.cq_left c below
     | inr beyond ↦ (let none = slots_past (cq_regions_of rules) c beyond in absurd (omega (arith, none, is_slot)))
   ]
-
-  -- no place is outstanding in a region of which nothing was fetched
-  pub outstanding-stays : (past : Past) → LeavesRegions rules others past → outstanding others past ≡ outstanding rules past
-  outstanding-stays past left =
-      sum_by-further (λ (r : ℕ). length (filter (λ (i : ℕ). takes_place past r i && not (is_posted past r i)) (places past r))) (length (sq_regions_of rules)) (length (sq_regions_of others)) left.sqs
-      (λ r beyond. ap (λ (xs : List Sqe). length (filter (λ (i : ℕ). takes_place past r i && not (is_posted past r i)) (upto (length xs)))) (left.none_fetched r beyond))
 
   -- ---- an event
   module _ (notes : Notes) (sound : IsSound rules (logged notes)) (passed : IsPassedBy rules a (logged notes)) where

@@ -1,4 +1,4 @@
--- How many commands were fetched and have no completion posted: those that wait, and a bounded number of others.
+-- How many commands were fetched and have no completion posted: those that wait, those that are outstanding, and those that were aborted with their queue.
 use Rattle.std.proofs.Common.{◌≡◌, ℕ, zero, suc, ◌+◌, ◌≤◌, ◌==◌, ◌&&◌, ◌||◌, not, nat_lt, Bool, true, false, List, [], ◌∷◌, length, sum_by, Option, Some, None, option_map, refl, sym, ap, ◌∙◌, arith, inl, inr}
 use Rattle.std.proofs.lemmas.Bool.{cases_lt, ne_eqb, and_parts, not-true}
 use Rattle.std.proofs.lemmas.List.{length_push}

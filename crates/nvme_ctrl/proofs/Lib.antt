@@ -74,7 +74,7 @@ pub mod DoorbellCalls
 pub mod FewUnposted
 pub mod PickCall
 pub mod MayPick
-pub mod FullCall
+pub mod OldestEntry
 pub mod SlotStates
 pub mod FetchCalls
 pub mod NoPosts

@@ -2,7 +2,7 @@
 use Rattle.nvme_log.specs.Answers.{Answer}
 use Rattle.nvme_entry.specs.Status.{StatusCode}
 use Rattle.nvme_log.specs.Completions.{own_status_by, own_dw0_by}
-use Rattle.std.proofs.Common.{◌≡◌, ℕ, zero, suc, ◌+◌, ◌%◌, ◌<◌, ◌≤◌, ◌==◌, ◌&&◌, not, nat_lt, nat_le, Bool, true, false, if◌then◌else◌, List, [], ◌∷◌, length, map, filter, Option, Some, refl, sym, ap, ◌∙◌, subst, arith, inl, inr, length-append}
+use Rattle.std.proofs.Common.{◌≡◌, ℕ, zero, suc, ◌+◌, ◌%◌, ◌<◌, ◌≤◌, ◌==◌, ◌&&◌, not, nat_lt, Bool, true, false, if◌then◌else◌, List, [], ◌∷◌, length, map, filter, Option, Some, refl, sym, ap, ◌∙◌, subst, arith, inl, inr, length-append}
 use Rattle.std.specs.Prelude.{option_map, is_some}
 use Rattle.std.specs.List.{list_all}
 use Rattle.std.proofs.lemmas.Bool.{cases_lt, and_parts, false_from_ne_true, eq-eqb, le-leb, ltb-true}
@@ -11,24 +11,19 @@ use Rattle.std.proofs.lemmas.Option.{same_Some}
 use Rattle.std.proofs.lemmas.List.Elements.{All-head, All-same, filter-append}
 use Rattle.nvme_entry.specs.declared.submission.Sqe.{Sqe}
 use Rattle.nvme_entry.specs.declared.completion.Cqe.{Cqe}
-use Rattle.nvme_arbiter.specs.Board.{BoardView}
-use Rattle.nvme_arbiter.specs.declared.pick.Pick.{Pick}
-use Rattle.nvme_arbiter.specs.declared.pick.Seen.{Seen}
 use Rattle.nvme_log.specs.declared.event.Event.TheVariants as event
 use Rattle.nvme_ctrl.specs.kept.Content.{Candidate}
 use Rattle.nvme_ctrl.specs.kept.Content.{Ready}
 use Rattle.nvme_ctrl.specs.kept.Content.{PendingDelete}
 use Rattle.nvme_ctrl.specs.kept.Content.{Attachment}
-use Rattle.nvme_log.specs.Limits.{max_outstanding}
 use Rattle.nvme_log.specs.Rules.{Past, FrontRules, upto, window_at}
-use Rattle.nvme_log.specs.Queues.{Queue, is_closed_region}
+use Rattle.nvme_log.specs.Queues.{is_closed_region}
 use Rattle.nvme_log.specs.Places.{fetched, waiting, places, fate_of, is_waiting}
 use Rattle.nvme_log.specs.declared.place.Place.{Place}
-use Rattle.nvme_log.specs.Completions.{is_posted, posted_to, phase_after, outstanding, IsOwnBy}
+use Rattle.nvme_log.specs.Completions.{is_posted, posted_to, phase_after, IsOwnBy}
 use Rattle.nvme_ctrl.specs.kept.Content.{SqContent, Content}
 use Rattle.nvme_ctrl.specs.kept.Standing.{HasOwnStatus, HoldsReady, Holds, answer_in, hand_of, IsReady, HasItsStatus}
 use Rattle.nvme_log.specs.Completions.{unposted_of}
-use Rattle.nvme_ctrl.specs.inside.Steps.{CanPick}
 use Rattle.nvme_ctrl.proofs.AfterSteps.{CanPost, fetch_event, fetched_sq, after_fetch}
 use Rattle.nvme_ctrl.proofs.StepKeeps.{KeepsFetch, KeepsIo, KeepsPost, KeepsClose, Next}
 use Rattle.nvme_ctrl.proofs.OpenQueues.{open_region, not_closed_region}

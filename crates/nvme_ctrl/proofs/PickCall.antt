@@ -1,15 +1,13 @@
 -- The next pick, and a pick of an I/O queue: the controller stands at its log afterwards.
 use Rattle.std.proofs.Common.{◌≢◌, inl}
 use Rattle.std.proofs.lemmas.List.{length-append, length-take-le}
-use Rattle.std.proofs.Common.{◌≡◌, ℕ, ◌+◌, ◌<◌, ◌≤◌, ◌==◌, ◌&&◌, Bool, true, false, if◌then◌else◌, List, [], ◌∷◌, ◌++◌, length, map, take, drop, Option, Some, None, refl, sym, ap, ◌∙◌, subst, arith}
+use Rattle.std.proofs.Common.{◌≡◌, ℕ, ◌+◌, ◌<◌, ◌≤◌, Bool, if◌then◌else◌, List, [], ◌∷◌, ◌++◌, length, map, take, drop, Option, Some, None, refl, sym, ap, ◌∙◌, subst, arith}
 use Rattle.std.specs.Prelude.{min, slice_set, unwrap_or, IsTrue, IsSomeAnd}
 use Rattle.std.specs.List.{All}
 use Rattle.std.proofs.lemmas.Bool.{eq-eqb, ne_eqb}
 use Rattle.std.proofs.lemmas.List.{append-nil, drop-map, length-map, length-set, map-append, take-map}
 use Rattle.std.proofs.lemmas.List.Elements.{All-append, All-head, All-same, All-tail, All-take}
 use Rattle.nvme_arbiter.specs.declared.board_fields.BoardFields.{BoardFields}
-use Rattle.nvme_log.specs.Aborts.{is_abort_entry}
-use Rattle.nvme_ctrl.specs.inside.Picks.{oldest_entry}
 use Rattle.nvme_log.specs.Queues.{Queue}
 use Rattle.nvme_log.specs.declared.event.Event.TheVariants as event
 use Rattle.nvme_log.specs.declared.place.Place.{Place}
@@ -60,7 +58,6 @@ use Rattle.nvme_ctrl.specs.Observation.{observed_of}
 use Rattle.nvme_log.specs.Histories.{arbitration_of}
 use Rattle.nvme_ctrl.specs.declared.slot.Slot.{Slot}
 use Rattle.nvme_ctrl.specs.declared.state.Controller.{Controller}
-use Rattle.nvme_ctrl.proofs.DeletedQueues.{open_undeleted}
 
 module _ (rules : FrontRules) (late : Bool) (notes : Notes) (c : Controller) (slots : List Slot) (s : StandsAt rules late notes c slots) where
   abbrev past : Past

@@ -30,7 +30,6 @@ use Rattle.nvme_log.specs.Places.{waiting, entry_at, is_aborted}
 use Rattle.nvme_log.specs.declared.place.Place.{Place}
 use Rattle.nvme_log.specs.Completions.{is_posted, posts_of, posted_to}
 use Rattle.nvme_log.specs.Effects.{abort_in, closing_of, closed_cq_of, named, target_of}
-use Rattle.nvme_log.proofs.AbortEntries.{verdict_is_abort}
 use Rattle.nvme_ctrl.specs.kept.Content.{SqContent, CqContent, Content, put_sq, put_deletion, with_ready}
 use Rattle.nvme_ctrl.specs.kept.Standing.{HoldsSq, HoldsPosts, IsPending, IsReady, times_held, held_by, held_upto, hand_of, Holds}
 use Rattle.nvme_log.specs.Places.{one_if, is_served}

@@ -34,11 +34,11 @@ abbrev pub NonePassed : Notes → Type 0
 NonePassed notes = (i : ℕ) → is_passed notes i ≡ false
 
 -- the events of a controller's log, where no admin command was passed on, no queue was held, no class was set and each pick was made without a limit, and
--- which keep a front's order of deletions, one at a time with nothing fetched or picked meanwhile, are those of an accounted log, where the device answers:
--- so every law of such logs holds of it
+-- which keep a front's order of deletions, one at a time with nothing fetched or picked meanwhile, and its limit of outstanding places, are those of an
+-- accounted log, where the device answers: so every law of such logs holds of it
 abbrev pub EventsAreAccounted : Type 0
-EventsAreAccounted = (rules : FrontRules) (notes : Notes) (sent : ℕ → List Sqe) (collected : ℕ → List Cqe) → NonePassed notes → NoneArranged notes → Each Deletes (logged notes) → Each (LeavesPlaces rules) (logged notes) → IsAccount rules notes
-    → IsLawfulRun rules.mechanism rules.start.settings (arbitration_of (logged notes))
+EventsAreAccounted = (rules : FrontRules) (notes : Notes) (sent : ℕ → List Sqe) (collected : ℕ → List Cqe) → NonePassed notes → NoneArranged notes → Each Deletes (logged notes)
+    → Each (LeavesPlaces rules) (logged notes) → IsAccount rules notes → IsLawfulRun rules.mechanism rules.start.settings (arbitration_of (logged notes))
     → ((r : ℕ) → IsPrefix (fetched (logged notes) r) (sent r)) → ((c : ℕ) → IsPrefix (collected c) (posted_to (logged notes) c))
     → IsAccountBy rules (by_answers (answers notes)) sent (logged notes) collected
 

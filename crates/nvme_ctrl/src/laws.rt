@@ -29,8 +29,9 @@ pub fn regions_leave_accounts()
 {}
 
 /// The events of a controller's log in which no admin command was passed on, no queue was held and no class was set, each
-/// pick was made without a limit, and deletions keep the order of a front's, are those of an accounted log in which the
-/// device answers the I/O commands. So every law of such logs holds of it.
+/// pick was made without a limit, deletions keep the order of a front's, and each pick and abort left at most
+/// `MAX_OUTSTANDING` places outstanding, are those of an accounted log in which the device answers the I/O commands. So
+/// every law of such logs holds of it.
 pub fn events_are_accounted()
     ensures { EventsAreAccounted }
 {}
@@ -101,9 +102,9 @@ pub fn tags_are_apart()
     ensures { TagsAreApart }
 {}
 
-/// Beside the commands that wait and those that were aborted with their queue, at most 256 were fetched and have no
-/// completion: those that were picked, or that Abort commands aborted. While no queue is being deleted, that is so beside
-/// the commands that wait alone. Each command without a completion holds a slot of the pool.
+/// Beside the commands that wait and those that were aborted with their queue, no more were fetched and have no completion
+/// than are outstanding: those that were picked, or that Abort commands aborted. While no queue is being deleted, that is
+/// so beside the commands that wait alone. Each command without a completion holds a slot of the pool.
 pub fn few_commands_hold_slots()
     ensures { FewHoldSlots }
 {}

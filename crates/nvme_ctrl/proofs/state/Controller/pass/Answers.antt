@@ -1,5 +1,5 @@
 -- The pick of the board is the next pick, and its command is the device's.
-use Rattle.std.proofs.Common.{◌≡◌, ℕ, ◌+◌, sym, ap, subst, ◌∙◌, arith}
+use Rattle.std.proofs.Common.{◌≡◌, ℕ, ◌+◌, sym, ap, subst, ◌∙◌}
 use Rattle.std.specs.Prelude.{slice_set, min}
 use Rattle.nvme_ctrl.specs.Notes.{logged}
 use Rattle.nvme_ctrl.specs.Steps.{HasPassed}

@@ -5,7 +5,7 @@ use Rattle.nvme_ctrl.specs.Notes.{logged}
 use Rattle.nvme_ctrl.specs.Steps.{IsNextPick}
 use Rattle.nvme_ctrl.specs.Own.{is_own}
 use Rattle.nvme_ctrl.proofs.MayPick.{can_pick, next_within, some_room}
-use Rattle.nvme_ctrl.proofs.FullCall.{entry_is}
+use Rattle.nvme_ctrl.proofs.OldestEntry.{entry_is}
 use Rattle.nvme_ctrl.proofs.CommandVerdicts.{IsCommanded}
 use Rattle.nvme_ctrl.proofs.PickCall.{next_is, is_busy, isnt_busy}
 use Rattle.nvme_ctrl.specs.declared.picks.Step.{Step}
