@@ -1,23 +1,21 @@
 -- A pick whose places are free, and what an admin command makes, leave no more places outstanding than there may be.
 use Rattle.std.specs.Prelude.{IsSome}
-use Rattle.std.proofs.Common.{◌≡◌, ℕ, ◌+◌, ◌<◌, ◌≤◌, ◌==◌, ◌&&◌, if◌then◌else◌, Bool, true, false, List, [], ◌∷◌, length, map, take, Option, Some, None, refl, sym, ap, ◌∙◌, subst, arith, All}
+use Rattle.std.proofs.Common.{◌≡◌, ℕ, ◌+◌, ◌<◌, ◌≤◌, ◌==◌, ◌&&◌, if◌then◌else◌, Bool, true, false, List, [], ◌∷◌, length, map, take, Option, Some, None, refl, sym, ap, ◌∙◌, arith, All}
 use Rattle.std.proofs.lemmas.Bool.{le-leb, eq-eqb, eqb-true, false_from_ne_true, true≢false}
 use Rattle.std.proofs.lemmas.List.Elements.{All-head, All-tail, All-filter}
 use Rattle.nvme_arbiter.specs.declared.pick.Pick.{Pick}
 use Rattle.nvme_arbiter.specs.declared.pick.Seen.{Seen}
 use Rattle.nvme_admin.specs.declared.verdict.Verdict.{Verdict}
 use Rattle.nvme_admin.specs.declared.verdict.Verdict.TheVariants as verdict
-use Rattle.nvme_log.specs.declared.event.Event.{Event}
 use Rattle.nvme_log.specs.declared.event.Event.TheVariants as event
 use Rattle.nvme_log.specs.Aborts.{took_abort, is_abort_entry, places_for}
-use Rattle.nvme_log.specs.Account.{LeavesPlaces}
 use Rattle.nvme_log.specs.Completions.{is_posted, outstanding}
 use Rattle.nvme_log.specs.Effects.{has_cid, abort_in, closing_of, closed_cq_of, made_by, named, target_of}
 use Rattle.nvme_log.specs.Histories.{admin_entry}
 use Rattle.nvme_log.specs.Limits.{max_outstanding}
 use Rattle.nvme_log.specs.Places.{fetched, waiting, entry_at, fate_of, is_waiting, one_if}
 use Rattle.nvme_log.specs.Queues.{Queue, admin_queue, open_sq, open_cq}
-use Rattle.nvme_log.specs.Rules.{FrontRules, Past, Each, sq_regions_of}
+use Rattle.nvme_log.specs.Rules.{FrontRules, Past, sq_regions_of}
 use Rattle.nvme_log.proofs.Waiting.{waiting-abort, waiting-below}
 use Rattle.nvme_ctrl.specs.kept.Content.{Content}
 use Rattle.nvme_ctrl.specs.kept.Standing.{Holds, hand_of}
