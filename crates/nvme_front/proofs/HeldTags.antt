@@ -106,4 +106,4 @@ module _ (rules : FrontRules) (late : Bool) (notes : Notes) (e : Engine) (s : St
   pub few_tags : (tags : List ℕ) → AreApart tags → All (λ (t : ℕ). is_out notes t ≡ true) tags → length tags ≤ max_outstanding
   few_tags tags apart outs =
       let few = few_out s.their s.their_late notes e.controller e.slots.items s.stands tags apart outs in
-      omega (arith, few, s.stands.holds.counts.outstanding_is, s.stands.holds.ready.few_taken)
+      omega (arith, few, s.stands.holds.counts.outstanding_is, s.places.few)
