@@ -27,9 +27,9 @@
  *      ring, Command Dword 3 last, since it has the phase tag, and then send the interrupt of the queue's vector, if
  *      its enable bit is set.
  *   9. After a pick that began a deletion, nvmearb_ctrl_finish at once and after each 8., while it ends one.
- *  10. Go back to 5., for every queue, until a pass does nothing: picks make room for fetches, posts for picks
- *      (NVMEARB_FULL), and the end of a deletion for both. The completion of its Delete is posted in the next pass. Go
- *      back too once the device can take more commands than at its last pick.
+ *  10. Go back to 5., for every queue, until a pass does nothing: posts and the end of a deletion make room for
+ *      fetches. The completion of its Delete is posted in the next pass. Go back too once the device can take more
+ *      commands than at its last pick.
  *
  * What holds of all calls. Every function is proved (crates/nvme_capi), unless NVMEARB_UNPROVED says otherwise. None
  * allocates, waits, starts a thread, keeps a pointer, or reads or writes anything but what its arguments point to, and all
@@ -105,7 +105,7 @@ uint32_t nvmearb_size(uint32_t state);
 #define NVMEARB_EMANY 5u  /* there are NVMEARB_MAX_REGIONS regions of this kind, or queues may lie anywhere */
 #define NVMEARB_ESIZE 6u  /* a region has 2 to 4096 slots */
 #define NVMEARB_BUSY 7u   /* nothing can be picked yet: commands are to be taken */
-#define NVMEARB_FULL 8u   /* nothing can be picked yet: there is room for no command, or too many aren't posted */
+#define NVMEARB_NOROOM 8u /* nothing can be picked yet: the device has room for no command */
 
 /*
  * Entries: the fields of entries and dwords, and the status of an I/O command. No call keeps a state.
@@ -659,8 +659,9 @@ typedef struct nvmearb_slot {
  *   nvmearb_ctrl_add_sq_region, nvmearb_ctrl_add_cq_region               the regions
  *   nvmearb_ctrl_finish                                                  the identifiers up to the queue's
  *
- * PC must be 1, and a ring has at most 4096 slots. So CAP.MQES is at most 4095, and CAP.CQR is 1. At most 256 commands
- * are picked and have no completion posted; an Asynchronous Event Request that the device holds is one of them.
+ * PC must be 1, and a ring has at most 4096 slots. So CAP.MQES is at most 4095, and CAP.CQR is 1. Which commands have no
+ * completion posted has no limit but the depths: a completion queue that its host doesn't read stops the submission
+ * queues that post to it, and no other.
  */
 typedef struct nvmearb_ctrl {
     uint64_t mark;
@@ -890,8 +891,7 @@ uint32_t nvmearb_ctrl_peek(const nvmearb_ctrl *ctrl, const nvmearb_slot *slots, 
  * device without a bound passes NVMEARB_NO_LIMIT. The queue is the one that is picked with any room, and n the least of
  * the burst, what its class has left of its weight, what waits in the queue, and `room`: the burst is the most that may
  * be fetched at a time (Command Arbitration). The rest of the burst waits until the turn of its queue comes again, and
- * what it would have used of the weight stays. A device that holds commands for long, such as Asynchronous Event
- * Requests, passes at most 256 less as many. Otherwise a pick without a burst limit may be NVMEARB_FULL for ever.
+ * what it would have used of the weight stays.
  *
  * An admin command is picked alone, and wants a room of 1. One that isn't the device's is carried out at once: queues
  * are created, a deletion begins and the waiting commands of its queue are answered with 0/08, a waiting command is
@@ -899,9 +899,8 @@ uint32_t nvmearb_ctrl_peek(const nvmearb_ctrl *ctrl, const nvmearb_slot *slots, 
  * wait.
  *
  * NVMEARB_ESTATE, NVMEARB_EARG as nvmearb_ctrl_fetched; otherwise NVMEARB_BUSY if commands are picked and not taken;
- * otherwise NVMEARB_NONE if no command waits but in queues that are held; otherwise NVMEARB_FULL if `room` is 0, or if
- * more than 256 commands would be picked, or aborted by an Abort, and have no completion posted. Then everything stays
- * as it was. Where NVMEARB_FULL was told for a room above 1, a smaller one may do.
+ * otherwise NVMEARB_NONE if no command waits but in queues that are held; otherwise NVMEARB_NOROOM if `room` is 0. Then
+ * everything stays as it was.
  */
 uint32_t nvmearb_ctrl_pick(nvmearb_ctrl *ctrl, nvmearb_slot *slots, size_t count, uint16_t room, nvmearb_step *step);
 

@@ -24,5 +24,5 @@ pub const BAD_SIZE: u32 = 6;
 /// Nothing can be picked yet: picked commands are to be taken.
 pub const BUSY: u32 = 7;
 
-/// Nothing can be picked yet: the next pick needs more places than are free.
-pub const FULL: u32 = 8;
+/// Nothing can be picked yet: the device has room for no command.
+pub const NOROOM: u32 = 8;

@@ -24,7 +24,7 @@ use crate::ctrl::state::{
     AskedFields, CommandFields, CtrlState, PostFields, StepFields, has_slots, is_ctrl,
 };
 use crate::fields::StatusFields;
-use crate::results::{BAD_ARGUMENT, BAD_STATE, BUSY, FULL, NOTHING, OK};
+use crate::results::{BAD_ARGUMENT, BAD_STATE, BUSY, NOROOM, NOTHING, OK};
 use crate::states::{PickFields, fields_of_pick};
 use nvme_admin::Effect;
 use nvme_ctrl::{Answer, Marks, Post, Slot, Step};
@@ -128,7 +128,7 @@ pub extern "C" fn nvmearb_ctrl_pick(
     ensures bad_argument { (result ≡ BAD_ARGUMENT) ↔ (IsTrue (is_ctrl state.old) × IsFalse (has_slots state.old slots.old)) }
     ensures idle { (rules : FrontRules) (late : Bool) (notes : Notes) → Stands rules late notes state.old.ctrl slots.old → result ≡ NOTHING → HasStepped rules late notes room made.Idle state.new.ctrl slots.new }
     ensures busy { (rules : FrontRules) (late : Bool) (notes : Notes) → Stands rules late notes state.old.ctrl slots.old → result ≡ BUSY → HasStepped rules late notes room made.Busy state.new.ctrl slots.new }
-    ensures full { (rules : FrontRules) (late : Bool) (notes : Notes) → Stands rules late notes state.old.ctrl slots.old → result ≡ FULL → HasStepped rules late notes room made.Full state.new.ctrl slots.new }
+    ensures no_room { (rules : FrontRules) (late : Bool) (notes : Notes) → Stands rules late notes state.old.ctrl slots.old → result ≡ NOROOM → HasStepped rules late notes room made.NoRoom state.new.ctrl slots.new }
     ensures picked { (rules : FrontRules) (late : Bool) (notes : Notes) → Stands rules late notes state.old.ctrl slots.old → result ≡ OK → step.new.kind ≡ PICKED → HasStepped rules late notes room (made.Picked (pick_of_fields step.new.pick)) state.new.ctrl slots.new }
     ensures carried_out { (rules : FrontRules) (late : Bool) (notes : Notes) → Stands rules late notes state.old.ctrl slots.old → result ≡ OK → step.new.kind ≡ CARRIED_OUT → HasToldWhat rules late notes step.new.answer step.new.asked state.new.ctrl slots.new }
     ensures passed { (rules : FrontRules) (late : Bool) (notes : Notes) → Stands rules late notes state.old.ctrl slots.old → result ≡ OK → step.new.kind ≡ PASSED → HasStepped rules late notes room (made.Passed (pick_of_fields step.new.pick)) state.new.ctrl slots.new }
@@ -138,7 +138,7 @@ pub extern "C" fn nvmearb_ctrl_pick(
     ensures no_answer { result ≡ OK → step.new.kind ≢ CARRIED_OUT → (step.new.answer ≡ plain_answer 0) × (step.new.asked ≡ nothing_asked) }
     ensures left { own_of state.new.ctrl ≡ own_of state.old.ctrl }
     ensures kinds { result ≡ OK → (step.new.kind ≡ PICKED) ⊎ ((step.new.kind ≡ CARRIED_OUT) ⊎ (step.new.kind ≡ PASSED)) }
-    ensures answer { (result ≡ OK) ⊎ ((result ≡ NOTHING) ⊎ ((result ≡ BUSY) ⊎ ((result ≡ FULL) ⊎ ((result ≡ BAD_ARGUMENT) ⊎ (result ≡ BAD_STATE))))) }
+    ensures answer { (result ≡ OK) ⊎ ((result ≡ NOTHING) ⊎ ((result ≡ BUSY) ⊎ ((result ≡ NOROOM) ⊎ ((result ≡ BAD_ARGUMENT) ⊎ (result ≡ BAD_STATE))))) }
     ensures unchanged { result ≢ OK → (state.new ≡ state.old) × ((slots.new ≡ slots.old) × (step.new ≡ step.old)) }
 {
     if !is_ctrl(state) {
@@ -150,7 +150,7 @@ pub extern "C" fn nvmearb_ctrl_pick(
     match state.ctrl.pick(slots, room) {
         Step::Idle => NOTHING,
         Step::Busy => BUSY,
-        Step::Full => FULL,
+        Step::NoRoom => NOROOM,
         Step::Picked(pick) => {
             *step = StepFields {
                 kind: PICKED,

@@ -15,8 +15,8 @@ returns-in-Idle-clause-idle c = λ rules late notes s _. subst (λ (it : Step). 
 pub returns-in-Busy-clause-busy : goal.returns-in-Busy-clause-busy
 returns-in-Busy-clause-busy c = λ rules late notes s _. subst (λ (it : Step). HasStepped rules late notes c.args.room it c.pick.new.self c.pick.new.slots) c.in-Busy.is (c.pick.ensures.stands rules late notes s)
 
-pub returns-in-Full-clause-full : goal.returns-in-Full-clause-full
-returns-in-Full-clause-full c = λ rules late notes s _. subst (λ (it : Step). HasStepped rules late notes c.args.room it c.pick.new.self c.pick.new.slots) c.in-Full.is (c.pick.ensures.stands rules late notes s)
+pub returns-in-NoRoom-clause-no_room : goal.returns-in-NoRoom-clause-no_room
+returns-in-NoRoom-clause-no_room c = λ rules late notes s _. subst (λ (it : Step). HasStepped rules late notes c.args.room it c.pick.new.self c.pick.new.slots) c.in-NoRoom.is (c.pick.ensures.stands rules late notes s)
 
 pub returns-in-Picked-clause-picked : goal.returns-in-Picked-clause-picked
 returns-in-Picked-clause-picked c = λ rules late notes s _ _.
@@ -43,8 +43,8 @@ returns-in-Idle-clause-unchanged c = λ _. (let h = c.pick.ensures.idle c.in-Idl
 pub returns-in-Busy-clause-unchanged : goal.returns-in-Busy-clause-unchanged
 returns-in-Busy-clause-unchanged c = λ _. (let h = c.pick.ensures.busy c.in-Busy.is in ((λ i. record c.args.state.now { ctrl = h.0 i }), (h.1, refl)))
 
-pub returns-in-Full-clause-unchanged : goal.returns-in-Full-clause-unchanged
-returns-in-Full-clause-unchanged c = λ _. (let h = c.pick.ensures.full c.in-Full.is in ((λ i. record c.args.state.now { ctrl = h.0 i }), (h.1, refl)))
+pub returns-in-NoRoom-clause-unchanged : goal.returns-in-NoRoom-clause-unchanged
+returns-in-NoRoom-clause-unchanged c = λ _. (let h = c.pick.ensures.no_room c.in-NoRoom.is in ((λ i. record c.args.state.now { ctrl = h.0 i }), (h.1, refl)))
 
 pub returns-in-Passed-clause-own : goal.returns-in-Passed-clause-own
 returns-in-Passed-clause-own c = λ rules late notes s _ _. c.pick.ensures.passed rules late notes s c.in-Passed.pick c.in-Passed.is
