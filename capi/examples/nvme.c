@@ -129,7 +129,6 @@ static uint16_t room(struct nvme *d)
             return NVMEARB_NO_LIMIT;
         if (d->most)
             next.n = fitting(d, &next);
-        next.n = next.n < NVME_PICKED ? next.n : NVME_PICKED;
         if (next.n && d->host.may_pick && !d->host.may_pick(d->host.context, &next))
             return 0;
         if (next.n)

@@ -12,10 +12,9 @@
  * The machine is around it: qemu.c serves the device to QEMU as a process of its own, and qemu/ has it in QEMU's tree.
  *
  * What is in flight has a limit, `most`. A pick hands commands to a backend, which serves what it has in an order of
- * its own. If it may have all 256 commands that a controller allows, few wait to be picked, and weights are without
- * effect, though each pick is lawful. So no more is picked for a namespace than its backend needs to be busy: a pick
- * takes what there is room for. Where a queue's next command goes to a namespace without room, the queue is held
- * meanwhile, and the others go on.
+ * its own. If it may have all, few wait to be picked, and weights are without effect, though each pick is lawful. So
+ * no more is picked for a namespace than its backend needs to be busy: a pick takes what there is room for. Where a
+ * queue's next command goes to a namespace without room, the queue is held meanwhile, and the others go on.
  */
 #ifndef NVME_H
 #define NVME_H
@@ -29,7 +28,6 @@
 #define NVME_DEPTH 256                                /* the most commands of a queue that the controller holds */
 #define NVME_COMMANDS ((NVME_QUEUES + 1) * NVME_DEPTH) /* its slots */
 #define NVME_EVENT_REQUESTS 4                         /* the most Asynchronous Event Requests that are held */
-#define NVME_PICKED (256 - NVME_EVENT_REQUESTS)       /* the most commands that are picked while these are held */
 #define NVME_NAMESPACES 16                            /* the most namespaces */
 #define NVME_SERIAL 20                                /* the most characters of a serial number */
 #define NVME_MOST_BYTES (256 * NVME_PAGE)             /* the most bytes of one transfer (MDTS) */

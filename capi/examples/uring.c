@@ -8,7 +8,7 @@
 #include <linux/falloc.h>
 #include <stdlib.h>
 
-#define ENTRIES 256 /* as many as a controller has picked at most */
+#define ENTRIES 256 /* of the submission ring: where it is full, the kernel takes what is there */
 
 struct uring {
     struct io_uring ring;
@@ -17,7 +17,8 @@ struct uring {
 struct uring *uring_open(int event)
 {
     struct uring *it = calloc(1, sizeof *it);
-    if (it && io_uring_queue_init(ENTRIES, &it->ring, 0) == 0) {
+    struct io_uring_params how = {.flags = IORING_SETUP_CQSIZE, .cq_entries = NVME_COMMANDS};
+    if (it && io_uring_queue_init_params(ENTRIES, &it->ring, &how) == 0) {
         if (io_uring_register_eventfd(&it->ring, event) == 0)
             return it;
         io_uring_queue_exit(&it->ring);
@@ -29,7 +30,7 @@ struct uring *uring_open(int event)
 void uring_begin(struct uring *it, int file, struct nvme_request *r)
 {
     struct io_uring_sqe *sqe = io_uring_get_sqe(&it->ring);
-    while (!sqe) { /* full: the kernel takes what is there */
+    while (!sqe) {
         io_uring_submit(&it->ring);
         sqe = io_uring_get_sqe(&it->ring);
     }

@@ -4,7 +4,6 @@
 #include <string.h>
 
 #define MARK 0x68616e64u
-#define MOST_OUT 256
 #define MOST_WAITING 256
 #define NO_LIMIT 7
 
@@ -237,11 +236,10 @@ uint32_t hand_pick(hand_ctrl *ctrl, hand_slot *slots, size_t count, uint16_t roo
         pick.n = least(pick.n, 1u << ctrl->burst);
     }
     pick.n = least(pick.n, room);
-    if (room == 0 || pick.n > MOST_OUT - ctrl->unposted) {
-        return NVMEARB_FULL;
+    if (room == 0) {
+        return NVMEARB_NOROOM;
     }
     serve(ctrl, &pick);
-    ctrl->unposted = (uint16_t)(ctrl->unposted + pick.n);
     ctrl->sq[pick.qid].unposted = (uint16_t)(ctrl->sq[pick.qid].unposted + pick.n);
     ctrl->picked = pick.n;
     ctrl->picked_qid = pick.qid;
@@ -320,7 +318,6 @@ uint32_t hand_post(hand_ctrl *ctrl, hand_slot *slots, size_t count, uint16_t cqi
     cq->phase ^= cq->tail == 0;
 #endif
     it->state = FREE;
-    ctrl->unposted--;
     ctrl->sq[it->sqid].unposted--;
     push(slots, &ctrl->free, tag);
     return NVMEARB_OK;

@@ -44,7 +44,7 @@ typedef struct hand_ctrl {
     hand_sq sq[NVMEARB_MAX_QUEUES];
     hand_cq cq[NVMEARB_MAX_QUEUES];
     hand_chain free;
-    uint16_t depth, unposted, picked, picked_qid;
+    uint16_t depth, picked, picked_qid;
     uint8_t weighted, burst;
 } hand_ctrl;
 

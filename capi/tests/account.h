@@ -17,7 +17,7 @@ enum state { NOT_HERE, WAITING, PICKED, OUT, READY };
 /* A command, from its fetch until its completion is posted. */
 struct command {
     enum state state;
-    int takes_place, has_tag;
+    int has_tag;
     uint16_t qid, cqid, tag; /* its queues, and its tag once it was taken */
     uint32_t cookie, dw0;
     nvmearb_status status;
@@ -58,7 +58,7 @@ struct regions {
 
 static struct account {
     struct command commands[SLOTS];
-    unsigned slots, held, places, pending;
+    unsigned slots, held, pending;
     uint16_t depths[QUEUES];         /* by identifier */
     int is_slow;                     /* the device hardly completes anything */
     int stirs;                       /* the host mostly creates and deletes queues, and seldom resets the controller */

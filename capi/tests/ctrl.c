@@ -431,7 +431,7 @@ static unsigned random_call(uint64_t *state, struct tally *tally)
     memcpy(slots_before, slots, sizeof slots);
     told = made(&it, which);
     changes = memcmp(&ctrl_before, &ctrl, sizeof ctrl) != 0 || memcmp(slots_before, slots, sizeof slots) != 0;
-    wrong += told > NVMEARB_FULL || told == NVMEARB_ESTATE;
+    wrong += told > NVMEARB_NOROOM || told == NVMEARB_ESTATE;
     wrong += which >= WITHOUT_SLOTS && it.count != SLOTS && told != NVMEARB_EARG;
     if (told != NVMEARB_OK) {
         return wrong + changes + (memcmp(&it, &before, sizeof it) != 0);

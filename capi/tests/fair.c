@@ -16,7 +16,7 @@ enum {
     RING = 512,      /* slots of a ring */
     MOST = 400,      /* commands of a queue */
     ALL = 1200,      /* commands of the I/O queues of a run, about */
-    PLACES = 256,    /* commands that are picked and not posted */
+    FLYING = 1024,   /* commands that the device has at a time */
     TURNS = 200000,  /* after as many turns nothing will come any more */
     EVENT_REQUEST = 0x0c,
     READ = NVMEARB_OPC_READ,
@@ -52,10 +52,11 @@ static size_t count;
 static uint64_t seed;
 static uint16_t nqueues, nevents, capacity, largest, most;
 static int is_eager; /* the host submits all that it can at once */
-static struct { uint16_t tag, sqid, turns; } in_flight[PLACES];
+static struct { uint16_t tag, sqid, turns; } in_flight[FLYING];
 static struct { uint16_t tag; } events[8];
 static uint16_t flying, kept;
 static unsigned long full, cut, holds; /* picks that there was no room for, picks of as many as there was, and holds */
+static unsigned long outstanding, many; /* commands picked and not posted, and picks that left more than 256 of them */
 
 static uint32_t upto(uint32_t n)
 {
@@ -169,7 +170,7 @@ static void take_all(void)
     }
 }
 
-/* As many commands as the device can take now: no more than it has places for beside the requests that it keeps. */
+/* As many commands as the device can take now, beside the requests that it keeps. */
 static uint16_t room(void)
 {
     return (uint16_t)(capacity > flying ? 1 + upto((uint32_t)(capacity - flying)) : 0);
@@ -183,11 +184,13 @@ static void pick_all(void)
     for (; told == NVMEARB_OK; told = nvmearb_ctrl_pick(&ctrl, pool, count, most_now, &step)) {
         MUST(step.pick.n <= most_now);
         cut += step.pick.n == most_now;
+        outstanding += step.kind == NVMEARB_CARRIED_OUT ? 1 : step.pick.n;
+        many += outstanding > 256;
         take_all();
         most_now = room();
     }
-    MUST(told == NVMEARB_NONE || told == NVMEARB_FULL);
-    full += told == NVMEARB_FULL && most_now;
+    MUST(told == NVMEARB_NONE || (told == NVMEARB_NOROOM && !most_now));
+    full += told == NVMEARB_NOROOM;
 }
 
 /* Ends the commands whose time has come, and any of them before another. */
@@ -207,7 +210,7 @@ static void post_all(uint16_t cqid)
 {
     nvmearb_post it;
     uint16_t qid;
-    while (nvmearb_ctrl_post(&ctrl, pool, count, cqid, &it) == NVMEARB_OK)
+    for (; nvmearb_ctrl_post(&ctrl, pool, count, cqid, &it) == NVMEARB_OK; outstanding--)
         memcpy(cqs[cqid].ring[it.slot], it.bytes, sizeof it.bytes);
     while (nvmearb_ctrl_finish(&ctrl, pool, count, &qid) == NVMEARB_OK)
         continue;
@@ -274,12 +277,12 @@ static void begin(void)
 {
     static const nvmearb_placement placement = {4096, 4095, 1};
     nvmearb_config config = {{0x1000, 0}, {0x2000, 0}, 1 + upto(2), (uint32_t)drawn(&seed), 64, 64, 256, 0};
-    config.depth = upto(2) ? some(2 * PLACES) : PLACES;
+    config.depth = upto(2) ? some(RING) : RING / 2;
     config.cdw11 |= upto(3) ? 0 : 7; /* no burst limit */
     memset(sqs, 0, sizeof sqs);
     memset(cqs, 0, sizeof cqs);
-    nqueues = some(some(64)), nevents = (uint16_t)upto(5), flying = kept = 0;
-    capacity = upto(2) ? some(PLACES - nevents) : (uint16_t)(PLACES - nevents);
+    nqueues = some(some(64)), nevents = (uint16_t)upto(5), flying = kept = 0, outstanding = 0;
+    capacity = upto(2) ? some(FLYING) : FLYING;
     is_eager = upto(4) == 0;
     largest = is_eager ? RING : (uint16_t)(1 + some(RING - 1));
     most = (uint16_t)(1 + ALL / nqueues < MOST ? 1 + ALL / nqueues : MOST);
@@ -288,7 +291,7 @@ static void begin(void)
     cqs[0] = (struct cq){.slots = draw_slots(), .phase = 1, .slowness = some(4)};
     draw_script();
     config.asq.slots = sqs[0].slots, config.acq.slots = cqs[0].slots;
-    config.admin_depth = (uint16_t)(nevents + some(PLACES));
+    config.admin_depth = (uint16_t)(nevents + some(RING));
     count = (size_t)nqueues * config.depth + config.admin_depth;
     MUST(nvmearb_ctrl_init_anywhere(&ctrl, pool, count, &config, &placement) == NVMEARB_OK);
     MUST(nvmearb_ctrl_own_opcode(&ctrl, EVENT_REQUEST) == NVMEARB_OK);
@@ -350,6 +353,6 @@ int main(int argc, char **argv)
     for (; ran < runs && !failed; ran++)
         run();
     CHECK(ran == runs);
-    CHECK(full && cut && holds);
+    CHECK(full && cut && holds && many);
     return told();
 }

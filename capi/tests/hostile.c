@@ -153,7 +153,7 @@ static int is_right(uint32_t told, uint32_t want)
     tally.ok += told == NVMEARB_OK;
     tally.none += told == NVMEARB_NONE;
     tally.busy += told == NVMEARB_BUSY;
-    tally.full += told == NVMEARB_FULL;
+    tally.full += told == NVMEARB_NOROOM;
     tally.refused += told == NVMEARB_EARG || told == NVMEARB_EUSED || told == NVMEARB_EMANY || told == NVMEARB_ESIZE;
     return told == want;
 }
@@ -410,8 +410,6 @@ static uint16_t pulled(struct sq *sq)
 {
     uint16_t number = pull(&sq->waiting, 0);
     account.commands[number].state = PICKED;
-    account.commands[number].takes_place = 1;
-    account.places++;
     return number;
 }
 
@@ -432,8 +430,6 @@ static int aborts(uint16_t qid, uint16_t cid)
     if (place < 0)
         return 0;
     uint16_t number = pull(&open_sq(qid)->waiting, (unsigned)place);
-    account.commands[number].takes_place = 1;
-    account.places++;
     tally.aborts++;
     answered(number, (nvmearb_status){0, NVMEARB_SC_ABORT_REQUESTED}, 0);
     return 1;
@@ -537,16 +533,14 @@ static int is_refused(void)
            is_right(nvmearb_ctrl_peek(CTRL, room.slots, other, &pick), NVMEARB_EARG);
 }
 
-/* What a pick with this room answers, where `pick` is the next one as far as there is room for it. */
-static uint32_t pick_answer(uint32_t next, uint16_t most, const nvmearb_pick *pick)
+/* What a pick with this room answers, where `next` is what a look at it with any room does. */
+static uint32_t pick_answer(uint32_t next, uint16_t most)
 {
-    const struct command *oldest = &account.commands[account.sqs[0].waiting.at[0]];
     if (account.picked.n)
         return NVMEARB_BUSY;
     if (next != NVMEARB_OK)
         return next;
-    unsigned more = pick->qid == 0 && oldest->entry[0] == NVMEARB_OPC_ABORT ? 2 : pick->n;
-    return most == 0 || account.places + more > 256 ? NVMEARB_FULL : NVMEARB_OK;
+    return most == 0 ? NVMEARB_NOROOM : NVMEARB_OK;
 }
 
 /* A pick: n is the least of the room and of what is picked with any room. */
@@ -562,7 +556,7 @@ static int picks(void)
         return 0;
     int is_cut = most < pick.n;
     pick.n = is_cut ? most : pick.n;
-    want = pick_answer(next, most, &pick);
+    want = pick_answer(next, most);
     if (!is_right(nvmearb_ctrl_pick(CTRL, POOL, most, &step), want))
         return 0;
     if (want != NVMEARB_OK)
@@ -664,7 +658,7 @@ static int posts(void)
     if (it->has_tag)
         account.by_tag[it->tag] = NO_COMMAND;
     cq->posted++;
-    account.sqs[it->qid].unposted--, account.held--, account.places -= (unsigned)it->takes_place;
+    account.sqs[it->qid].unposted--, account.held--;
     it->state = NOT_HERE;
     return 1;
 }

@@ -10,7 +10,7 @@ from typing import Any, NamedTuple, Optional, Union
 from .arbiter import NO_LIMIT, Mechanism, Pick, Priority, Seen, pick_of
 from .entries import Sqe, Status, sized, sqe_of
 from .library import (
-    BUSY, FULL, NONE, OK, CommandFields, ConfigFields, CtrlState, PickFields, PlacementFields, PostFields, RegionFields,
+    BUSY, NONE, NOROOM, OK, CommandFields, ConfigFields, CtrlState, PickFields, PlacementFields, PostFields, RegionFields,
     SeenFields, SlotState, StatusFields, StepFields, checked, in_range, library, u8, u16, u32,
 )
 
@@ -71,8 +71,7 @@ class Passed(NamedTuple):
 
 class Waits(NamedTuple):
     """Nothing was picked. `why` is idle: no command waits but in queues that are held; busy: commands are to be taken
-    first; or full: the device has room for none, or more than 256 commands would be picked and have no completion
-    posted."""
+    first; or no room: the device has room for no command."""
 
     why: str
 
@@ -177,8 +176,8 @@ class Controller:
         command that isn't the device's is carried out at once."""
         step = StepFields()
         code = self._call("pick", u16(room=room), byref(step))
-        if code in (NONE, BUSY, FULL):
-            return Waits({NONE: "idle", BUSY: "busy", FULL: "full"}[code])
+        if code in (NONE, BUSY, NOROOM):
+            return Waits({NONE: "idle", BUSY: "busy", NOROOM: "no room"}[code])
         checked(code)
         return step_of(step)
 

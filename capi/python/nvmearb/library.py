@@ -9,7 +9,7 @@ from ctypes import Structure, c_size_t, c_uint8, c_uint16, c_uint32, c_uint64
 VERSION = "0.2.0"
 SONAME = "libnvmearb.so.0.2"
 
-OK, NONE, ESTATE, BUSY, FULL = 0, 1, 3, 7, 8
+OK, NONE, ESTATE, BUSY, NOROOM = 0, 1, 3, 7, 8
 # The answers that refuse a call.
 NAMES = {
     1: "NVMEARB_NONE: there is no such queue or command",

@@ -178,9 +178,6 @@ impl Post {
 /// [`Controller::new`] a Create names a region that was added before. There are at most 65 of a kind until the next
 /// reset; an address is that of one, and one queue uses it, once.
 ///
-/// At most 256 commands are picked and have no completion posted; an Asynchronous Event Request that the
-/// device holds is one of them.
-///
 /// It isn't `Clone`: two copies would post the same completions.
 ///
 /// ```
@@ -406,13 +403,11 @@ impl<S: Slots> Controller<S> {
         sure(found(|pick| unsafe { sys::nvmearb_ctrl_peek(ctrl, slots, count, pick) })).as_ref().map(Pick::of)
     }
 
-    /// Makes the next pick of arbitration, or tells by [`Step::Idle`], [`Step::Busy`] or [`Step::Full`] why there is
+    /// Makes the next pick of arbitration, or tells by [`Step::Idle`], [`Step::Busy`] or [`Step::NoRoom`] why there is
     /// none yet. `room` says how many commands the device can take now; a device without a bound passes
     /// [`NO_LIMIT`](crate::NO_LIMIT).
     /// The queue is the one that is picked with any room, and `n` the least of the burst, what its class has left of its
     /// weight, what waits in the queue, and `room`. The rest of the burst waits until the turn of its queue comes again.
-    /// A device that holds commands for long, such as Asynchronous Event Requests, passes at most 256 less as many:
-    /// otherwise a pick without a burst limit may be [`Step::Full`] for ever.
     ///
     /// An admin command is picked alone, and wants a room of 1. One that isn't the device's is carried out at once:
     /// queues are created, a deletion begins and the waiting commands of its queue are answered with
@@ -427,7 +422,7 @@ impl<S: Slots> Controller<S> {
         match unsafe { sys::nvmearb_ctrl_pick(ctrl, slots, count, room, &mut step) } {
             sys::NVMEARB_NONE => Ok(Step::Idle),
             sys::NVMEARB_BUSY => Ok(Step::Busy),
-            sys::NVMEARB_FULL => Ok(Step::Full),
+            sys::NVMEARB_NOROOM => Ok(Step::NoRoom),
             code => checked(code).map(|()| Step::of(&step)),
         }
     }

@@ -42,9 +42,8 @@ pub enum Step {
     Idle,
     /// Nothing was picked: commands are to be taken first.
     Busy,
-    /// Nothing was picked: the device has room for none, or more than 256 commands would be picked, or aborted by an
-    /// Abort, and have no completion posted. Post completions first, or pass a smaller room above 0.
-    Full,
+    /// Nothing was picked: the device has room for no command.
+    NoRoom,
 }
 
 impl Step {
@@ -61,7 +60,7 @@ impl Step {
     /// long as something is.
     pub fn made(self) -> Option<Step> {
         match self {
-            Step::Idle | Step::Busy | Step::Full => None,
+            Step::Idle | Step::Busy | Step::NoRoom => None,
             made => Some(made),
         }
     }

@@ -29,7 +29,7 @@ pub const NVMEARB_EUSED: u32 = 4;
 pub const NVMEARB_EMANY: u32 = 5;
 pub const NVMEARB_ESIZE: u32 = 6;
 pub const NVMEARB_BUSY: u32 = 7;
-pub const NVMEARB_FULL: u32 = 8;
+pub const NVMEARB_NOROOM: u32 = 8;
 
 pub const NVMEARB_SQE_BYTES: usize = 64;
 pub const NVMEARB_CQE_BYTES: usize = 16;

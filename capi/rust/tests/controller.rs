@@ -370,7 +370,7 @@ fn depth_and_slots_are_limits() {
 }
 
 #[test]
-fn at_most_256_commands_have_no_completion_posted() {
+fn more_than_256_commands_have_no_completion_posted() {
     let wide = Config { depth: 512, ..config(Mechanism::RoundRobin) };
     let mut ctrl = Controller::new(&wide, boxed_slots(1024)).unwrap();
     assert_eq!((ctrl.add_sq_region(SQ, 512), ctrl.add_cq_region(CQ, 512)), (Ok(1), Ok(1)));
@@ -385,11 +385,9 @@ fn at_most_256_commands_have_no_completion_posted() {
     picked(&mut ctrl, 256);
     let tags: Vec<Tag> = (0..256).map(|cid| taken(&mut ctrl, cid)).collect();
     fetched(&mut ctrl, 1, 256, read(256));
-    assert_eq!(ctrl.pick(NO_LIMIT), Ok(Step::Full));
-    assert_eq!(ctrl.complete(tags[7], Status::SUCCESS, 0), Ok(()));
-    assert_eq!(ctrl.pick(NO_LIMIT), Ok(Step::Full)); // until its completion is posted
-    posted(&mut ctrl, 1, (0, 257, 7, true, Status::SUCCESS, 0));
     picked(&mut ctrl, 1);
+    assert_eq!(ctrl.complete(tags[7], Status::SUCCESS, 0), Ok(()));
+    posted(&mut ctrl, 1, (0, 257, 7, true, Status::SUCCESS, 0));
 }
 
 #[test]
@@ -397,7 +395,7 @@ fn picks_take_what_there_is_room_for() {
     let mut ctrl = prepared(Mechanism::RoundRobin);
     assert_eq!((ctrl.pick(0), ctrl.sq_tail(1, 3)), (Ok(Step::Idle), Ok(())));
     (0..3).for_each(|slot| fetched(&mut ctrl, 1, slot, read(slot)));
-    assert_eq!(ctrl.pick(0), Ok(Step::Full));
+    assert_eq!(ctrl.pick(0), Ok(Step::NoRoom));
     assert_eq!(ctrl.pick(1), Ok(Step::Picked(Pick { qid: 1, n: 1, fresh: false })));
     assert_eq!((ctrl.pick(0), ctrl.waiting(1)), (Ok(Step::Busy), Some(2)));
     taken(&mut ctrl, 0);

@@ -15,7 +15,7 @@ const BAD_ARGUMENT: u64 = 2;
 
 const BUSY: u64 = 7;
 
-const FULL: u64 = 8;
+const NOROOM: u64 = 8;
 
 // The result of a call that was done, or found nothing to do.
 fn result_of(done: bool) -> u64 {
@@ -76,7 +76,7 @@ fn pick_result(ctrl: &mut Controller, slots: &mut [Slot]) -> u64
     match pick(ctrl, slots, 0) {
         Step::Idle => NOTHING,
         Step::Busy => BUSY,
-        Step::Full => FULL,
+        Step::NoRoom => NOROOM,
         _ => DONE,
     }
 }
