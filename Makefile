@@ -1,6 +1,6 @@
 # SPDX-License-Identifier: MIT
 #
-# PROGRAM=FILE and LIBRARY=FILE take another program and C library (libnvme_capi.a) than those that ./build proves and
+# PROGRAM=FILE and LIBRARY=FILE take another program and C library (libnvme_capi.a) than those that tools/build proves and
 # builds, as they are.
 PREFIX = /usr/local
 DESTDIR =
@@ -11,7 +11,7 @@ LIBRARY =
 SHARED = README.md CHANGELOG.md SECURITY.md LICENSE docs examples capi/examples capi/rust capi/python
 
 all: ## prove and build the program, crates/nvmearb/out/nvmearb
-	$(if $(PROGRAM),,./build nvmearb)
+	$(if $(PROGRAM),,tools/build nvmearb)
 
 check: ## prove every crate, or with CRATE=nvme_lane that one
 	cd $(if $(CRATE),crates/$(CRATE) && rt check,. && rt all check)
@@ -20,7 +20,7 @@ test: ## test what is built, or NAME=words by tests/words alone; with CRATE=nvme
 	$(if $(CRATE),cd crates/$(CRATE) && rt test $(if $(NAME),-- $(NAME)),tests/run $(NAME))
 
 bench: ## measure, COUNT=1000000 steps each, or with COUNT=worst count the instructions of the worst single calls
-	./bench $(COUNT)
+	tools/bench $(COUNT)
 
 gate: ## prove and test all that changed since it last passed here, and try the must-fail edits
 	.ci/run

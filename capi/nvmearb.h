@@ -87,7 +87,7 @@ uint32_t nvmearb_version(void);
 uint32_t nvmearb_size(uint32_t state);
 
 /*
- * What nvmearb_version adds where nothing of the library is proved: ./build --unproved made it, for a try. Such a library
+ * What nvmearb_version adds where nothing of the library is proved: tools/build --unproved made it, for a try. Such a library
  * is slower, since it looks for faults as it runs, and ends the program at one that it finds. A program that takes it as
  * well compares nvmearb_version() & ~NVMEARB_UNPROVED with NVMEARB_VERSION.
  */

@@ -48,7 +48,7 @@ def make_guest(rows, sources):
     for at, to in [(fio, "/usr/bin/fio"), *((it, it) for it in re.findall(r"/\S+", said))]:
         os.makedirs(os.path.dirname(guest + to), exist_ok=True)
         shutil.copy(at, guest + to)
-    call(rows, "gcc", *FLAGS, "-static", "-o", f"{guest}/init", *(f"{TESTS}/guest{it}.c" for it in sources))
+    call(rows, "gcc", *FLAGS, "-static", "-o", f"{guest}/init", *(f"{TESTS}/c/guest{it}.c" for it in sources))
     return guest
 
 

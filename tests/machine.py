@@ -4,7 +4,7 @@ It tests there what a guest can't do, or can't see without KVM. tests/guest star
 
   DEVICE -n 1 python3 tests/machine.py
 
-and takes over its rows, as it does those of tests/guest.c."""
+and takes over its rows, as it does those of tests/c/guest.c."""
 import mmap
 import os
 import select

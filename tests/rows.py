@@ -22,7 +22,7 @@ class Rows:
 
     def __init__(self, name):
         self.name, self.passed, self.failed = name, 0, 0
-        self.folder = tempfile.mkdtemp()
+        self.folder, self.found = tempfile.mkdtemp(), None
 
     def give_up(self, why):
         print(f"{self.name}: {why}", file=sys.stderr)
@@ -49,16 +49,25 @@ class Rows:
             found = os.path.abspath(words[0])
         else:
             found = f"{TOP}/crates/{crate}/out/{crate}"
-            if subprocess.run([f"{TOP}/build", crate]).returncode:
+            if subprocess.run([f"{TOP}/tools/build", crate]).returncode:
                 self.give_up("the program did not build")
         if not os.access(found, os.X_OK):
             self.give_up(f"there is no program {found}")
+        self.found = found
         return found
 
+    def ends(self, line, text, status, output="", errors=""):
+        """The program with these words and this input ends with this status, and writes just this output and these errors."""
+        left = run([self.found, *line.split()], text)
+        assert left.status == status, f"{line}: status {left.status}: {left.errors.decode(errors='replace')}"
+        assert left.output.decode() == output, f"{line}: another output"
+        assert left.errors.decode() == errors, f"{line}: {left.errors.decode()}"
+        return left
+
     def library(self, name):
-        """Compiles tests/NAME.c, to be loaded before a program."""
+        """Compiles tests/c/NAME.c, to be loaded before a program."""
         made = f"{self.folder}/{name}.so"
-        how = ["cc", "-Wall", "-Wextra", "-Werror", "-shared", "-fPIC", "-O1", "-pthread", "-o", made, f"{TESTS}/{name}.c"]
+        how = ["cc", "-Wall", "-Wextra", "-Werror", "-shared", "-fPIC", "-O1", "-pthread", "-o", made, f"{TESTS}/c/{name}.c"]
         if subprocess.run(how).returncode:
             self.give_up(f"{name}.c did not compile")
         return made
@@ -87,3 +96,11 @@ def all_of(check, items):
 def example(name):
     with open(f"{TOP}/examples/{name}", "rb") as it:
         return it.read()
+
+
+def changed(text, *pairs):
+    """A workload with each first text of these pairs replaced by its second."""
+    for old, new in pairs:
+        assert old.encode() in text, f"no {old} in the workload"
+        text = text.replace(old.encode(), new.encode())
+    return text

@@ -113,7 +113,7 @@ pub fn is_library_of_this_version() -> bool {
     version == sys::NVMEARB_VERSION && SIZES.iter().all(|(state, _, size)| size_in_library(*state) == *size)
 }
 
-/// Whether the library that is linked was proved, other than one of `./build --unproved`.
+/// Whether the library that is linked was proved, other than one of `tools/build --unproved`.
 pub fn is_library_proved() -> bool {
     // SAFETY: it has no argument.
     unsafe { sys::nvmearb_version() & sys::NVMEARB_UNPROVED == 0 }

@@ -1,4 +1,4 @@
-// The loop of a device that has nothing to execute, over the calls of a controller, as ./bench runs it over those of the C
+// The loop of a device that has nothing to execute, over the calls of a controller, as tools/bench runs it over those of the C
 // library and over a front by hand: the same comes out of all.
 mod calls;
 mod faults;

@@ -1,4 +1,4 @@
-/* The tests of tests/guest.c by queues of its own, which it makes by Linux' admin commands and rings itself. */
+/* The tests of tests/c/guest.c by queues of its own, which it makes by Linux' admin commands and rings itself. */
 #define _GNU_SOURCE
 #include "guest.h"
 

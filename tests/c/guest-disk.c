@@ -1,4 +1,4 @@
-/* The tests of tests/guest.c of a disk that answers late, by queues of its own. */
+/* The tests of tests/c/guest.c of a disk that answers late, by queues of its own. */
 #define _GNU_SOURCE
 #include "guest.h"
 

@@ -1,4 +1,4 @@
-/* What the tests of tests/guest.c and tests/guest-*.c share. */
+/* What the tests of tests/c/guest.c and tests/c/guest-*.c share. */
 #ifndef GUEST_H
 #define GUEST_H
 

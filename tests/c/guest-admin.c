@@ -1,4 +1,4 @@
-/* The tests of tests/guest.c of what the device tells of itself. */
+/* The tests of tests/c/guest.c of what the device tells of itself. */
 #define _GNU_SOURCE
 #include "guest.h"
 
