@@ -10,7 +10,7 @@
  *
  * The order of calls, with a controller:
  *
- *   1. nvmearb_is_of_this_header.
+ *   1. nvmearb_is_of_this_header, which answers 0 for an unproved library too (NVMEARB_UNPROVED).
  *   2. When the host enables the controller (CC.EN), nvmearb_ctrl_init_anywhere with the admin queues (AQA, ASQ, ACQ).
  *      When CC.EN becomes 0, stop: make no call until it is 1 again, forget all tags, since they will be those of other
  *      commands, and begin again here. Nothing of before is left.
@@ -24,7 +24,7 @@
  *      (NVMEARB_BEGIN_DELETE), do 9. at once.
  *   7. nvmearb_ctrl_complete, or nvmearb_ctrl_complete_with, for each command that ends, in any order and at any time.
  *   8. For each completion queue, while nvmearb_ctrl_post gives a completion: write its bytes into the slot of the
- *      ring, Command Dword 3 last, since it has the phase tag, and then send the interrupt of the queue's vector, if
+ *      ring, Dword 3 last, since it has the phase tag, and then send the interrupt of the queue's vector, if
  *      its enable bit is set.
  *   9. After a pick that began a deletion, nvmearb_ctrl_finish at once and after each 8., while it ends one.
  *  10. Go back to 5., for every queue, until a pass does nothing: posts and the end of a deletion make room for
@@ -43,13 +43,13 @@
  *   - What a pointer that isn't const points to isn't read by anything else during the call, and overlaps nothing that
  *     another argument points to.
  *   - Calls on one state run one after another; those on different objects may run at the same time on any threads. A
- *     signal handler makes no call on an object that the call which it interrupts was given.
+ *     signal or interrupt handler makes no call on an object that the call which it interrupts was given.
  *
  * Numbers are in the machine's byte order, and bytes of entries in the specification's. The library is built for x86-64
- * (x86-64-v2, System V calling convention) and for AArch64 (README, "Install"). On x86-64 it uses SSE registers and the
- * red zone: a kernel saves these registers before a call, and takes no interrupt on the stack of a call.
- * nvmearb_ctrl_init and nvmearb_ctrl_init_anywhere take 34 KB of stack at most, and every other call 1 KB. Link with
- * -lnvmearb; the only other symbols are memcpy and memset. The archive has an object for each section below.
+ * (x86-64-v2, System V calling convention) and for AArch64 (docs/EMBEDDING.md, "Processors"). On x86-64 it uses SSE
+ * registers and the red zone: a kernel saves these registers before a call, and takes no interrupt on the stack of a
+ * call. nvmearb_ctrl_init and nvmearb_ctrl_init_anywhere take 34 KB of stack at most, and every other call 1 KB. Link
+ * with -lnvmearb; the only other symbols are memcpy and memset. The archive has an object for each section below.
  */
 #ifndef NVMEARB_H
 #define NVMEARB_H
@@ -87,9 +87,9 @@ uint32_t nvmearb_version(void);
 uint32_t nvmearb_size(uint32_t state);
 
 /*
- * What nvmearb_version adds where nothing of the library is proved: tools/build --unproved made it, for a try. Such a library
- * is slower, since it looks for faults as it runs, and ends the program at one that it finds. A program that takes it as
- * well compares nvmearb_version() & ~NVMEARB_UNPROVED with NVMEARB_VERSION.
+ * What nvmearb_version adds where nothing of the library is proved: tools/build --unproved made it, for a try. Such a
+ * library is slower, since it looks for faults as it runs, and ends the program at one that it finds. A program that
+ * takes it as well compares nvmearb_version() & ~NVMEARB_UNPROVED with NVMEARB_VERSION.
  */
 #define NVMEARB_UNPROVED 0x80000000u
 
@@ -193,7 +193,7 @@ typedef struct nvmearb_status {
 
 /* The fields of a completion queue entry. CRD, More and Do Not Retry have none: nvmearb_cqe_encode writes 0. */
 typedef struct nvmearb_cqe {
-    uint32_t dw0;  /* Command Dword 0 */
+    uint32_t dw0;  /* Dword 0, command specific */
     uint16_t sqhd; /* submission queue head pointer: the index of a slot */
     uint16_t sqid; /* submission queue identifier */
     uint16_t cid;  /* command identifier */
@@ -243,7 +243,7 @@ void nvmearb_sqe_encode(const nvmearb_sqe *fields, uint8_t bytes[NVMEARB_SQE_BYT
 
 /*
  * Decodes a completion queue entry: writes its fields.
- * NVMEARB_EARG if Command Dword 1 isn't 0 or one of bits 31:28 of Command Dword 3 is set, which have no field.
+ * NVMEARB_EARG if Dword 1 isn't 0 or one of bits 31:28 of Dword 3 is set, which have no field.
  */
 uint32_t nvmearb_cqe_decode(const uint8_t bytes[NVMEARB_CQE_BYTES], nvmearb_cqe *fields);
 
@@ -268,7 +268,7 @@ uint32_t nvmearb_outcome(const nvmearb_sqe *entry, const uint64_t *sizes, size_t
  *   0/02, Invalid Field in Command: FUSE isn't 0; PSDT isn't 0, so that it asks for SGLs or is reserved
  *   0/01, Invalid Command Opcode: the command is no Flush, Write or Read
  *   0/02: NSID is FFFFFFFFh, and the command is no Flush. A Flush with this NSID succeeds
- *   0/0B, Invalid Namespace or Format: NSID is 0 or above `count`
+ *   0/0b, Invalid Namespace or Format: NSID is 0 or above `count`
  *   0/02: NSID is inactive
  *   0/80, LBA Out of Range: SLBA + NLB + 1 of a Write or Read is more than the size
  * With PSDT 0, over at most NVMEARB_MAX_NAMESPACES namespaces that are all active, it is the status that
@@ -460,7 +460,7 @@ uint32_t nvmearb_board_set(nvmearb_board *board, uint32_t cdw11);
  *
  * The order of calls, with a table and a board; rings, doorbells, phase tags, interrupts and data are the caller's:
  *
- *   1. nvmearb_is_of_this_header.
+ *   1. nvmearb_is_of_this_header, which answers 0 for an unproved library too (NVMEARB_UNPROVED).
  *   2. nvmearb_table_init. Add a region of each kind for the admin queue, then one for each ring that a Create command
  *      may name.
  *   3. nvmearb_board_init, and nvmearb_board_open for queue 0.
@@ -509,7 +509,7 @@ typedef struct nvmearb_table {
 
 /*
  * The verdict on an admin command: what the caller does before it answers the command. All but NVMEARB_DONE mean
- * success, and all but NVMEARB_DONE and NVMEARB_ABORT are answered with 0 as Command Dword 0.
+ * success, and all but NVMEARB_DONE and NVMEARB_ABORT are answered with 0 as Dword 0.
  */
 #define NVMEARB_DONE 0u            /* nothing: answer with `status` and `dw0` */
 #define NVMEARB_OPEN_SQ 1u         /* a submission queue was created: fetch from it (nvmearb_board_open) */
@@ -522,7 +522,7 @@ typedef struct nvmearb_table {
 /* The answer to an admin command. A field that a verdict of its kind doesn't have is 0. */
 typedef struct nvmearb_answer {
     uint32_t verdict;      /* NVMEARB_DONE .. NVMEARB_ABORT */
-    uint32_t dw0;          /* Command Dword 0 of its completion; NVMEARB_ABORT: 0, and the caller decides */
+    uint32_t dw0;          /* Dword 0 of its completion; NVMEARB_ABORT: 0, and the caller decides */
     uint32_t cdw11;        /* NVMEARB_SET_ARBITRATION: the settings, with bits 07:03 as 0 */
     uint16_t qid;          /* the queue identifier; NVMEARB_ABORT: SQID, the command's submission queue */
     uint16_t region;       /* NVMEARB_OPEN_SQ, NVMEARB_OPEN_CQ: the number of its region; anywhere, its identifier */
@@ -669,14 +669,14 @@ typedef struct nvmearb_ctrl {
     uint64_t words[764];
 } nvmearb_ctrl;
 
-/* What a controller is made with. */
+/* What a controller is made with. A depth isn't the size of a ring (nvmearb_ctrl_set_depth). */
 typedef struct nvmearb_config {
     nvmearb_region asq, acq; /* the admin queues: ASQ and ACQ; slots are the fields of AQA plus 1 */
     uint32_t mechanism;      /* CC.AMS 000b: NVMEARB_ROUND_ROBIN, 001b: NVMEARB_WEIGHTED */
     uint32_t cdw11;          /* the Arbitration feature; bits 07:03 are ignored */
     uint16_t nsq, ncq;       /* the most I/O submission and completion queues, 1 to NVMEARB_MAX_IO_QUEUES */
-    uint16_t depth;          /* that of each I/O submission queue, 1 to NVMEARB_MAX_DEPTH (nvmearb_ctrl_set_depth) */
-    uint16_t admin_depth;    /* that of the admin queue, above the number of event requests that the device holds */
+    uint16_t depth;          /* the most commands with a slot of an I/O submission queue, 1 to NVMEARB_MAX_DEPTH */
+    uint16_t admin_depth;    /* of the admin queue, above the number of event requests that the device holds */
 } nvmearb_config;
 
 /* What a Create command may ask for where queues may lie anywhere in memory. */
@@ -721,7 +721,7 @@ typedef struct nvmearb_command {
 } nvmearb_command;
 
 /*
- * The marks of a completion, beside its status: bits 31 and 30 of Command Dword 3. A host that finds Do Not Retry
+ * The marks of a completion, beside its status: bits 31 and 30 of Dword 3. A host that finds Do Not Retry
  * doesn't submit the same command again; without it Linux submits a failing Read six times. What a controller answers
  * itself has Do Not Retry for the statuses 0/01, 0/02, 0/0c, 0/13, 1/00, 1/01, 1/02, 1/08 and 1/0d, for no other, and
  * never More.
@@ -796,9 +796,9 @@ uint32_t nvmearb_ctrl_add_cq_region(nvmearb_ctrl *ctrl, uint64_t address, uint16
  * a feature identifier with 0/02, Invalid Field in Command.
  *
  * The controller aborts a command that waits: it is answered with 0/07, Command Abort Requested. An Abort that names
- * any other command is answered with 1 as Command Dword 0, not aborted, unless NVMEARB_OPC_ABORT was announced here.
+ * any other command is answered with 1 as Dword 0, not aborted, unless NVMEARB_OPC_ABORT was announced here.
  * Then it is passed on to the device, which looks up the tag of that command by nvmearb_ctrl_named, ends it if it can
- * (with 0/07), and completes the Abort with 0 as Command Dword 0, or 1 where it couldn't. Where the host has more
+ * (with 0/07), and completes the Abort with 0 as Dword 0, or 1 where it couldn't. Where the host has more
  * Aborts out than Identify allows (ACL), the device completes one with 1/03, Abort Command Limit Exceeded.
  * capi/examples/admin.c ends Asynchronous Event Requests so.
  * NVMEARB_ESTATE if `ctrl` isn't valid.
@@ -815,11 +815,12 @@ uint32_t nvmearb_ctrl_own_feature(nvmearb_ctrl *ctrl, uint8_t fid);
 
 /*
  * From now on at most `depth` commands of a submission queue hold a slot, each from its fetch until its completion is
- * posted: those that wait, and those that are picked, with the device, or to be posted. Call it before the queue is
- * created: an identifier keeps its depth until the next call, or until the controller is made anew, whatever is created
- * and deleted. Where more commands hold a slot already, nothing is fetched of the queue until fewer do. The depth of the
- * admin queue has to be above the number of Asynchronous Event Requests that the device holds, or no admin command is
- * fetched any more.
+ * posted: those that wait, and those that are picked, with the device, or to be posted. It takes the place of the depth
+ * that nvmearb_config says. Call it at any time, best before the queue is created. An identifier keeps its depth until
+ * the next call, or until the controller is made anew, whatever is created and deleted. Where more commands hold a slot
+ * already, nothing is fetched of the queue until fewer do. A depth may be above the number of slots, but then queues
+ * share them (nvmearb_slot). `qid` 0 is the admin queue, whose depth has to be above the number of Asynchronous Event
+ * Requests that the device holds, or no admin command is fetched any more.
  * NVMEARB_ESTATE if `ctrl` isn't valid; otherwise NVMEARB_EARG if `qid` is above NVMEARB_MAX_IO_QUEUES or `depth` isn't 1
  * to NVMEARB_MAX_DEPTH.
  */
@@ -911,7 +912,7 @@ uint32_t nvmearb_ctrl_pick(nvmearb_ctrl *ctrl, nvmearb_slot *slots, size_t count
 uint32_t nvmearb_ctrl_take(nvmearb_ctrl *ctrl, nvmearb_slot *slots, size_t count, nvmearb_command *command);
 
 /*
- * The device completes a command, whose completion is ready then. `dw0` is its Command Dword 0.
+ * The device completes a command, whose completion is ready then. `dw0` is Dword 0 of its completion.
  * NVMEARB_ESTATE, NVMEARB_EARG as nvmearb_ctrl_fetched; NVMEARB_EARG too if `status->sct` is above 7; otherwise
  * NVMEARB_NONE if the device has no command of this tag: none was taken under it, or it is completed already.
  */
@@ -936,7 +937,7 @@ uint32_t nvmearb_ctrl_post(nvmearb_ctrl *ctrl, nvmearb_slot *slots, size_t count
  * Finishes a deletion of a submission queue, all of whose commands have their completions posted, and writes its
  * identifier, which is free then. The completion of the Delete is ready then. Of several it is the first one by
  * identifier. From the pick of the Delete until here nothing is fetched or picked of the queue, the Delete isn't
- * answered, and a Delete of its completion queue is refused (1/0C, Invalid Queue Deletion): also one that came with it,
+ * answered, and a Delete of its completion queue is refused (1/0c, Invalid Queue Deletion): also one that came with it,
  * if this isn't done at once. What the device has of the queue may still be completed and posted. Other queues go on,
  * the admin queue among them, and further deletions may begin: each waits for the commands of its own queue.
  * NVMEARB_ESTATE, NVMEARB_EARG as nvmearb_ctrl_fetched; otherwise NVMEARB_NONE if of each queue that is being deleted a
@@ -1008,8 +1009,8 @@ uint32_t nvmearb_ctrl_seen(const nvmearb_ctrl *ctrl, uint16_t qid, nvmearb_seen 
 uint32_t nvmearb_ctrl_verify(const nvmearb_ctrl *ctrl, const nvmearb_slot *slots, size_t count);
 
 /*
- * Returns 1 if the library is the one of this header, of its version and with states of its sizes, and else 0. Make no
- * other call of a library of another header.
+ * Returns 1 if the library is the one of this header, of its version and with states of its sizes, and else 0, so also for
+ * an unproved one (NVMEARB_UNPROVED). Make no other call of a library of another header.
  */
 static inline int nvmearb_is_of_this_header(void)
 {

@@ -137,7 +137,7 @@ static int post(struct device *d, uint16_t cqid)
         if (!entry)
             return 0;
         memcpy(entry, post.bytes, 12);
-        /* a host on another thread wants a release barrier here: Command Dword 3 has the phase tag */
+        /* a host on another thread wants a release barrier here: Dword 3 has the phase tag */
         memcpy(entry + 12, post.bytes + 12, 4);
     }
     return did;

@@ -4,7 +4,7 @@
 #include <errno.h>
 #include <stdlib.h>
 
-/* By Command Dword 10. The value is in Command Dwords 11 and 12, or comes in Command Dword 0. */
+/* By Command Dword 10. The value is in Command Dwords 11 and 12, or comes in Dword 0 of the completion. */
 enum { RATE, BAD_BLOCK, WEIGHTED, CLASS, BAD_READS, ABORTED, RESETS, LATE, LATE_ONES, MOST, RESIZE, MOVE, INTERRUPTS };
 
 struct late {

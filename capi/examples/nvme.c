@@ -30,7 +30,7 @@ static void fetch(struct nvme *d, uint16_t qid)
     }
 }
 
-/* Writes a completion into its slot, Command Dword 3 last. Returns 0 where that isn't memory. */
+/* Writes a completion into its slot, Dword 3 last. Returns 0 where that isn't memory. */
 static int put_completion(struct nvme *d, uint64_t at, nvmearb_post *it)
 {
     if (!copy(d, at, it->bytes, 12, 1))

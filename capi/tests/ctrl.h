@@ -107,7 +107,7 @@ static inline int completes_with(uint16_t tag, nvmearb_status status, unsigned m
 
 /*
  * A completion is posted to a completion queue with these fields, by a submission queue of the same identifier. `top` is
- * bits 31:28 of Command Dword 3: 8 is Do Not Retry, and 4 is More.
+ * bits 31:28 of Dword 3: 8 is Do Not Retry, and 4 is More.
  */
 static inline int posted_with(uint16_t cqid, uint16_t slot, uint16_t sqhd, uint16_t cid, uint8_t phase,
                               nvmearb_status status, uint32_t dw0, unsigned top)

@@ -85,7 +85,7 @@ static void refused_completions(void)
     CHECK(nvmearb_cqe_decode(bytes, &entry) == NVMEARB_EARG); /* Do Not Retry is set */
     bytes[15] = 0;
     bytes[4] = 1;
-    CHECK(nvmearb_cqe_decode(bytes, &entry) == NVMEARB_EARG); /* Command Dword 1 isn't 0 */
+    CHECK(nvmearb_cqe_decode(bytes, &entry) == NVMEARB_EARG); /* Dword 1 isn't 0 */
     CHECK(memcmp(&entry, &before, sizeof entry) == 0);
     bytes[4] = 0;
     CHECK(nvmearb_cqe_decode(bytes, &entry) == NVMEARB_OK);

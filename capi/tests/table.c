@@ -43,7 +43,7 @@ static int is_refused(nvmearb_table *table, uint16_t opcode, uint64_t prp1, uint
            a.qid == 0 && a.region == 0 && a.cqid == 0 && a.priority == 0 && a.cid == 0 && memcmp(&before, table, sizeof before) == 0;
 }
 
-/* Whether an entry is accepted with a verdict over a queue, and Command Dword 0. */
+/* Whether an entry is accepted with a verdict over a queue, and Dword 0. */
 static int comes_to(nvmearb_answer a, uint32_t verdict, uint16_t qid, uint16_t region, uint32_t dw0)
 {
     return a.verdict == verdict && a.qid == qid && a.region == region && a.dw0 == dw0 && a.status.sct == 0 && a.status.sc == 0;

@@ -143,7 +143,7 @@ impl Device {
                 }
             };
             entry[..12].copy_from_slice(&post.bytes[..12]);
-            // a host on another thread wants a release barrier here: Command Dword 3 has the phase tag
+            // a host on another thread wants a release barrier here: Dword 3 has the phase tag
             entry[12..].copy_from_slice(&post.bytes[12..]);
         }
         did

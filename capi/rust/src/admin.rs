@@ -100,7 +100,7 @@ impl Admin {
 pub struct Answer {
     /// The status of its completion: success with every verdict but [`Verdict::Done`], which has any.
     pub status: Status,
-    /// Command Dword 0 of its completion.
+    /// Dword 0 of its completion.
     pub dw0: u32,
     /// What the caller of a table does before it answers the command.
     pub verdict: Verdict,
@@ -153,7 +153,7 @@ pub enum Verdict {
     },
     /// The oldest waiting command with this identifier in this queue is to be aborted. If one waits, the caller takes
     /// it out ([`Board::went`](crate::Board::went)) and answers it with [`Status::ABORT_REQUESTED`]. Otherwise it
-    /// answers the Abort with 1 as Command Dword 0.
+    /// answers the Abort with 1 as Dword 0.
     Abort {
         /// The submission queue of the command.
         sqid: u16,

@@ -309,7 +309,7 @@ impl<S: Slots> Controller<S> {
     /// controller doesn't look at.
     ///
     /// An Abort, 08h, is the device's where it was announced and names no command that waits. The device finds the tag
-    /// of that command by [`Controller::named`], ends it if it can, and completes the Abort with 0 as Command Dword 0,
+    /// of that command by [`Controller::named`], ends it if it can, and completes the Abort with 0 as Dword 0,
     /// or 1 where it couldn't. One that isn't the device's is answered with 1 where no command waits.
     pub fn own_opcode(&mut self, opcode: u8) {
         // SAFETY: references.
@@ -435,7 +435,7 @@ impl<S: Slots> Controller<S> {
         command.as_ref().map(Command::of)
     }
 
-    /// The device completes a command, whose completion is ready then. `dw0` is its Command Dword 0.
+    /// The device completes a command, whose completion is ready then. `dw0` is its Dword 0.
     ///
     /// [`Error::Missing`]: the device has no command of this tag: none was taken under it, or it is completed already.
     pub fn complete(&mut self, tag: Tag, status: Status, dw0: u32) -> Result<(), Error> {

@@ -258,7 +258,7 @@ impl fmt::Display for Status {
 /// The fields of a completion queue entry. CRD, More and Do Not Retry have none: [`Cqe::to_bytes`] writes 0.
 #[derive(Clone, Copy, Debug, Default, PartialEq, Eq, Hash)]
 pub struct Cqe {
-    /// Command Dword 0.
+    /// Dword 0, command specific.
     pub dw0: u32,
     /// The submission queue head pointer: the index of a slot.
     pub sqhd: u16,
@@ -275,7 +275,7 @@ pub struct Cqe {
 impl Cqe {
     /// Decodes a completion queue entry.
     ///
-    /// [`Error::Argument`]: Command Dword 1 isn't 0, or one of bits 31:28 of Command Dword 3 is set, which have no
+    /// [`Error::Argument`]: Dword 1 isn't 0, or one of bits 31:28 of Dword 3 is set, which have no
     /// field.
     pub fn from_bytes(bytes: &[u8; CQE_BYTES]) -> Result<Cqe, Error> {
         // SAFETY: references.

@@ -73,13 +73,13 @@ fn passed_on(ctrl: &mut Controller, entry: Sqe) -> Tag {
     taken_entry(ctrl, entry)
 }
 
-/// A completion is posted to a completion queue: its slot, SQHD, command identifier, phase tag, status and Command Dword 0. It has
+/// A completion is posted to a completion queue: its slot, SQHD, command identifier, phase tag, status and Dword 0. It has
 /// neither mark.
 fn posted(ctrl: &mut Controller, cqid: u16, want: (u16, u16, u16, bool, Status, u32)) {
     posted_with(ctrl, cqid, want, Marks::default());
 }
 
-/// So with its marks, which are bits 31 and 30 of Command Dword 3.
+/// So with its marks, which are bits 31 and 30 of Dword 3.
 fn posted_with(ctrl: &mut Controller, cqid: u16, want: (u16, u16, u16, bool, Status, u32), marks: Marks) {
     let post = ctrl.post(cqid).expect("a completion is ready");
     let mut bytes = post.bytes;

@@ -52,7 +52,7 @@ fn completions_with_bits_of_no_field_are_refused() {
     bytes[15] = 0x10;
     assert_eq!(Cqe::from_bytes(&bytes), Err(Error::Argument));
     bytes = [0; 16];
-    bytes[4] = 1; // Command Dword 1
+    bytes[4] = 1; // Dword 1
     assert_eq!(Cqe::from_bytes(&bytes), Err(Error::Argument));
     assert_eq!(Cqe::from_bytes(&[0; 16]), Ok(Cqe::default()));
 }
