@@ -2,3 +2,4 @@ mod Configurations
 mod Queues
 mod Refusals
 mod MarkedEntries
+mod SlotsOfTags

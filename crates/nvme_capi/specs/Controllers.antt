@@ -1,5 +1,5 @@
 -- What a controller of C is, and what its calls write, in the library's terms (profile).
-use Rattle.std.specs.Prelude.{◌≡◌, ℕ, ◌/◌, ◌%◌, ◌==◌, ◌&&◌, nat_lt, nat_le, Bool, true, false, if◌then◌else◌, List, [], length, Option, None}
+use Rattle.std.specs.Prelude.{◌≡◌, ℕ, ◌/◌, ◌%◌, ◌==◌, ◌&&◌, nat_lt, nat_le, Bool, true, false, if◌then◌else◌, List, [], length, Option, None, IsSomeAnd}
 use Rattle.std.specs.Int.{is_power_of_two}
 use Rattle.nvme_entry.specs.Bits.{bits_of, dword}
 use Rattle.nvme_entry.specs.declared.completion.Cqe.{Cqe}
@@ -11,7 +11,9 @@ use Rattle.nvme_admin.specs.declared.limits.Limits.{Limits}
 use Rattle.nvme_log.specs.Rules.{FrontRules}
 use Rattle.nvme_log.specs.Answers.{Answer}
 use Rattle.nvme_ctrl.specs.Notes.{Notes}
-use Rattle.nvme_ctrl.specs.Standing.{Stands, IsController}
+use Rattle.nvme_ctrl.specs.Standing.{Stands, IsController, has_arbiter}
+use Rattle.nvme_ctrl.specs.Tags.{is_out}
+use Rattle.nvme_ctrl.specs.Generations.{tag_at, tag_of, slot_of, number_of}
 use Rattle.nvme_ctrl.specs.Making.{first_rules, anywhere_rules}
 use Rattle.nvme_ctrl.specs.Calls.{HasPosted}
 use Rattle.nvme_ctrl.specs.Posts.{IsPostOf}
@@ -50,7 +52,12 @@ has_slots s slots = length slots == s.count
 abbrev pub StaysMade : CtrlState → CtrlState → Type 0
 StaysMade old new = (new.mark ≡ old.mark) × (new.count ≡ old.count)
 
--- what the calls ask of their caller and keep: with these slots a controller that was made is one that its calls made. The caller writes into neither
+-- what arbitration keeps is in its ranges, too: of any bytes a pick asks no more
+abbrev pub is_whole : CtrlState → Bool
+is_whole s = is_ctrl s && has_arbiter s.ctrl
+
+-- what the calls keep: with these slots a controller that was made is one that its calls made. Where the caller wrote into one of them, a call reads and
+-- writes what it is given all the same, and no more
 pub record IsKept (s : CtrlState) (slots : List Slot) : Type 0 where
   pub front : is_ctrl s ≡ true → has_slots s slots ≡ true → IsController s.ctrl slots
 
@@ -91,9 +98,13 @@ pub record IsMadeAnywhereOf (f : ConfigFields) (p : PlacementFields) (sizes : Li
   pub stands : Stands (anywhere_rules (mechanism_of f.mechanism) (settings_of f.cdw11) limits (record { page = p.page; mqes = p.mqes; vectors = p.vectors }) f.asq f.acq sizes) false [] c slots
 
 -- ---- commands
--- a command is the one in the slot of a tag, with what the caller keeps with it
+-- the device has the command of a tag, which isn't used up
+abbrev pub IsOutUnder : Notes → List Slot → (tag : ℕ) → Type 0
+IsOutUnder notes slots tag = IsSomeAnd (slot_of slots (tag_of tag)) (λ slot. is_out notes slot ≡ true)
+
+-- a command is the one in a slot, under its tag, with what the caller keeps with it
 pub record IsCommandIn (slots : List Slot) (tag : ℕ) (f : CommandFields) : Type 0 where
-  pub tag_is : f.tag ≡ tag
+  pub tag_is : tag_of f.tag ≡ tag_at slots tag
   pub entry : f.entry ≡ (slot_at slots tag).entry
   pub cookie_is : f.cookie ≡ (slot_at slots tag).cookie
 
@@ -161,4 +172,5 @@ pub record IsPostIn (slots : List Slot) (f : PostFields) : Type 0 where
   pub cqe : Cqe
   pub marks : Marks
   pub layout : IsMarkedEntry f.bytes cqe marks
-  pub command : IsPostOf (slot_at slots f.tag) cqe f.cookie marks
+  pub tag_is : tag_of f.tag ≡ tag_at slots (tag_of f.tag).slot
+  pub command : IsPostOf (slot_at slots (tag_of f.tag).slot) cqe f.cookie marks

@@ -32,7 +32,7 @@ pub const TABLE_BYTES: u32 = 2768;
 pub const CTRL_BYTES: u32 = 6128;
 
 /// Those of a slot of a controller.
-pub const SLOT_BYTES: u32 = 80;
+pub const SLOT_BYTES: u32 = 88;
 
 /// The version of the library in one number, as `NVMEARB_VERSION` is that of the header: the major number from bit 16
 /// up, the minor number in bits 8 to 15, and the patch number in bits 0 to 7.

@@ -118,17 +118,6 @@ module _ (rules : FrontRules) (late : Bool) (notes : Notes) (a : Controller) (sl
   may_abort : IsAbortable told k sqid cid
   may_abort e io is not_closing = abortable io e is not_closing
 
-  pub aborts_may : MayAbort a slots sqid cid
-  aborts_may = record {
-    rules = rules;
-    notes = told;
-    content = k;
-    items = h.items;
-    keeps = keeps_told rules late notes a slots tag did v h (record { status = success; dw0 = 0 });
-    none_picked = h.none_picked;
-    may = may_abort;
-  }
-
   -- ---- where none is found
   none_there : HasNoneNamed k sqid cid → (queue : Queue) → target_of (logged notes) sqid ≡ Some queue
       → (oldest_named cid (k.sq queue.region).window ≡ None) × (oldest_named cid (h.before.sq queue.region).window ≡ None)
@@ -190,10 +179,10 @@ module _ (rules : FrontRules) (late : Bool) (notes : Notes) (a : Controller) (sl
   -- none was there
   pub carried_none : (m : Controller) (mid : List Slot) (found : Bool) (dw0 : ℕ)
       → (found ≡ false → (m ≡ a) × (mid ≡ slots))
-      → ((rules : FrontRules) (notes : Notes) (k : Content) (g : Items) → found ≡ false → Keeps rules notes a slots k g → a.picked ≡ 0 → HasNoneNamed k sqid cid)
+      → ((rules : FrontRules) (notes : Notes) (k : Content) (g : Items) → found ≡ false → Keeps rules notes a slots k g → a.picked ≡ 0 → IsAbortable notes k sqid cid → HasNoneNamed k sqid cid)
       → found ≡ false → dw0 ≡ 1 → (b : Controller) (pool : List Slot) → KeepsEnd m mid tag success dw0 b pool → HasCarriedOut rules late notes v b pool
   carried_none m mid found dw0 same none is one b pool end =
-      ended_none (none rules told k h.items is (keeps_told rules late notes a slots tag did v h (record { status = success; dw0 = 0 })) h.none_picked) b pool
+      ended_none (none rules told k h.items is (keeps_told rules late notes a slots tag did v h (record { status = success; dw0 = 0 })) h.none_picked may_abort) b pool
       (subst (λ (n : ℕ). KeepsEnd a slots tag success n b pool) one
       (subst (λ (z : Controller). KeepsEnd z slots tag success dw0 b pool) (same is).0
       (subst (λ (z : List Slot). KeepsEnd m z tag success dw0 b pool) (same is).1 end)))

@@ -54,6 +54,7 @@ pub mod AdminEvents
 pub mod Standing
 pub mod Still
 pub mod Pools
+pub mod Generations
 pub mod Chains
 pub mod QueueStates
 pub mod Lives

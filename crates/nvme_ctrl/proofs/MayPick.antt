@@ -1,10 +1,10 @@
 -- What the board would pick, cut to the room that there is, may be picked.
 use Rattle.std.proofs.Common.{◌≡◌, ℕ, zero, suc, ◌-◌, ◌≤◌, List, Option, Some, refl, sym, ap, ◌∙◌, subst, arith}
-use Rattle.std.specs.Prelude.{option_map, IsSomeAnd}
+use Rattle.std.specs.Prelude.{option_map, IsSomeAnd, IsTrue}
 use Rattle.nvme_arbiter.specs.Settings.{ArbitrationFields}
 use Rattle.nvme_arbiter.specs.History.{History}
 use Rattle.nvme_arbiter.specs.Lawful.{lawful_pick, limited_pick, cut, IsCutOf}
-use Rattle.nvme_arbiter.specs.Layout.{board_of}
+use Rattle.nvme_arbiter.specs.Layout.{board_of, is_arbiter}
 use Rattle.nvme_arbiter.specs.Queues.{seen_of}
 use Rattle.nvme_arbiter.specs.Standing.{pick_of}
 use Rattle.nvme_arbiter.specs.declared.pick.Pick.{Pick}
@@ -27,9 +27,10 @@ pub some_room : (room : ℕ) → (room ≡ 0 → ⊥) → 1 ≤ room
 some_room zero none = absurd (none refl)
 some_room (suc room) none = omega arith
 
-pub can_pick : (c : Controller) (slots : List Slot) (whole pick : Pick) (room : ℕ) → IsController c slots → c.picked ≡ 0
-    → pick_of (board_of c.board).kept (seen_of (board_of c.board).queues) ≡ Some whole → pick ≡ cut room whole → 1 ≤ room → CanPickNow c slots pick
-can_pick c slots whole pick room front none peeked is one =
+-- a controller picks some
+some_picked : (c : Controller) (slots : List Slot) (whole pick : Pick) (room : ℕ) → IsController c slots
+    → pick_of (board_of c.board).kept (seen_of (board_of c.board).queues) ≡ Some whole → pick ≡ cut room whole → 1 ≤ room → 1 ≤ pick.n
+some_picked c slots whole pick room front peeked is one =
     let s = front.stands in
     let m : Mechanism = front.rules.mechanism in
     let first : ArbitrationFields = front.rules.start.settings in
@@ -39,12 +40,17 @@ can_pick c slots whole pick room front none peeked is one =
     let lawful : lawful_pick m first h seen ≡ Some whole = sym (lawful_where_stands m first h (board_of c.board).kept seen stands.stands) ∙ peeked in
     let limited : limited_pick room m first h seen ≡ Some pick = ap (option_map (cut room)) lawful ∙ ap (λ (p : Pick). Some p) (sym is) in
     let it = limits_are_picks room m first h seen pick stands.observed one limited in
+    it.0.some
+
+pub can_pick : (c : Controller) (slots : List Slot) (whole pick : Pick) (room : ℕ) → IsTrue (is_arbiter c.board.arbiter) → c.picked ≡ 0
+    → pick_of (board_of c.board).kept (seen_of (board_of c.board).queues) ≡ Some whole → pick ≡ cut room whole → 1 ≤ room → CanPickNow c slots pick
+can_pick c slots whole pick room arbiter none peeked is one =
     let is_cut : IsCutOf whole pick = subst (λ (p : Pick). IsCutOf whole p) (sym is) (record { qid = refl; fresh = refl; few = omega arith }) in
     record {
-      front = front;
+      arbiter = arbiter;
       none_picked = none;
       next = subst (λ (o : Option Pick). IsSomeAnd o (λ w. IsCutOf w pick)) (sym peeked) is_cut;
-      some = it.0.some;
+      some = λ front. some_picked c slots whole pick room front peeked is one;
     }
 
 -- it is the next pick within the room

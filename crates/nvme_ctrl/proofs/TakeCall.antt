@@ -41,7 +41,7 @@ slice_get-next (y ∷ xs) x ys = slice_get-next xs x ys
 
 -- ---- what is so afterwards
 abbrev pub took_slot : Slot → Slot
-took_slot slot = record slot { state = 2 }
+took_slot slot = record slot { state = 2; generation = (slot.generation + 1) % 65536 }
 
 abbrev pub took_pool : List Slot → ℕ → List Slot
 took_pool slots tag = put_item slots tag (took_slot (slot_at slots tag))
@@ -438,6 +438,17 @@ module _ (rules : FrontRules) (late : Bool) (notes : Notes) (c : Controller) (sl
               (subst (All (λ (y : Item). IsUnanswered notes y.place)) is (s.tags.windows_unanswered (picked_region c s.content)));
           stands = take-first it rest is chain (others it.tag (tags_of rest) linked);
         })
+
+  -- the pool has its slot
+  pub take-inside : (tag : ℕ) → ((x : ℕ) (rest : List ℕ) → IsChain slots (sq_at c.sqs c.picked_qid).window (x ∷ rest) → Some tag ≡ Some x) → tag < length slots
+  take-inside tag first = by (s.items.windows (picked_region c s.content)) refl where
+    by : (ws : List Item) → s.items.windows (picked_region c s.content) ≡ ws → tag < length slots
+    by [] is = absurd (none_there is)
+    by (it ∷ rest) is =
+        let linked : IsChain slots (sq_at c.sqs c.picked_qid).window (tags_of (it ∷ rest)) =
+        subst (λ (ws : List Item). IsChain slots (sq_at c.sqs c.picked_qid).window (tags_of ws)) is picked_chain in
+        subst (λ (t : ℕ). t < length slots) (sym (same_Some tag it.tag (first it.tag (tags_of rest) linked)))
+        (All-head (λ (x : ℕ). x < length slots) it.tag (tags_of rest) linked.inside)
 
   -- the chain has a first slot
   pub take-first_there : (popped : Option ℕ) → ((x : ℕ) (rest : List ℕ) → IsChain slots (sq_at c.sqs c.picked_qid).window (x ∷ rest) → popped ≡ Some x) → popped ≢ None

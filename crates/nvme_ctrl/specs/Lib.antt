@@ -3,6 +3,7 @@ pub mod Doorbells
 pub mod Marks
 pub mod Tags
 pub mod Rings
+pub mod Generations
 pub mod Own
 pub mod Observation
 pub mod Waits

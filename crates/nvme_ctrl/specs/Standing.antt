@@ -1,5 +1,6 @@
 -- A controller stands at its log, which nobody keeps (profile).
 use Rattle.std.specs.Prelude.{Bool, List}
+use Rattle.nvme_arbiter.specs.Layout.{is_arbiter}
 use Rattle.nvme_log.specs.Rules.{FrontRules}
 use Rattle.nvme_ctrl.specs.Notes.{Notes}
 use Rattle.nvme_ctrl.specs.declared.slot.Slot.{Slot}
@@ -10,6 +11,10 @@ use Rattle.nvme_ctrl.specs.kept.Kept.{StandsAt}
 -- said of the account
 abbrev pub Stands : FrontRules → Bool → Notes → Controller → List Slot → Type 0
 Stands rules late notes c slots = StandsAt rules late notes c slots
+
+-- what arbitration keeps is in its ranges, as that of each controller is
+abbrev pub has_arbiter : Controller → Bool
+has_arbiter c = is_arbiter c.board.arbiter
 
 -- a controller with its pool stands at some log
 pub record IsController (c : Controller) (slots : List Slot) : Type 0 where

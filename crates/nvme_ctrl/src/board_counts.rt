@@ -1,5 +1,5 @@
 // The counts on the board of a controller. A queue that is held has a count of 0. (profile)
-ghost use Rattle.std.specs.Prelude.{◌≡◌, ◌↔◌, ◌+◌, ◌-◌, ◌<◌, ◌≤◌, false, if◌then◌else◌, Some, IsSome, IsSomeAnd, IfSome, slice_set};
+ghost use Rattle.std.specs.Prelude.{◌≡◌, None, ◌↔◌, ◌+◌, ◌-◌, ◌<◌, ◌≤◌, false, if◌then◌else◌, Some, IsSome, IsSomeAnd, IfSome, slice_set};
 ghost use Rattle.nvme_arbiter.specs.Limits.{highest_qid, highest_count};
 ghost use Rattle.nvme_arbiter.specs.Settings.{ArbitrationFields};
 ghost use Rattle.nvme_arbiter.specs.History.{History};
@@ -9,27 +9,61 @@ ghost use Rattle.nvme_arbiter.specs.Queues.{queue_at};
 ghost use Rattle.nvme_arbiter.specs.declared.settings.Mechanism.{Mechanism};
 ghost use Rattle.nvme_arbiter.specs.declared.settings.Class.TheVariants.{Admin};
 
-use nvme_arbiter::{BoardFields, Class};
+use nvme_arbiter::{BoardFields, Class, HIGHEST_COUNT, QUEUE_LIMIT};
 
-// Counts one more waiting command in an open queue, unless it is held.
+// Counts one more waiting command in an open queue, unless it is held. A count at its highest stays.
 pub(crate) fn came(board: &mut BoardFields, qid: u16, held: bool)
-    requires { IsSomeAnd (queue_at (board_of board.old).queues qid) (λ queue. queue.count < highest_count) }
-    ensures came { IfSome (queue_at (board_of board.old).queues qid) (λ queue. board_of board.new ≡ record (board_of board.old) { queues = slice_set (board_of board.old).queues qid (Some (record queue { count = if held then queue.count else queue.count + 1 })) }) }
+    ensures came { IsSomeAnd (queue_at (board_of board.old).queues qid) (λ queue. queue.count < highest_count) → IfSome (queue_at (board_of board.old).queues qid) (λ queue. board_of board.new ≡ record (board_of board.old) { queues = slice_set (board_of board.old).queues qid (Some (record queue { count = if held then queue.count else queue.count + 1 })) }) }
     ensures arbiter { board.new.arbiter ≡ board.old.arbiter }
 {
-    board.came_n(qid, if held { 0 } else { 1 });
+    if held {
+        return;
+    }
+    if let Some(queue) = board.queue(qid) {
+        if queue.count < HIGHEST_COUNT {
+            board.came(qid);
+        }
+    }
 }
 
-// Counts one waiting command less in an open queue, unless it is held.
+// Counts one waiting command less in an open queue, unless it is held. A count of 0 stays.
 pub(crate) fn went(board: &mut BoardFields, qid: u16, held: bool)
-    requires there { IsSome (queue_at (board_of board.old).queues qid) }
-    requires some { held ≡ false → IsSomeAnd (queue_at (board_of board.old).queues qid) (λ queue. 0 < queue.count) }
-    ensures went { IfSome (queue_at (board_of board.old).queues qid) (λ queue. board_of board.new ≡ record (board_of board.old) { queues = slice_set (board_of board.old).queues qid (Some (record queue { count = if held then queue.count else queue.count - 1 })) }) }
+    ensures went { (held ≡ false → IsSomeAnd (queue_at (board_of board.old).queues qid) (λ queue. 0 < queue.count)) → IfSome (queue_at (board_of board.old).queues qid) (λ queue. board_of board.new ≡ record (board_of board.old) { queues = slice_set (board_of board.old).queues qid (Some (record queue { count = if held then queue.count else queue.count - 1 })) }) }
     ensures stands { (mechanism : Mechanism) (first : ArbitrationFields) (past : History) → BoardStandsAt mechanism first past (board_of board.old) → BoardStandsAt mechanism first past (board_of board.new) }
     ensures arbiter { board.new.arbiter ≡ board.old.arbiter }
 {
-    if !held {
-        board.went(qid);
+    if held {
+        return;
+    }
+    if let Some(queue) = board.queue(qid) {
+        if queue.count > 0 {
+            board.went(qid);
+        }
+    }
+}
+
+// Shows a queue that wasn't open, in a class of its identifier, in which no command waits.
+pub(crate) fn show_empty(board: &mut BoardFields, qid: u16, class: Class)
+    ensures opened { qid ≤ highest_qid → queue_at (board_of board.old).queues qid ≡ None → ((class ≡ Admin) ↔ (qid ≡ 0)) → board_of board.new ≡ record (board_of board.old) { queues = slice_set (board_of board.old).queues qid (Some (record { class = class; count = 0 })) } }
+    ensures stands { (mechanism : Mechanism) (first : ArbitrationFields) (past : History) → BoardStandsAt mechanism first past (board_of board.old) → BoardStandsAt mechanism first past (board_of board.new) }
+    ensures arbiter { board.new.arbiter ≡ board.old.arbiter }
+{
+    if usize::from(qid) >= QUEUE_LIMIT || matches!(class, Class::Admin) != (qid == 0) {
+        return;
+    }
+    if board.queue(qid).is_none() {
+        board.open(qid, class);
+    }
+}
+
+// Shows a queue no longer.
+pub(crate) fn hide(board: &mut BoardFields, qid: u16)
+    ensures closed { IsSome (queue_at (board_of board.old).queues qid) → board_of board.new ≡ record (board_of board.old) { queues = slice_set (board_of board.old).queues qid None } }
+    ensures stands { (mechanism : Mechanism) (first : ArbitrationFields) (past : History) → BoardStandsAt mechanism first past (board_of board.old) → BoardStandsAt mechanism first past (board_of board.new) }
+    ensures arbiter { board.new.arbiter ≡ board.old.arbiter }
+{
+    if board.queue(qid).is_some() {
+        board.close(qid);
     }
 }
 

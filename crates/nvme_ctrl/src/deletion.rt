@@ -5,10 +5,13 @@ use nvme_admin::MAX_REGIONS;
 use nvme_entry::Status;
 
 impl Controller {
-    ghost use Rattle.std.specs.Prelude.{◌≡◌, ◌≢◌, ◌⊎◌, ◌<◌, ℕ, Bool, true, false, List, length, None, IfSome};
+    ghost use Rattle.std.specs.Prelude.{◌≡◌, ◌≢◌, ◌⊎◌, ◌<◌, ℕ, Bool, true, false, List, length, None, IfSome, IsSomeAnd, IsTrue};
     ghost use Rattle.nvme_log.specs.Rules.{FrontRules};
     ghost use Rattle.nvme_ctrl.specs.Notes.{Notes};
     ghost use Rattle.nvme_ctrl.specs.Standing.{Stands, IsController};
+    ghost use Rattle.nvme_admin.specs.Standing.{sq_of};
+    ghost use Rattle.nvme_placing.specs.Telling.{content_of};
+    ghost use Rattle.nvme_ctrl.specs.Generations.{SameGenerations};
     ghost use Rattle.nvme_ctrl.specs.Own.{own_of};
     ghost use Rattle.nvme_ctrl.specs.Calls.{depths_of};
     ghost use Rattle.nvme_ctrl.specs.Steps.{HasFinished, IsFinishableAt, NoneFinishable};
@@ -22,6 +25,17 @@ impl Controller {
         ensures none { result ≡ false → ((deletion_at self.now.deletions qid).pending ≡ 0) ⊎ ((sq_at self.now.sqs qid).unposted ≢ 0) }
     {
         self.deletion(qid).pending != 0 && self.sq(qid).unposted == 0
+    }
+
+    // Whether a submission queue is closing in the table.
+    fn is_closing(&self, qid: u16) -> bool
+        ensures yes { result ≡ true → IsSomeAnd (sq_of (content_of self.now.table) qid) (λ queue. IsTrue queue.closing) }
+        ensures no { result ≡ false → IsSomeAnd (sq_of (content_of self.now.table) qid) (λ queue. IsTrue queue.closing) → ⊥ }
+    {
+        match self.table.sq(qid) {
+            Some(queue) => queue.closing,
+            None => false,
+        }
     }
 
     /// The queue whose deletion `finish` would finish, the first one of several. None where it would finish none. No queue
@@ -48,17 +62,20 @@ impl Controller {
     /// None, which changes nothing, where no deletion is pending, and while completions are to be posted of each queue that
     /// is being deleted.
     pub fn finish(&mut self, slots: &mut [Slot]) -> Option<u16>
-        requires front { IsController self.old slots.old }
-        ensures front { IsController self.new slots.new }
+        ensures front { IsController self.old slots.old → IsController self.new slots.new }
         ensures none { result ≡ None → (self.new ≡ self.old) × (slots.new ≡ slots.old) }
         ensures depths { depths_of self.new ≡ depths_of self.old }
         ensures size { length slots.new ≡ length slots.old }
+        ensures generations { SameGenerations slots.old slots.new }
         ensures own { own_of self.new ≡ own_of self.old }
         ensures told { (rules : FrontRules) (late : Bool) (notes : Notes) → Stands rules late notes self.old slots.old → result ≡ None → NoneFinishable notes }
         ensures first { (rules : FrontRules) (late : Bool) (notes : Notes) → Stands rules late notes self.old slots.old → IfSome result (λ qid. (q : ℕ) → q < qid → IsFinishableAt notes q → ⊥) }
         ensures stands { (rules : FrontRules) (late : Bool) (notes : Notes) → Stands rules late notes self.old slots.old → IfSome result (λ qid. HasFinished rules late notes qid self.new slots.new) }
     {
         let qid = self.can_finish()?;
+        if !self.is_closing(qid) {
+            return None;
+        }
         let tag = self.deletion(qid).tag;
         self.table.finish_delete(qid);
         self.put_sq(qid, SqState::none());

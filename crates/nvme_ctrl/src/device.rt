@@ -21,19 +21,21 @@ impl Controller {
     ghost use Rattle.nvme_ctrl.specs.Notes.{Notes};
     ghost use Rattle.nvme_ctrl.specs.Tags.{is_out, handed, taken};
     ghost use Rattle.nvme_ctrl.specs.Standing.{Stands, IsController};
+    ghost use Rattle.nvme_ctrl.specs.Generations.{SameGenerations, IsNextGeneration};
     ghost use Rattle.nvme_ctrl.specs.Own.{own_of};
     ghost use Rattle.nvme_ctrl.specs.Calls.{depths_of, HasTaken, HasAnswered};
     ghost use Rattle.nvme_ctrl.specs.declared.slot.Slot.{Slot};
 
-    /// The device takes the next picked command. Its slot is its tag until its completion is posted. None, which changes
+    /// The device takes the next picked command, whose slot has the next generation from then on (`Tag`). The slot holds the
+    /// command until its completion is posted. None, which changes
     /// nothing, exactly where all that was picked is taken.
     pub fn take(&mut self, slots: &mut [Slot]) -> Option<u16>
-        requires front { IsController self.old slots.old }
-        ensures front { IsController self.new slots.new }
+        ensures front { IsController self.old slots.old → IsController self.new slots.new }
         ensures none { result ≡ None → (self.new ≡ self.old) × (slots.new ≡ slots.old) }
         ensures depths { depths_of self.new ≡ depths_of self.old }
         ensures size { length slots.new ≡ length slots.old }
         ensures own { own_of self.new ≡ own_of self.old }
+        ensures generation { (rules : FrontRules) (late : Bool) (notes : Notes) → Stands rules late notes self.old slots.old → IfSome result (λ tag. IsNextGeneration slots.old slots.new tag) }
         ensures told { (rules : FrontRules) (late : Bool) (notes : Notes) → Stands rules late notes self.old slots.old → result ≡ None → handed notes ≡ taken notes }
         ensures stands { (rules : FrontRules) (late : Bool) (notes : Notes) → Stands rules late notes self.old slots.old → IfSome result (λ tag. HasTaken rules late notes tag self.new slots.new) }
     {
@@ -45,7 +47,16 @@ impl Controller {
         let tag = sq.window.pop(slots)?;
         self.put_sq(qid, sq);
         let slot = slot_at(slots, tag);
-        put_item(slots, tag, Slot { state: OUT, ..slot });
+        let generation = slot.generation.wrapping_add(1);
+        put_item(
+            slots,
+            tag,
+            Slot {
+                state: OUT,
+                generation,
+                ..slot
+            },
+        );
         self.picked -= 1;
         Some(tag)
     }
@@ -53,11 +64,11 @@ impl Controller {
     /// The device answers the command of a tag, whose completion is ready then. False, which changes nothing, exactly
     /// where the device has no command of this tag.
     pub fn complete(&mut self, slots: &mut [Slot], tag: u16, answer: Answer) -> bool
-        requires front { IsController self.old slots.old }
-        ensures front { IsController self.new slots.new }
+        ensures front { IsController self.old slots.old → IsController self.new slots.new }
         ensures refused { result ≡ false → (self.new ≡ self.old) × (slots.new ≡ slots.old) }
         ensures depths { depths_of self.new ≡ depths_of self.old }
         ensures size { length slots.new ≡ length slots.old }
+        ensures generations { SameGenerations slots.old slots.new }
         ensures own { own_of self.new ≡ own_of self.old }
         ensures answer { (rules : FrontRules) (late : Bool) (notes : Notes) → Stands rules late notes self.old slots.old → result ≡ is_out notes tag }
         ensures stands { (rules : FrontRules) (late : Bool) (notes : Notes) → Stands rules late notes self.old slots.old → result ≡ true → HasAnswered rules late notes tag (record { status = answer.status; dw0 = answer.dw0 }) answer.marks self.new slots.new }

@@ -3,7 +3,7 @@ ghost use Rattle.std.specs.Prelude.{◌≡◌};
 ghost use Rattle.nvme_entry.specs.AdminCommand.{admin_command_of};
 ghost use Rattle.nvme_ctrl.specs.Making.{slots_asked};
 
-use crate::board_counts::went;
+use crate::board_counts::{hide, show_empty, went};
 use crate::marks::{Marks, bit};
 use crate::ring::Ring;
 use crate::slot::{DELETING, DROPPED, ENDED, Slot, put_item, slot_at};
@@ -35,6 +35,7 @@ impl Controller {
     ghost use Rattle.nvme_arbiter.specs.declared.settings.Mechanism.{Mechanism};
     ghost use Rattle.nvme_arbiter.specs.declared.settings.Class.TheVariants.{Admin};
     ghost use Rattle.nvme_admin.specs.declared.verdict.Verdict.{Verdict};
+    ghost use Rattle.nvme_ctrl.specs.Generations.{SameGenerations};
     ghost use Rattle.nvme_ctrl.specs.Own.{own_of};
     ghost use Rattle.nvme_ctrl.specs.Calls.{depths_of};
     ghost use Rattle.nvme_ctrl.specs.Steps.{HasCarriedOut};
@@ -64,6 +65,7 @@ impl Controller {
         ensures kept { (rules : FrontRules) (notes : Notes) (k : Content) (g : Items) (t : Ready) → Keeps rules notes self.old slots.old k g → IsLoose slots.old g tag → MakesReady slots.old tag state status dw0 t → IsThrough notes t → IsCookie notes slots.old tag t.place → t.passed ≡ is_passed_at notes t.place → IsUnmarked notes t.place → (x : ℕ) → k.cq_life cqid ≡ Some x → k.sq_id t.place.region ≡ Some t.sqid → Keeps rules notes self.new slots.new (with_ready k x t) (with_item g x (ended tag t)) }
         ensures left { self.new ≡ record self.old { cqs = self.new.cqs } }
         ensures size { length slots.new ≡ length slots.old }
+        ensures generations { SameGenerations slots.old slots.new }
         ensures others { (y : ℕ) → y ≢ tag → item_at slots.new y ≡ item_at slots.old y }
     {
         let slot = slot_at(slots, tag);
@@ -89,13 +91,11 @@ impl Controller {
     // Opens a submission queue. (Create I/O Submission Queue)
     fn open_sq(&mut self, qid: u16, size: u16, cqid: u16, class: Class)
         requires some { 0 < size }
-        requires within { qid ≤ highest_qid }
-        requires not_open { queue_at (board_of self.old.board).queues qid ≡ None }
-        requires admin { (class ≡ Admin) ↔ (qid ≡ 0) }
-        ensures kept { (rules : FrontRules) (notes : Notes) (slots : List Slot) (k : Content) (g : Items) → (region x : ℕ) → Keeps rules notes self.old slots k g → self.old.picked ≡ 0 → IsOpenable rules notes k qid size cqid region x → Keeps rules notes self.new slots (opening k qid region x class) g }
+        ensures kept { qid ≤ highest_qid → queue_at (board_of self.old.board).queues qid ≡ None → ((class ≡ Admin) ↔ (qid ≡ 0)) → (rules : FrontRules) (notes : Notes) (slots : List Slot) (k : Content) (g : Items) → (region x : ℕ) → Keeps rules notes self.old slots k g → self.old.picked ≡ 0 → IsOpenable rules notes k qid size cqid region x → Keeps rules notes self.new slots (opening k qid region x class) g }
         ensures left { self.new ≡ record self.old { board = self.new.board; sqs = self.new.sqs } }
+        ensures arbiter { self.new.board.arbiter ≡ self.old.board.arbiter }
     {
-        self.board.open(qid, class);
+        show_empty(&mut self.board, qid, class);
         self.put_sq(
             qid,
             SqState {
@@ -132,17 +132,17 @@ impl Controller {
     // Begins the deletion of a submission queue. Its candidates are dropped: their completions are ready. The Delete is
     // answered when the deletion is finished. Other deletions may be pending. (Delete I/O Submission Queue)
     fn begin_delete(&mut self, slots: &mut [Slot], tag: u16, qid: u16)
-        requires on_board { IsSome (queue_at (board_of self.old.board).queues qid) }
         ensures depths { depths_of self.new ≡ depths_of self.old }
         ensures size { length slots.new ≡ length slots.old }
+        ensures generations { SameGenerations slots.old slots.new }
         ensures own { own_of self.new ≡ own_of self.old }
-        ensures begun { (rules : FrontRules) (notes : Notes) (k : Content) (g : Items) (region c : ℕ) (candidate : Candidate) → Keeps rules notes self.old slots.old k g → self.old.picked ≡ 0 → IsLoose slots.old g tag → (slot_at slots.old tag).entry ≡ candidate.entry → (slot_at slots.old tag).sqid ≡ 0 → answer_of notes 0 candidate.index ≡ None → IsCookie notes slots.old tag (place_at 0 candidate.index) → is_passed notes candidate.index ≡ false → IsDroppable notes k qid region c → (k.sq region).unposted + length (k.sq region).window < 2 ^ 16 → HasBegun rules notes (deleting k qid region c candidate) self.new slots.new }
+        ensures begun { IsSome (queue_at (board_of self.old.board).queues qid) → (rules : FrontRules) (notes : Notes) (k : Content) (g : Items) (region c : ℕ) (candidate : Candidate) → Keeps rules notes self.old slots.old k g → self.old.picked ≡ 0 → IsLoose slots.old g tag → (slot_at slots.old tag).entry ≡ candidate.entry → (slot_at slots.old tag).sqid ≡ 0 → answer_of notes 0 candidate.index ≡ None → IsCookie notes slots.old tag (place_at 0 candidate.index) → is_passed notes candidate.index ≡ false → IsDroppable notes k qid region c → (k.sq region).unposted + length (k.sq region).window < 2 ^ 16 → HasBegun rules notes (deleting k qid region c candidate) self.new slots.new }
     {
         let mut sq = self.sq(qid);
         sq.unposted = sq.unposted.saturating_add(sq.window.len);
         self.put_sq(qid, sq);
         self.drop_window(slots, qid);
-        self.board.close(qid);
+        hide(&mut self.board, qid);
         let slot = slot_at(slots, tag);
         put_item(
             slots,
@@ -160,6 +160,7 @@ impl Controller {
     fn drop_window(&mut self, slots: &mut [Slot], qid: u16)
         ensures dropped { (rules : FrontRules) (notes : Notes) (k : Content) (g : Items) (region c y : ℕ) → Keeps rules notes self.old slots.old k g → self.old.picked ≡ 0 → IsDroppable notes k qid region c → IsLoose slots.old g y → HasDropped rules notes (dropped k qid region c) slots.old y self.new slots.new }
         ensures size { length slots.new ≡ length slots.old }
+        ensures generations { SameGenerations slots.old slots.new }
         ensures left { self.new ≡ record self.old { sqs = self.new.sqs; cqs = self.new.cqs } }
     {
         for _ in 0..self.sq(qid).window.len {
@@ -172,6 +173,7 @@ impl Controller {
         ensures dropped { (rules : FrontRules) (notes : Notes) (k : Content) (g : Items) (region c : ℕ) (x : Item) (rest : List Item) → Keeps rules notes self.old slots.old k g → self.old.picked ≡ 0 → IsDroppable notes k qid region c → g.windows region ≡ x ∷ rest → Keeps rules notes self.new slots.new (oldest_dropped k qid region c x rest) (item_dropped g qid region c x rest) }
         ensures others { (rules : FrontRules) (notes : Notes) (k : Content) (g : Items) (region : ℕ) (x : Item) (rest : List Item) → Keeps rules notes self.old slots.old k g → k.sq_life qid ≡ Some region → g.windows region ≡ x ∷ rest → (y : ℕ) → y ≢ x.tag → item_at slots.new y ≡ item_at slots.old y }
         ensures size { length slots.new ≡ length slots.old }
+        ensures generations { SameGenerations slots.old slots.new }
         ensures left { self.new ≡ record self.old { sqs = self.new.sqs; cqs = self.new.cqs } }
     {
         let mut sq = self.sq(qid);
@@ -186,12 +188,12 @@ impl Controller {
     // Aborts the oldest waiting command with a command identifier in an open I/O submission queue. False, which changes
     // nothing, where there is no such command. (Abort)
     fn abort(&mut self, slots: &mut [Slot], sqid: u16, cid: u16) -> bool
-        requires may { MayAbort self.old slots.old sqid cid }
         ensures depths { depths_of self.new ≡ depths_of self.old }
         ensures size { length slots.new ≡ length slots.old }
+        ensures generations { SameGenerations slots.old slots.new }
         ensures own { own_of self.new ≡ own_of self.old }
         ensures none { result ≡ false → (self.new ≡ self.old) × (slots.new ≡ slots.old) }
-        ensures none_named { (rules : FrontRules) (notes : Notes) (k : Content) (g : Items) → result ≡ false → Keeps rules notes self.old slots.old k g → self.old.picked ≡ 0 → HasNoneNamed k sqid cid }
+        ensures none_named { (rules : FrontRules) (notes : Notes) (k : Content) (g : Items) → result ≡ false → Keeps rules notes self.old slots.old k g → self.old.picked ≡ 0 → IsAbortable notes k sqid cid → HasNoneNamed k sqid cid }
         ensures aborted { (rules : FrontRules) (notes : Notes) (k : Content) (g : Items) (y : ℕ) → result ≡ true → Keeps rules notes self.old slots.old k g → self.old.picked ≡ 0 → IsAbortable notes k sqid cid → IsLoose slots.old g y → HasRequested rules notes k sqid cid slots.old y self.new slots.new }
     {
         if sqid == 0 {
@@ -230,9 +232,10 @@ impl Controller {
 
     /// Carries out the effect of a picked admin command, which is in this slot.
     pub(crate) fn carry_out(&mut self, slots: &mut [Slot], tag: u16, effect: &Effect)
-        requires applied { IsApplying self.old slots.old effect.now }
+        requires arbiter { IsTrue (is_arbiter self.old.board.arbiter) }
         ensures depths { depths_of self.new ≡ depths_of self.old }
         ensures size { length slots.new ≡ length slots.old }
+        ensures generations { SameGenerations slots.old slots.new }
         ensures own { own_of self.new ≡ own_of self.old }
         ensures stands { (rules : FrontRules) (late : Bool) (notes : Notes) (verdict : Verdict) → IsApplied rules late notes self.old slots.old tag effect.now verdict → HasCarriedOut rules late notes verdict self.new slots.new }
     {

@@ -1,6 +1,6 @@
 // The fetches of a controller. (Base Specification, Command Submission and Completion Mechanism; depths and windows: profile)
 use crate::board_counts::came;
-use crate::slot::{Slot, WAITING, put_item};
+use crate::slot::{Slot, WAITING, put_item, slot_at};
 use crate::state::Controller;
 use nvme_admin::{MAX_REGIONS, SqEntry};
 use nvme_entry::Sqe;
@@ -11,6 +11,7 @@ impl Controller {
     ghost use Rattle.nvme_log.specs.Rules.{FrontRules};
     ghost use Rattle.nvme_ctrl.specs.Notes.{Notes};
     ghost use Rattle.nvme_ctrl.specs.Standing.{Stands, IsController};
+    ghost use Rattle.nvme_ctrl.specs.Generations.{SameGenerations};
     ghost use Rattle.nvme_ctrl.specs.Own.{own_of};
     ghost use Rattle.nvme_ctrl.specs.Calls.{depths_of, depth_of, MayFetch, HasFetched};
     ghost use Rattle.nvme_ctrl.specs.inside.Fetching.{IsFetchable};
@@ -68,12 +69,12 @@ impl Controller {
     /// The entry was read that `fetch` told. Its command waits then. The cookie is kept with it. False, which changes
     /// nothing, exactly where `fetch` tells none.
     pub fn fetched(&mut self, slots: &mut [Slot], qid: u16, entry: &Sqe, cookie: u32) -> bool
-        requires front { IsController self.old slots.old }
-        ensures front { IsController self.new slots.new }
+        ensures front { IsController self.old slots.old → IsController self.new slots.new }
         ensures told { (rules : FrontRules) (late : Bool) (notes : Notes) → Stands rules late notes self.old slots.old → (slot : ℕ) → MayFetch rules notes (depth_of self.old qid) (length slots.old) qid slot → result ≡ true }
         ensures depths { depths_of self.new ≡ depths_of self.old }
         ensures own { own_of self.new ≡ own_of self.old }
         ensures size { length slots.new ≡ length slots.old }
+        ensures generations { SameGenerations slots.old slots.new }
         ensures refused { result ≡ false → (self.new ≡ self.old) × (slots.new ≡ slots.old) }
         ensures stands { (rules : FrontRules) (late : Bool) (notes : Notes) → Stands rules late notes self.old slots.old → result ≡ true → HasFetched rules late notes qid entry.now cookie self.new slots.new }
     {
@@ -83,14 +84,16 @@ impl Controller {
         let Some(tag) = self.free.pop(slots) else {
             return false;
         };
+        let generation = slot_at(slots, tag).generation;
         put_item(
             slots,
             tag,
             Slot {
                 entry: *entry,
                 cookie,
-                sqid: qid as u8,
+                sqid: (qid % 256) as u8,
                 state: WAITING,
+                generation,
                 ..Slot::free()
             },
         );

@@ -13,6 +13,7 @@ ghost use Rattle.nvme_ctrl.specs.Own.{is_own, no_own, with_opcode, with_feature}
 ghost use Rattle.nvme_ctrl.specs.Making.{is_named};
 ghost use Rattle.nvme_ctrl.specs.Account.{IsLawful, IsAccount};
 ghost use Rattle.nvme_ctrl.specs.Examples.{identify, identify_fetched, identify_picked, identify_passed, identify_taken, identify_answered, identified, get_feature, set_feature, told, three_of_four, four_fetched, first_picked, first_answered, first_posted, third_answered, two_passes, succeeded, out_of_range, without_region, with_late_region, creates_fetched, create_picked, create_refused, reads_submitted, reads_waiting, read_picked, read_taken, delete_begun, aborts_posted, read_answered, reads_posted, deletion_noted, unmarked, not_retried, more_told, abort_of_read, abort_waiting, abort_picked, abort_passed, abort_taken, aborted_read, read_aborted, abort_answered, abort_done, held_and_deleted, classed_and_picked, weighted_rules, two_waiting, pick_of, two_deletions, two_closing, third_served, second_gone, both_gone};
+ghost use Rattle.nvme_ctrl.specs.Generations.{TagsAreUsedUp, TagsComeAgain};
 ghost use Rattle.nvme_ctrl.specs.Depths.{DepthsSuffice, DepthsLeaveRoom, HeldWaitOrAreUnposted};
 ghost use Rattle.nvme_ctrl.specs.Progress.{IsWithDevice, NoneWaitDeleted, ServedAwait, UnfetchedAwait, WaitingAwait, WaitsForHost, WaitsForQueue};
 ghost use Rattle.nvme_ctrl.specs.Laws.{ControllersKeepAccounts, RegionsLeaveAccounts, EventsAreAccounted, SlotsAreFetchedInOrder, CompletionsFollowAnswers, OneCompletionEach, SlotsAreFree, CompletionsTellTheHead, DeletesAreAnsweredLast, NoneFetchedAfterDeletion, NonePickedAfterDeletion, PicksAreLawful, TagsAreApart, ObservedAsInTheLog, SeenOneByOne, HeldQueuesWait, HeldQueuesWaitUntilTold, FewHoldSlots};
@@ -332,4 +333,10 @@ pub fn wrong_arrangements_are_refused()
     ensures classed_unopened { IsLawful one_deletion reads_waiting (Classed 2 Low) → ⊥ }
     ensures admin_classed { IsLawful one_deletion reads_waiting (Classed 0 Low) → ⊥ }
     ensures classed_as_admin { IsLawful one_deletion reads_waiting (Classed 1 Admin) → ⊥ }
+{}
+
+/// A tag is used up once the command of its slot was taken again, and comes again with the 65,536th such command.
+pub fn tags_are_used_up()
+    ensures used_up { TagsAreUsedUp }
+    ensures again { TagsComeAgain }
 {}

@@ -29,6 +29,7 @@ mod ranges;
 mod ring;
 mod slot;
 mod state;
+mod tag;
 
 pub use device::Answer;
 pub use lookups::Waiting;
@@ -39,3 +40,4 @@ pub use posts::Post;
 pub use ring::Ring;
 pub use slot::{Slot, slot_at};
 pub use state::Controller;
+pub use tag::Tag;

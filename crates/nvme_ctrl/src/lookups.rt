@@ -68,11 +68,12 @@ impl Controller {
     /// identifier at a time; where it does, it is the tag of either. (Base Specification, Abort; Common Command Format,
     /// Command Identifier)
     pub fn named(&self, slots: &[Slot], qid: u16, cid: u16) -> Option<u16>
-        requires front { IsController self.now slots.now }
         ensures found { (rules : FrontRules) (late : Bool) (notes : Notes) → Stands rules late notes self.now slots.now → IfSome result (λ tag. IsTagOf notes qid cid tag) }
         ensures none { (rules : FrontRules) (late : Bool) (notes : Notes) → Stands rules late notes self.now slots.now → result ≡ None → (tag : ℕ) → IsTagOf notes qid cid tag → ⊥ }
     {
-        for x in 0..slots.len() {
+        // (no controller has more)
+        let count = slots.len().min(0x1_0000);
+        for x in 0..count {
             let tag = x as u16;
             if self.is_named(&slot_at(slots, tag), qid, cid) {
                 return Some(tag);

@@ -9,6 +9,7 @@ ghost use Rattle.nvme_placing.specs.Telling.{Tells};
 ghost use Rattle.nvme_log.specs.Rules.{FrontRules, upto};
 ghost use Rattle.nvme_ctrl.specs.Standing.{Stands};
 ghost use Rattle.nvme_ctrl.specs.Calls.{depths_of, equal_depths};
+ghost use Rattle.nvme_ctrl.specs.Generations.{SameGenerations};
 ghost use Rattle.nvme_ctrl.specs.Own.{no_own, own_of};
 ghost use Rattle.nvme_ctrl.specs.inside.First.{IsFirst};
 ghost use Rattle.nvme_ctrl.specs.Making.{first_regions, admin_fault};
@@ -19,7 +20,7 @@ ghost use Rattle.nvme_ctrl.specs.kept.State.{no_sq_state, no_cq_state, no_deleti
 use crate::chain::Chain;
 use crate::own::OwnCommands;
 use crate::ring::Ring;
-use crate::slot::{Slot, put_item};
+use crate::slot::{Slot, put_item, slot_at};
 use crate::state::{Controller, CqState, Deletion, SqState};
 use nvme_admin::{AdminError, Limits, MAX_REGIONS, Region};
 use nvme_arbiter::{BoardFields, Class, Mechanism, Settings};
@@ -32,6 +33,7 @@ impl Controller {
     ghost use Rattle.nvme_ctrl.specs.Notes.{Notes};
     ghost use Rattle.nvme_ctrl.specs.Standing.{Stands, IsController};
     ghost use Rattle.nvme_ctrl.specs.Calls.{depths_of, equal_depths};
+    ghost use Rattle.nvme_ctrl.specs.Generations.{SameGenerations};
     ghost use Rattle.nvme_ctrl.specs.Own.{no_own, own_of, with_opcode, with_feature};
     ghost use Rattle.nvme_placing.specs.Telling.{placing_by, is_ring_size};
     ghost use Rattle.nvme_admin.specs.declared.region.AdminError.TheVariants.{Size};
@@ -60,6 +62,7 @@ impl Controller {
         ensures depths { IfOk result (λ c. depths_of c ≡ equal_depths depth) }
         ensures own { IfOk result (λ c. own_of c ≡ no_own) }
         ensures size { length slots.new ≡ length slots.old }
+        ensures generations { SameGenerations slots.old slots.new }
     {
         let table = first_table(settings, limits, sq, cq)?;
         Ok(first_controller(table, mechanism, settings, depth, sq.slots, cq.slots, slots))
@@ -90,6 +93,7 @@ impl Controller {
         ensures depths { IfOk result (λ c. depths_of c ≡ equal_depths depth) }
         ensures own { IfOk result (λ c. own_of c ≡ no_own) }
         ensures size { length slots.new ≡ length slots.old }
+        ensures generations { SameGenerations slots.old slots.new }
     {
         let table = PlacedTable::anywhere(limits, settings, placement, sq.slots, cq.slots)?;
         Ok(first_controller(table, mechanism, settings, depth, sq.slots, cq.slots, slots))
@@ -116,6 +120,7 @@ impl Controller {
         ensures depths { OnOk result (depths_of self.new ≡ equal_depths depth) }
         ensures own { OnOk result (own_of self.new ≡ no_own) }
         ensures size { length slots.new ≡ length slots.old }
+        ensures generations { SameGenerations slots.old slots.new }
     {
         *self = Controller::new(mechanism, settings, limits, depth, sq, cq, slots)?;
         Ok(())
@@ -200,6 +205,7 @@ fn first_controller(
     ensures depths { depths_of result ≡ equal_depths depth }
     ensures own { own_of result ≡ no_own }
     ensures size { length slots.new ≡ length slots.old }
+    ensures generations { SameGenerations slots.old slots.new }
 {
     Controller {
         table,
@@ -272,16 +278,25 @@ fn no_deletions() -> [Deletion; MAX_REGIONS]
     [Deletion::none(); MAX_REGIONS]
 }
 
-// Makes all slots free, and a chain of them.
+// Makes all slots free, and a chain of them. Their generations go on.
 fn all_free(slots: &mut [Slot]) -> Chain
     requires few { length slots.old < 2 ^ 16 }
     ensures chain { IsChain slots.new result (upto (length slots.old)) }
     ensures free { (x : ℕ) → (slot_at slots.new x).state ≡ 0 }
     ensures size { length slots.new ≡ length slots.old }
+    ensures generations { SameGenerations slots.old slots.new }
 {
     let mut free = Chain::new();
     for x in 0..slots.len() {
-        put_item(slots, x as u16, Slot::free());
+        let generation = slot_at(slots, x as u16).generation;
+        put_item(
+            slots,
+            x as u16,
+            Slot {
+                generation,
+                ..Slot::free()
+            },
+        );
         free.push(slots, x as u16);
     }
     free

@@ -24,18 +24,19 @@ pub enum Step {
 }
 
 impl Controller {
-    ghost use Rattle.std.specs.Prelude.{◌≡◌, ◌≢◌, ℕ, ◌+◌, ◌≤◌, Bool, true, false, not, List, length, Option, Some, None, IfSome};
+    ghost use Rattle.std.specs.Prelude.{◌≡◌, ◌≢◌, ℕ, ◌+◌, ◌≤◌, Bool, true, false, not, List, length, Option, Some, None, IfSome, IsTrue};
     ghost use Rattle.nvme_arbiter.specs.Layout.{board_of};
     ghost use Rattle.nvme_arbiter.specs.Queues.{seen_of};
     ghost use Rattle.nvme_arbiter.specs.Standing.{pick_of};
     ghost use Rattle.nvme_log.specs.Rules.{FrontRules};
     ghost use Rattle.nvme_ctrl.specs.Notes.{Notes, logged};
-    ghost use Rattle.nvme_ctrl.specs.Standing.{Stands, IsController};
+    ghost use Rattle.nvme_ctrl.specs.Standing.{Stands, IsController, has_arbiter};
     ghost use Rattle.nvme_arbiter.specs.declared.pick.Pick.{Pick};
     ghost use Rattle.nvme_admin.specs.declared.effect.Effect.{Effect};
     ghost use Rattle.nvme_entry.specs.declared.submission.Sqe.{Sqe};
     ghost use Rattle.nvme_entry.specs.AdminCommand.{admin_command_of};
     ghost use Rattle.nvme_entry.specs.declared.admin.AdminCommand.TheVariants as command;
+    ghost use Rattle.nvme_ctrl.specs.Generations.{SameGenerations};
     ghost use Rattle.nvme_ctrl.specs.Own.{names_none, is_own, own_of, oldest_is_own};
     ghost use Rattle.nvme_ctrl.specs.Calls.{depths_of};
     ghost use Rattle.nvme_ctrl.specs.Making.{placing_in};
@@ -45,10 +46,18 @@ impl Controller {
     ghost use Rattle.nvme_ctrl.specs.declared.slot.Slot.{Slot};
     ghost use Rattle.nvme_ctrl.specs.declared.picks.Step.TheVariants as step;
 
+    /// Whether what arbitration keeps is in its ranges. That of a controller always is.
+    pub fn has_arbiter(&self) -> bool
+        ensures value { result ≡ has_arbiter self.now }
+        ensures made { (slots : List Slot) → IsController self.now slots → result ≡ true }
+    {
+        self.board.arbiter.is_arbiter()
+    }
+
     /// The pick that arbitration makes next, of the commands that wait now. None where none waits, but in queues that are
     /// held.
     pub fn next_pick(&self, slots: &[Slot]) -> Option<Pick>
-        requires front { IsController self.now slots.now }
+        requires arbiter { IsTrue (has_arbiter self.now) }
         ensures { (rules : FrontRules) (late : Bool) (notes : Notes) → Stands rules late notes self.now slots.now → IsNextPick rules notes result }
     {
         self.board.peek()
@@ -123,6 +132,7 @@ impl Controller {
         requires of_admin { pick.qid ≡ 0 }
         ensures depths { depths_of self.new ≡ depths_of self.old }
         ensures size { length slots.new ≡ length slots.old }
+        ensures generations { SameGenerations slots.old slots.new }
         ensures names { (rules : FrontRules) (late : Bool) (notes : Notes) → Stands rules late notes self.old slots.old → placing_in rules ≡ None → NamesQueues (logged notes) result.0 }
         ensures own { own_of self.new ≡ own_of self.old }
         ensures commanded { (rules : FrontRules) (late : Bool) (notes : Notes) → Stands rules late notes self.old slots.old → IsVerdictOf (admin_command_of result.1) (verdict_in result.0) }
@@ -146,8 +156,8 @@ impl Controller {
     /// waits never is: the controller ends that command. Any other Abort is, where its opcode was announced. (Command
     /// Arbitration, Abort)
     pub fn pick(&mut self, slots: &mut [Slot], room: u16) -> Step
-        requires front { IsController self.old slots.old }
-        ensures front { IsController self.new slots.new }
+        requires arbiter { IsTrue (has_arbiter self.old) }
+        ensures front { IsController self.old slots.old → IsController self.new slots.new }
         ensures idle { result ≡ step.Idle → (self.new ≡ self.old) × (slots.new ≡ slots.old) }
         ensures busy { result ≡ step.Busy → (self.new ≡ self.old) × (slots.new ≡ slots.old) }
         ensures taken { (rules : FrontRules) (late : Bool) (notes : Notes) → Stands rules late notes self.old slots.old → IsBusy notes → result ≡ step.Busy }
@@ -159,6 +169,7 @@ impl Controller {
         ensures names { (rules : FrontRules) (late : Bool) (notes : Notes) → Stands rules late notes self.old slots.old → placing_in rules ≡ None → (effect : Effect) (entry : Sqe) → result ≡ step.Done effect entry → NamesQueues (logged notes) effect }
         ensures depths { depths_of self.new ≡ depths_of self.old }
         ensures size { length slots.new ≡ length slots.old }
+        ensures generations { SameGenerations slots.old slots.new }
         ensures own { own_of self.new ≡ own_of self.old }
         ensures stands { (rules : FrontRules) (late : Bool) (notes : Notes) → Stands rules late notes self.old slots.old → HasStepped rules late notes room result self.new slots.new }
     {

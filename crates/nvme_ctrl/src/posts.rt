@@ -39,6 +39,7 @@ impl CqState {
 }
 
 impl Controller {
+    ghost use Rattle.nvme_ctrl.specs.Generations.{SameGenerations};
     ghost use Rattle.nvme_ctrl.specs.Own.{own_of};
     ghost use Rattle.std.specs.Prelude.{◌≡◌, ℕ, Bool, true, false, List, ◌∷◌, length, None, Some, IfSome};
     ghost use Rattle.nvme_log.specs.Rules.{FrontRules};
@@ -102,11 +103,11 @@ impl Controller {
     /// Posts the completion that became ready first in an open completion queue. None, which changes nothing, exactly where
     /// the queue isn't open, where none is ready, and where the host has freed no slot of the ring.
     pub fn post(&mut self, slots: &mut [Slot], cqid: u16) -> Option<Post>
-        requires front { IsController self.old slots.old }
-        ensures front { IsController self.new slots.new }
+        ensures front { IsController self.old slots.old → IsController self.new slots.new }
         ensures none { result ≡ None → (self.new ≡ self.old) × (slots.new ≡ slots.old) }
         ensures depths { depths_of self.new ≡ depths_of self.old }
         ensures size { length slots.new ≡ length slots.old }
+        ensures generations { SameGenerations slots.old slots.new }
         ensures own { own_of self.new ≡ own_of self.old }
         ensures told { (rules : FrontRules) (late : Bool) (notes : Notes) → Stands rules late notes self.old slots.old → result ≡ None → (x : ℕ) → open_cq (logged notes) cqid ≡ Some x → NonePostable rules notes x }
         ensures value { result ≡ next_post_of self.old slots.old cqid }

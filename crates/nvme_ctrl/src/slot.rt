@@ -20,8 +20,7 @@ pub const DROPPED: u8 = 5;
 /// Its command is the Delete whose deletion is pending.
 pub const DELETING: u8 = 6;
 
-/// A slot of a controller's pool, as it lies in memory: numbers alone. Its number is the tag of the command that it
-/// holds.
+/// A slot of a controller's pool, as it lies in memory: numbers alone.
 #[repr(C)]
 #[derive(Clone, Copy, Drop)]
 pub struct Slot {
@@ -33,6 +32,8 @@ pub struct Slot {
     pub dw0: u32,
     /// The slot after it in its chain.
     pub next: u16,
+    /// How often its command was taken by the device, modulo 65,536.
+    pub generation: u16,
     /// The status of its completion, where it ended.
     pub sct: u8,
     pub sc: u8,
@@ -74,6 +75,7 @@ impl Slot {
             cookie: 0,
             dw0: 0,
             next: 0,
+            generation: 0,
             sct: 0,
             sc: 0,
             sqid: 0,

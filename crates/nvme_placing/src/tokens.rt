@@ -15,7 +15,7 @@ use nvme_admin::{Effect, Limits, MAX_QSIZE, MAX_REGIONS, MAX_SLOTS, MIN_SLOTS, T
 use nvme_arbiter::Settings;
 use nvme_entry::{AdminCommand, Sqe, Status, admin_of};
 
-// Whether a region may have this number of slots.
+/// Whether a region may have this number of slots.
 pub fn is_size(slots: u16) -> bool
     ensures { result ≡ is_ring_size slots }
 {
@@ -56,7 +56,7 @@ fn add_cq(table: &mut TableFields, number: u64, slots: u16)
     }
 }
 
-// A table with all regions under their tokens. The regions of I/O queues are renewed by each Create.
+/// A table with all regions under their tokens. The regions of I/O queues are renewed by each Create.
 pub fn new_table(limits: Limits, settings: Settings, sq_slots: u16, cq_slots: u16) -> TableFields
     requires sq_size { is_ring_size sq_slots ≡ true }
     requires cq_size { is_ring_size cq_slots ≡ true }
@@ -146,7 +146,7 @@ fn create_cq(table: &mut TableFields, entry: &Sqe, qid: u16, qsize: u16, pc: boo
     }
 }
 
-// Applies an admin entry where queues may lie anywhere.
+/// Applies an admin entry where queues may lie anywhere.
 pub fn execute(table: &mut TableFields, placement: Placement, entry: &Sqe) -> Effect
     ensures carries { HasTokens (view_of table.old) → IsSized (view_of table.old) → Carries (view_of table.old) (view_of table.new) (placing_by placement) entry.now (verdict_in result) }
     ensures unchanged { HasTokens (view_of table.old) → is_success (status_in (verdict_in result)) ≡ false → table.new ≡ table.old }

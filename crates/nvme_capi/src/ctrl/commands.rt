@@ -10,24 +10,26 @@ ghost use Rattle.nvme_ctrl.specs.Own.{own_of, oldest_is_own};
 ghost use Rattle.nvme_ctrl.specs.Notes.{Notes, logged};
 ghost use Rattle.nvme_ctrl.specs.Standing.{Stands};
 ghost use Rattle.nvme_ctrl.specs.Tags.{handed, is_out, holder, taken, cookie_of};
+ghost use Rattle.nvme_ctrl.specs.Generations.{SameGenerations, IsNextGeneration, tag_of};
+ghost use Rattle.nvme_ctrl.specs.declared.tag.Tag.{Tag};
 ghost use Rattle.nvme_ctrl.specs.Calls.{depths_of, HasTaken, HasAnswered};
 ghost use Rattle.nvme_ctrl.specs.Steps.{IsNextPick, HasStepped, NoneFinishable, HasFinished};
 ghost use Rattle.nvme_ctrl.specs.Posts.{NonePostable};
 ghost use Rattle.nvme_ctrl.specs.declared.picks.Step.TheVariants as made;
 ghost use Rattle.nvme_capi.specs.States.{pick_of_fields};
 ghost use Rattle.nvme_capi.specs.Tables.{plain_answer};
-ghost use Rattle.nvme_capi.specs.Controllers.{is_ctrl, has_slots, IsKept, StaysMade, HasToldWhat, no_pick, nothing_asked, asked_in, IsCommandIn, device_answer, marks_by, IsMarkedEntry, HasPostedBytes, IsPostIn};
+ghost use Rattle.nvme_capi.specs.Controllers.{is_ctrl, is_whole, has_slots, IsKept, IsOutUnder, StaysMade, HasToldWhat, no_pick, nothing_asked, asked_in, IsCommandIn, device_answer, marks_by, IsMarkedEntry, HasPostedBytes, IsPostIn};
 
 use crate::answers::{answer_of, plain_answer};
 use crate::ctrl::marks::{marked, marks_by};
 use crate::ctrl::state::{
-    AskedFields, CommandFields, CtrlState, PostFields, StepFields, has_slots, is_ctrl,
+    AskedFields, CommandFields, CtrlState, PostFields, StepFields, has_slots, is_ctrl, is_whole,
 };
 use crate::fields::StatusFields;
 use crate::results::{BAD_ARGUMENT, BAD_STATE, BUSY, NOROOM, NOTHING, OK};
 use crate::states::{PickFields, fields_of_pick};
 use nvme_admin::Effect;
-use nvme_ctrl::{Answer, Marks, Post, Slot, Step};
+use nvme_ctrl::{Answer, Marks, Post, Slot, Step, Tag};
 use nvme_entry::{Sqe, Status};
 
 // The kinds of a step.
@@ -40,16 +42,15 @@ const PASSED: u32 = 3;
 /// Writes the pick that `nvmearb_ctrl_pick` makes next of the commands that wait now. The state stays as it was.
 #[unsafe(no_mangle)]
 pub extern "C" fn nvmearb_ctrl_peek(state: &CtrlState, slots: &[Slot], pick: &mut PickFields) -> u32
-    requires kept { IsKept state.now slots.now }
-    ensures bad_state { (result ≡ BAD_STATE) ↔ IsFalse (is_ctrl state.now) }
-    ensures bad_argument { (result ≡ BAD_ARGUMENT) ↔ (IsTrue (is_ctrl state.now) × IsFalse (has_slots state.now slots.now)) }
+    ensures bad_state { (result ≡ BAD_STATE) ↔ IsFalse (is_whole state.now) }
+    ensures bad_argument { (result ≡ BAD_ARGUMENT) ↔ (IsTrue (is_whole state.now) × IsFalse (has_slots state.now slots.now)) }
     ensures answer { (result ≡ OK) ⊎ ((result ≡ NOTHING) ⊎ ((result ≡ BAD_ARGUMENT) ⊎ (result ≡ BAD_STATE))) }
     ensures nothing { (rules : FrontRules) (late : Bool) (notes : Notes) → Stands rules late notes state.now.ctrl slots.now → result ≡ NOTHING → IsNextPick rules notes None }
     ensures picked { (rules : FrontRules) (late : Bool) (notes : Notes) → Stands rules late notes state.now.ctrl slots.now → result ≡ OK → IsNextPick rules notes (Some (pick_of_fields pick.new)) }
     ensures fits { result ≡ OK → pick.new.fresh ≤ 1 }
     ensures unchanged { result ≢ OK → pick.new ≡ pick.old }
 {
-    if !is_ctrl(state) {
+    if !is_whole(state) {
         return BAD_STATE;
     }
     if !has_slots(state, slots) {
@@ -120,12 +121,11 @@ pub extern "C" fn nvmearb_ctrl_pick(
     room: u16,
     step: &mut StepFields,
 ) -> u32
-    requires kept { IsKept state.old slots.old }
-    ensures kept { IsKept state.new slots.new }
+    ensures kept { IsKept state.old slots.old → IsKept state.new slots.new }
     ensures same { StaysMade state.old state.new }
     ensures depths { depths_of state.new.ctrl ≡ depths_of state.old.ctrl }
-    ensures bad_state { (result ≡ BAD_STATE) ↔ IsFalse (is_ctrl state.old) }
-    ensures bad_argument { (result ≡ BAD_ARGUMENT) ↔ (IsTrue (is_ctrl state.old) × IsFalse (has_slots state.old slots.old)) }
+    ensures bad_state { (result ≡ BAD_STATE) ↔ IsFalse (is_whole state.old) }
+    ensures bad_argument { (result ≡ BAD_ARGUMENT) ↔ (IsTrue (is_whole state.old) × IsFalse (has_slots state.old slots.old)) }
     ensures idle { (rules : FrontRules) (late : Bool) (notes : Notes) → Stands rules late notes state.old.ctrl slots.old → result ≡ NOTHING → HasStepped rules late notes room made.Idle state.new.ctrl slots.new }
     ensures busy { (rules : FrontRules) (late : Bool) (notes : Notes) → Stands rules late notes state.old.ctrl slots.old → result ≡ BUSY → HasStepped rules late notes room made.Busy state.new.ctrl slots.new }
     ensures no_room { (rules : FrontRules) (late : Bool) (notes : Notes) → Stands rules late notes state.old.ctrl slots.old → result ≡ NOROOM → HasStepped rules late notes room made.NoRoom state.new.ctrl slots.new }
@@ -136,12 +136,13 @@ pub extern "C" fn nvmearb_ctrl_pick(
     ensures not_own { (rules : FrontRules) (late : Bool) (notes : Notes) → Stands rules late notes state.old.ctrl slots.old → result ≡ OK → step.new.kind ≡ CARRIED_OUT → oldest_is_own (own_of state.old.ctrl) notes ≡ Some false }
     ensures no_pick { result ≡ OK → step.new.kind ≡ CARRIED_OUT → step.new.pick ≡ no_pick }
     ensures no_answer { result ≡ OK → step.new.kind ≢ CARRIED_OUT → (step.new.answer ≡ plain_answer 0) × (step.new.asked ≡ nothing_asked) }
+    ensures generations { SameGenerations slots.old slots.new }
     ensures left { own_of state.new.ctrl ≡ own_of state.old.ctrl }
     ensures kinds { result ≡ OK → (step.new.kind ≡ PICKED) ⊎ ((step.new.kind ≡ CARRIED_OUT) ⊎ (step.new.kind ≡ PASSED)) }
     ensures answer { (result ≡ OK) ⊎ ((result ≡ NOTHING) ⊎ ((result ≡ BUSY) ⊎ ((result ≡ NOROOM) ⊎ ((result ≡ BAD_ARGUMENT) ⊎ (result ≡ BAD_STATE))))) }
     ensures unchanged { result ≢ OK → (state.new ≡ state.old) × ((slots.new ≡ slots.old) × (step.new ≡ step.old)) }
 {
-    if !is_ctrl(state) {
+    if !is_whole(state) {
         return BAD_STATE;
     }
     if !has_slots(state, slots) {
@@ -192,18 +193,18 @@ pub extern "C" fn nvmearb_ctrl_take(
     slots: &mut [Slot],
     command: &mut CommandFields,
 ) -> u32
-    requires kept { IsKept state.old slots.old }
-    ensures kept { IsKept state.new slots.new }
+    ensures kept { IsKept state.old slots.old → IsKept state.new slots.new }
     ensures same { StaysMade state.old state.new }
     ensures depths { depths_of state.new.ctrl ≡ depths_of state.old.ctrl }
     ensures bad_state { (result ≡ BAD_STATE) ↔ IsFalse (is_ctrl state.old) }
     ensures bad_argument { (result ≡ BAD_ARGUMENT) ↔ (IsTrue (is_ctrl state.old) × IsFalse (has_slots state.old slots.old)) }
     ensures answer { (result ≡ OK) ⊎ ((result ≡ NOTHING) ⊎ ((result ≡ BAD_ARGUMENT) ⊎ (result ≡ BAD_STATE))) }
     ensures nothing { (rules : FrontRules) (late : Bool) (notes : Notes) → Stands rules late notes state.old.ctrl slots.old → result ≡ NOTHING → handed notes ≡ taken notes }
-    ensures stands { (rules : FrontRules) (late : Bool) (notes : Notes) → Stands rules late notes state.old.ctrl slots.old → result ≡ OK → HasTaken rules late notes command.new.tag state.new.ctrl slots.new }
-    ensures command { result ≡ OK → IsCommandIn slots.new command.new.tag command.new }
-    ensures cookie { result ≡ OK → (rules : FrontRules) (late : Bool) (notes : Notes) → Stands rules late notes state.new.ctrl slots.new → (place : Place) → holder notes command.new.tag ≡ Some place → is_out notes command.new.tag ≡ true → cookie_of notes place.region place.index ≡ Some command.new.cookie }
-    ensures entry { result ≡ OK → (rules : FrontRules) (late : Bool) (notes : Notes) → Stands rules late notes state.new.ctrl slots.new → (place : Place) → holder notes command.new.tag ≡ Some place → is_out notes command.new.tag ≡ true → entry_at (logged notes) place.region place.index ≡ Some command.new.entry }
+    ensures stands { (rules : FrontRules) (late : Bool) (notes : Notes) → Stands rules late notes state.old.ctrl slots.old → result ≡ OK → HasTaken rules late notes (tag_of command.new.tag).slot state.new.ctrl slots.new }
+    ensures command { result ≡ OK → IsCommandIn slots.new (tag_of command.new.tag).slot command.new }
+    ensures cookie { result ≡ OK → (rules : FrontRules) (late : Bool) (notes : Notes) → Stands rules late notes state.new.ctrl slots.new → (place : Place) → holder notes (tag_of command.new.tag).slot ≡ Some place → is_out notes (tag_of command.new.tag).slot ≡ true → cookie_of notes place.region place.index ≡ Some command.new.cookie }
+    ensures entry { result ≡ OK → (rules : FrontRules) (late : Bool) (notes : Notes) → Stands rules late notes state.new.ctrl slots.new → (place : Place) → holder notes (tag_of command.new.tag).slot ≡ Some place → is_out notes (tag_of command.new.tag).slot ≡ true → entry_at (logged notes) place.region place.index ≡ Some command.new.entry }
+    ensures generation { (rules : FrontRules) (late : Bool) (notes : Notes) → Stands rules late notes state.old.ctrl slots.old → result ≡ OK → IsNextGeneration slots.old slots.new (tag_of command.new.tag).slot }
     ensures left { own_of state.new.ctrl ≡ own_of state.old.ctrl }
     ensures unchanged { result ≢ OK → (state.new ≡ state.old) × ((slots.new ≡ slots.old) × (command.new ≡ command.old)) }
 {
@@ -214,11 +215,11 @@ pub extern "C" fn nvmearb_ctrl_take(
         return BAD_ARGUMENT;
     }
     match state.ctrl.take(slots) {
-        Some(tag) => {
+        Some(slot) => {
             *command = CommandFields {
-                entry: state.ctrl.entry(slots, tag),
-                cookie: state.ctrl.cookie(slots, tag),
-                tag,
+                entry: state.ctrl.entry(slots, slot),
+                cookie: state.ctrl.cookie(slots, slot),
+                tag: Tag::at(slots, slot).number(),
             };
             OK
         }
@@ -230,22 +231,22 @@ pub extern "C" fn nvmearb_ctrl_take(
 fn complete_marked(
     state: &mut CtrlState,
     slots: &mut [Slot],
-    tag: u16,
+    tag: u32,
     status: &StatusFields,
     dw0: u32,
     marks: Marks,
 ) -> u32
-    requires kept { IsKept state.old slots.old }
-    ensures kept { IsKept state.new slots.new }
+    ensures kept { IsKept state.old slots.old → IsKept state.new slots.new }
     ensures same { StaysMade state.old state.new }
     ensures depths { depths_of state.new.ctrl ≡ depths_of state.old.ctrl }
+    ensures generations { SameGenerations slots.old slots.new }
     ensures left { own_of state.new.ctrl ≡ own_of state.old.ctrl }
     ensures bad_state { (result ≡ BAD_STATE) ↔ IsFalse (is_ctrl state.old) }
     ensures bad_argument { (result ≡ BAD_ARGUMENT) ↔ (IsTrue (is_ctrl state.old) × (IsFalse (has_slots state.old slots.old) ⊎ (7 < status.now.sct))) }
     ensures answer { (result ≡ OK) ⊎ ((result ≡ NOTHING) ⊎ ((result ≡ BAD_ARGUMENT) ⊎ (result ≡ BAD_STATE))) }
-    ensures nothing { (rules : FrontRules) (late : Bool) (notes : Notes) → Stands rules late notes state.old.ctrl slots.old → result ≡ NOTHING → is_out notes tag ≡ false }
-    ensures was_out { (rules : FrontRules) (late : Bool) (notes : Notes) → Stands rules late notes state.old.ctrl slots.old → result ≡ OK → is_out notes tag ≡ true }
-    ensures stands { (rules : FrontRules) (late : Bool) (notes : Notes) → Stands rules late notes state.old.ctrl slots.old → result ≡ OK → HasAnswered rules late notes tag (device_answer status.now dw0) marks state.new.ctrl slots.new }
+    ensures nothing { (rules : FrontRules) (late : Bool) (notes : Notes) → Stands rules late notes state.old.ctrl slots.old → result ≡ NOTHING → IsOutUnder notes slots.old tag → ⊥ }
+    ensures was_out { (rules : FrontRules) (late : Bool) (notes : Notes) → Stands rules late notes state.old.ctrl slots.old → result ≡ OK → IsOutUnder notes slots.old tag }
+    ensures stands { (rules : FrontRules) (late : Bool) (notes : Notes) → Stands rules late notes state.old.ctrl slots.old → result ≡ OK → HasAnswered rules late notes (tag_of tag).slot (device_answer status.now dw0) marks state.new.ctrl slots.new }
     ensures unchanged { result ≢ OK → (state.new ≡ state.old) × (slots.new ≡ slots.old) }
 {
     if !is_ctrl(state) {
@@ -257,9 +258,12 @@ fn complete_marked(
     let Some(status) = Status::new(status.sct, status.sc) else {
         return BAD_ARGUMENT;
     };
+    let Some(slot) = Tag::of_number(tag).slot_in(slots) else {
+        return NOTHING;
+    };
     if state
         .ctrl
-        .complete(slots, tag, Answer { status, dw0, marks })
+        .complete(slots, slot, Answer { status, dw0, marks })
     {
         OK
     } else {
@@ -273,20 +277,20 @@ fn complete_marked(
 pub extern "C" fn nvmearb_ctrl_complete(
     state: &mut CtrlState,
     slots: &mut [Slot],
-    tag: u16,
+    tag: u32,
     status: &StatusFields,
     dw0: u32,
 ) -> u32
-    requires kept { IsKept state.old slots.old }
-    ensures kept { IsKept state.new slots.new }
+    ensures kept { IsKept state.old slots.old → IsKept state.new slots.new }
     ensures same { StaysMade state.old state.new }
     ensures depths { depths_of state.new.ctrl ≡ depths_of state.old.ctrl }
     ensures bad_state { (result ≡ BAD_STATE) ↔ IsFalse (is_ctrl state.old) }
     ensures bad_argument { (result ≡ BAD_ARGUMENT) ↔ (IsTrue (is_ctrl state.old) × (IsFalse (has_slots state.old slots.old) ⊎ (7 < status.now.sct))) }
     ensures answer { (result ≡ OK) ⊎ ((result ≡ NOTHING) ⊎ ((result ≡ BAD_ARGUMENT) ⊎ (result ≡ BAD_STATE))) }
-    ensures nothing { (rules : FrontRules) (late : Bool) (notes : Notes) → Stands rules late notes state.old.ctrl slots.old → result ≡ NOTHING → is_out notes tag ≡ false }
-    ensures was_out { (rules : FrontRules) (late : Bool) (notes : Notes) → Stands rules late notes state.old.ctrl slots.old → result ≡ OK → is_out notes tag ≡ true }
-    ensures stands { (rules : FrontRules) (late : Bool) (notes : Notes) → Stands rules late notes state.old.ctrl slots.old → result ≡ OK → HasAnswered rules late notes tag (device_answer status.now dw0) (marks_by 0) state.new.ctrl slots.new }
+    ensures nothing { (rules : FrontRules) (late : Bool) (notes : Notes) → Stands rules late notes state.old.ctrl slots.old → result ≡ NOTHING → IsOutUnder notes slots.old tag → ⊥ }
+    ensures was_out { (rules : FrontRules) (late : Bool) (notes : Notes) → Stands rules late notes state.old.ctrl slots.old → result ≡ OK → IsOutUnder notes slots.old tag }
+    ensures stands { (rules : FrontRules) (late : Bool) (notes : Notes) → Stands rules late notes state.old.ctrl slots.old → result ≡ OK → HasAnswered rules late notes (tag_of tag).slot (device_answer status.now dw0) (marks_by 0) state.new.ctrl slots.new }
+    ensures generations { SameGenerations slots.old slots.new }
     ensures left { own_of state.new.ctrl ≡ own_of state.old.ctrl }
     ensures unchanged { result ≢ OK → (state.new ≡ state.old) × (slots.new ≡ slots.old) }
 {
@@ -299,21 +303,21 @@ pub extern "C" fn nvmearb_ctrl_complete(
 pub extern "C" fn nvmearb_ctrl_complete_with(
     state: &mut CtrlState,
     slots: &mut [Slot],
-    tag: u16,
+    tag: u32,
     status: &StatusFields,
     dw0: u32,
     marks: u8,
 ) -> u32
-    requires kept { IsKept state.old slots.old }
-    ensures kept { IsKept state.new slots.new }
+    ensures kept { IsKept state.old slots.old → IsKept state.new slots.new }
     ensures same { StaysMade state.old state.new }
     ensures depths { depths_of state.new.ctrl ≡ depths_of state.old.ctrl }
     ensures bad_state { (result ≡ BAD_STATE) ↔ IsFalse (is_ctrl state.old) }
     ensures bad_argument { (result ≡ BAD_ARGUMENT) ↔ (IsTrue (is_ctrl state.old) × (IsFalse (has_slots state.old slots.old) ⊎ ((7 < status.now.sct) ⊎ (3 < marks)))) }
     ensures answer { (result ≡ OK) ⊎ ((result ≡ NOTHING) ⊎ ((result ≡ BAD_ARGUMENT) ⊎ (result ≡ BAD_STATE))) }
-    ensures nothing { (rules : FrontRules) (late : Bool) (notes : Notes) → Stands rules late notes state.old.ctrl slots.old → result ≡ NOTHING → is_out notes tag ≡ false }
-    ensures was_out { (rules : FrontRules) (late : Bool) (notes : Notes) → Stands rules late notes state.old.ctrl slots.old → result ≡ OK → is_out notes tag ≡ true }
-    ensures stands { (rules : FrontRules) (late : Bool) (notes : Notes) → Stands rules late notes state.old.ctrl slots.old → result ≡ OK → HasAnswered rules late notes tag (device_answer status.now dw0) (marks_by marks) state.new.ctrl slots.new }
+    ensures nothing { (rules : FrontRules) (late : Bool) (notes : Notes) → Stands rules late notes state.old.ctrl slots.old → result ≡ NOTHING → IsOutUnder notes slots.old tag → ⊥ }
+    ensures was_out { (rules : FrontRules) (late : Bool) (notes : Notes) → Stands rules late notes state.old.ctrl slots.old → result ≡ OK → IsOutUnder notes slots.old tag }
+    ensures stands { (rules : FrontRules) (late : Bool) (notes : Notes) → Stands rules late notes state.old.ctrl slots.old → result ≡ OK → HasAnswered rules late notes (tag_of tag).slot (device_answer status.now dw0) (marks_by marks) state.new.ctrl slots.new }
+    ensures generations { SameGenerations slots.old slots.new }
     ensures left { own_of state.new.ctrl ≡ own_of state.old.ctrl }
     ensures unchanged { result ≢ OK → (state.new ≡ state.old) × (slots.new ≡ slots.old) }
 {
@@ -327,16 +331,16 @@ pub extern "C" fn nvmearb_ctrl_complete_with(
 }
 
 // What is told of a completion.
-fn fields_of_post(it: &Post) -> PostFields
+fn fields_of_post(it: &Post, tag: Tag) -> PostFields
     ensures layout { IsMarkedEntry result.bytes it.now.cqe it.now.marks }
     ensures cookie { result.cookie ≡ it.now.cookie }
-    ensures tag { result.tag ≡ it.now.tag }
+    ensures tag { tag_of result.tag ≡ tag }
     ensures slot { result.slot ≡ it.now.slot }
 {
     PostFields {
         bytes: marked(it.cqe.to_bytes(), it.marks),
         cookie: it.cookie,
-        tag: it.tag,
+        tag: tag.number(),
         slot: it.slot,
     }
 }
@@ -350,8 +354,7 @@ pub extern "C" fn nvmearb_ctrl_post(
     cqid: u16,
     post: &mut PostFields,
 ) -> u32
-    requires kept { IsKept state.old slots.old }
-    ensures kept { IsKept state.new slots.new }
+    ensures kept { IsKept state.old slots.old → IsKept state.new slots.new }
     ensures same { StaysMade state.old state.new }
     ensures depths { depths_of state.new.ctrl ≡ depths_of state.old.ctrl }
     ensures bad_state { (result ≡ BAD_STATE) ↔ IsFalse (is_ctrl state.old) }
@@ -360,6 +363,7 @@ pub extern "C" fn nvmearb_ctrl_post(
     ensures nothing { (rules : FrontRules) (late : Bool) (notes : Notes) → Stands rules late notes state.old.ctrl slots.old → result ≡ NOTHING → (x : ℕ) → open_cq (logged notes) cqid ≡ Some x → NonePostable rules notes x }
     ensures stands { (rules : FrontRules) (late : Bool) (notes : Notes) → Stands rules late notes state.old.ctrl slots.old → result ≡ OK → HasPostedBytes rules late notes cqid post.new state.new.ctrl slots.new }
     ensures command { result ≡ OK → IsPostIn slots.old post.new }
+    ensures generations { SameGenerations slots.old slots.new }
     ensures left { own_of state.new.ctrl ≡ own_of state.old.ctrl }
     ensures unchanged { result ≢ OK → (state.new ≡ state.old) × ((slots.new ≡ slots.old) × (post.new ≡ post.old)) }
 {
@@ -371,7 +375,8 @@ pub extern "C" fn nvmearb_ctrl_post(
     }
     match state.ctrl.post(slots, cqid) {
         Some(it) => {
-            *post = fields_of_post(&it);
+            // (a slot that is freed keeps its generation)
+            *post = fields_of_post(&it, Tag::at(slots, it.tag));
             OK
         }
         None => NOTHING,
@@ -386,8 +391,7 @@ pub extern "C" fn nvmearb_ctrl_finish(
     slots: &mut [Slot],
     qid: &mut u16,
 ) -> u32
-    requires kept { IsKept state.old slots.old }
-    ensures kept { IsKept state.new slots.new }
+    ensures kept { IsKept state.old slots.old → IsKept state.new slots.new }
     ensures same { StaysMade state.old state.new }
     ensures depths { depths_of state.new.ctrl ≡ depths_of state.old.ctrl }
     ensures bad_state { (result ≡ BAD_STATE) ↔ IsFalse (is_ctrl state.old) }
@@ -395,6 +399,7 @@ pub extern "C" fn nvmearb_ctrl_finish(
     ensures answer { (result ≡ OK) ⊎ ((result ≡ NOTHING) ⊎ ((result ≡ BAD_ARGUMENT) ⊎ (result ≡ BAD_STATE))) }
     ensures nothing { (rules : FrontRules) (late : Bool) (notes : Notes) → Stands rules late notes state.old.ctrl slots.old → result ≡ NOTHING → NoneFinishable notes }
     ensures stands { (rules : FrontRules) (late : Bool) (notes : Notes) → Stands rules late notes state.old.ctrl slots.old → result ≡ OK → HasFinished rules late notes qid.new state.new.ctrl slots.new }
+    ensures generations { SameGenerations slots.old slots.new }
     ensures left { own_of state.new.ctrl ≡ own_of state.old.ctrl }
     ensures unchanged { result ≢ OK → (state.new ≡ state.old) × ((slots.new ≡ slots.old) × (qid.new ≡ qid.old)) }
 {

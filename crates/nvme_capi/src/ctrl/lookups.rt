@@ -10,15 +10,16 @@ ghost use Rattle.nvme_ctrl.specs.Standing.{Stands};
 ghost use Rattle.nvme_ctrl.specs.Calls.{IsTagOf};
 ghost use Rattle.nvme_ctrl.specs.Observation.{seen_in};
 ghost use Rattle.nvme_ctrl.specs.Waits.{WaitsAt};
-ghost use Rattle.nvme_ctrl.specs.Tags.{is_out, holder, cookie_of};
+ghost use Rattle.nvme_ctrl.specs.Tags.{holder, cookie_of};
+ghost use Rattle.nvme_ctrl.specs.Generations.{tag_of, tag_at};
 ghost use Rattle.nvme_ctrl.specs.declared.slot.Slot.{Slot};
-ghost use Rattle.nvme_capi.specs.Controllers.{is_ctrl, has_slots, IsKept, IsCommandIn};
+ghost use Rattle.nvme_capi.specs.Controllers.{is_ctrl, has_slots, IsOutUnder, IsCommandIn};
 ghost use Rattle.nvme_capi.specs.States.{seen_of_fields};
 
 use crate::ctrl::state::{CommandFields, CtrlState, has_slots, is_ctrl};
 use crate::results::{BAD_ARGUMENT, BAD_STATE, NOTHING, OK};
 use crate::states::{SeenFields, fields_of_seen};
-use nvme_ctrl::Slot;
+use nvme_ctrl::{Slot, Tag};
 use nvme_entry::Sqe;
 
 /// Writes the command of a tag, where the device has one.
@@ -26,17 +27,17 @@ use nvme_entry::Sqe;
 pub extern "C" fn nvmearb_ctrl_command(
     state: &CtrlState,
     slots: &[Slot],
-    tag: u16,
+    tag: u32,
     command: &mut CommandFields,
 ) -> u32
     ensures bad_state { (result ≡ BAD_STATE) ↔ IsFalse (is_ctrl state.now) }
     ensures bad_argument { (result ≡ BAD_ARGUMENT) ↔ (IsTrue (is_ctrl state.now) × IsFalse (has_slots state.now slots.now)) }
     ensures answer { (result ≡ OK) ⊎ ((result ≡ NOTHING) ⊎ ((result ≡ BAD_ARGUMENT) ⊎ (result ≡ BAD_STATE))) }
-    ensures nothing { (rules : FrontRules) (late : Bool) (notes : Notes) → Stands rules late notes state.now.ctrl slots.now → result ≡ NOTHING → is_out notes tag ≡ false }
-    ensures out { (rules : FrontRules) (late : Bool) (notes : Notes) → Stands rules late notes state.now.ctrl slots.now → result ≡ OK → is_out notes tag ≡ true }
-    ensures entry { (rules : FrontRules) (late : Bool) (notes : Notes) → Stands rules late notes state.now.ctrl slots.now → result ≡ OK → (place : Place) → holder notes tag ≡ Some place → entry_at (logged notes) place.region place.index ≡ Some command.new.entry }
-    ensures cookie { (rules : FrontRules) (late : Bool) (notes : Notes) → Stands rules late notes state.now.ctrl slots.now → result ≡ OK → (place : Place) → holder notes tag ≡ Some place → cookie_of notes place.region place.index ≡ Some command.new.cookie }
-    ensures command { result ≡ OK → IsCommandIn slots.now tag command.new }
+    ensures nothing { (rules : FrontRules) (late : Bool) (notes : Notes) → Stands rules late notes state.now.ctrl slots.now → result ≡ NOTHING → IsOutUnder notes slots.now tag → ⊥ }
+    ensures out { (rules : FrontRules) (late : Bool) (notes : Notes) → Stands rules late notes state.now.ctrl slots.now → result ≡ OK → IsOutUnder notes slots.now tag }
+    ensures entry { (rules : FrontRules) (late : Bool) (notes : Notes) → Stands rules late notes state.now.ctrl slots.now → result ≡ OK → (place : Place) → holder notes (tag_of tag).slot ≡ Some place → entry_at (logged notes) place.region place.index ≡ Some command.new.entry }
+    ensures cookie { (rules : FrontRules) (late : Bool) (notes : Notes) → Stands rules late notes state.now.ctrl slots.now → result ≡ OK → (place : Place) → holder notes (tag_of tag).slot ≡ Some place → cookie_of notes place.region place.index ≡ Some command.new.cookie }
+    ensures command { result ≡ OK → IsCommandIn slots.now (tag_of tag).slot command.new }
     ensures unchanged { result ≢ OK → command.new ≡ command.old }
 {
     if !is_ctrl(state) {
@@ -45,12 +46,15 @@ pub extern "C" fn nvmearb_ctrl_command(
     if !has_slots(state, slots) {
         return BAD_ARGUMENT;
     }
-    if !state.ctrl.is_out(slots, tag) {
+    let Some(slot) = Tag::of_number(tag).slot_in(slots) else {
+        return NOTHING;
+    };
+    if !state.ctrl.is_out(slots, slot) {
         return NOTHING;
     }
     *command = CommandFields {
-        entry: state.ctrl.entry(slots, tag),
-        cookie: state.ctrl.cookie(slots, tag),
+        entry: state.ctrl.entry(slots, slot),
+        cookie: state.ctrl.cookie(slots, slot),
         tag,
     };
     OK
@@ -63,13 +67,13 @@ pub extern "C" fn nvmearb_ctrl_named(
     slots: &[Slot],
     qid: u16,
     cid: u16,
-    tag: &mut u16,
+    tag: &mut u32,
 ) -> u32
-    requires kept { IsKept state.now slots.now }
     ensures bad_state { (result ≡ BAD_STATE) ↔ IsFalse (is_ctrl state.now) }
     ensures bad_argument { (result ≡ BAD_ARGUMENT) ↔ (IsTrue (is_ctrl state.now) × IsFalse (has_slots state.now slots.now)) }
     ensures answer { (result ≡ OK) ⊎ ((result ≡ NOTHING) ⊎ ((result ≡ BAD_ARGUMENT) ⊎ (result ≡ BAD_STATE))) }
-    ensures found { (rules : FrontRules) (late : Bool) (notes : Notes) → Stands rules late notes state.now.ctrl slots.now → result ≡ OK → IsTagOf notes qid cid tag.new }
+    ensures found { (rules : FrontRules) (late : Bool) (notes : Notes) → Stands rules late notes state.now.ctrl slots.now → result ≡ OK → IsTagOf notes qid cid (tag_of tag.new).slot }
+    ensures current { result ≡ OK → tag_of tag.new ≡ tag_at slots.now (tag_of tag.new).slot }
     ensures nothing { (rules : FrontRules) (late : Bool) (notes : Notes) → Stands rules late notes state.now.ctrl slots.now → result ≡ NOTHING → (it : ℕ) → IsTagOf notes qid cid it → ⊥ }
     ensures unchanged { result ≢ OK → tag.new ≡ tag.old }
 {
@@ -81,7 +85,7 @@ pub extern "C" fn nvmearb_ctrl_named(
     }
     match state.ctrl.named(slots, qid, cid) {
         Some(it) => {
-            *tag = it;
+            *tag = Tag::at(slots, it).number();
             OK
         }
         None => NOTHING,

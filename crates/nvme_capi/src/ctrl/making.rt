@@ -3,6 +3,7 @@ ghost use Rattle.std.specs.Prelude.{◌≡◌, ◌≢◌, ◌⊎◌, ◌↔◌, 
 ghost use Rattle.nvme_admin.specs.History.{Submission, Completion};
 ghost use Rattle.nvme_admin.specs.declared.region.AdminError.TheVariants.{Used, TooMany, Size};
 ghost use Rattle.nvme_log.specs.Rules.{FrontRules, sq_regions_of, cq_regions_of};
+ghost use Rattle.nvme_ctrl.specs.Generations.{SameGenerations};
 ghost use Rattle.nvme_ctrl.specs.Own.{own_of, no_own, with_opcode, with_feature};
 ghost use Rattle.nvme_ctrl.specs.Notes.{Notes};
 ghost use Rattle.nvme_ctrl.specs.Standing.{Stands, IsController};
@@ -58,6 +59,7 @@ pub extern "C" fn nvmearb_ctrl_init(
     ensures front { result ≡ OK → IsController state.new.ctrl slots.new }
     ensures ctrl { result ≡ OK → IsTrue (is_ctrl state.new) }
     ensures count { result ≡ OK → state.new.count ≡ length slots.new }
+    ensures generations { SameGenerations slots.old slots.new }
     ensures unchanged { result ≢ OK → (state.new ≡ state.old) × (slots.new ≡ slots.old) }
 {
     let Some(mechanism) = mechanism_with(config.mechanism) else {
@@ -136,6 +138,7 @@ pub extern "C" fn nvmearb_ctrl_init_anywhere(
     ensures front { result ≡ OK → IsController state.new.ctrl slots.new }
     ensures ctrl { result ≡ OK → IsTrue (is_ctrl state.new) }
     ensures count { result ≡ OK → state.new.count ≡ length slots.new }
+    ensures generations { SameGenerations slots.old slots.new }
     ensures unchanged { result ≢ OK → (state.new ≡ state.old) × (slots.new ≡ slots.old) }
 {
     let Some(mechanism) = mechanism_with(config.mechanism) else {

@@ -4,6 +4,7 @@ ghost use Rattle.nvme_entry.specs.Submission.{IsSubmissionEntry};
 ghost use Rattle.nvme_entry.specs.declared.submission.Sqe.{Sqe};
 ghost use Rattle.nvme_log.specs.Rules.{FrontRules};
 ghost use Rattle.nvme_log.specs.Queues.{open_sq, open_cq};
+ghost use Rattle.nvme_ctrl.specs.Generations.{SameGenerations};
 ghost use Rattle.nvme_ctrl.specs.Own.{own_of};
 ghost use Rattle.nvme_ctrl.specs.Notes.{Notes, logged};
 ghost use Rattle.nvme_ctrl.specs.Standing.{Stands};
@@ -106,8 +107,7 @@ pub extern "C" fn nvmearb_ctrl_fetched(
     bytes: &[u8; 64],
     cookie: u32,
 ) -> u32
-    requires kept { IsKept state.old slots.old }
-    ensures kept { IsKept state.new slots.new }
+    ensures kept { IsKept state.old slots.old → IsKept state.new slots.new }
     ensures same { StaysMade state.old state.new }
     ensures bad_state { (result ≡ BAD_STATE) ↔ IsFalse (is_ctrl state.old) }
     ensures bad_argument { (result ≡ BAD_ARGUMENT) ↔ (IsTrue (is_ctrl state.old) × IsFalse (has_slots state.old slots.old)) }
@@ -115,6 +115,7 @@ pub extern "C" fn nvmearb_ctrl_fetched(
     ensures nothing { (rules : FrontRules) (late : Bool) (notes : Notes) → Stands rules late notes state.old.ctrl slots.old → result ≡ NOTHING → (slot : ℕ) → MayFetch rules notes (depth_of state.old.ctrl qid) (length slots.old) qid slot → ⊥ }
     ensures stands { (rules : FrontRules) (late : Bool) (notes : Notes) → Stands rules late notes state.old.ctrl slots.old → result ≡ OK → (entry : Sqe) → IsSubmissionEntry bytes.now entry → HasFetched rules late notes qid entry cookie state.new.ctrl slots.new }
     ensures depths { depths_of state.new.ctrl ≡ depths_of state.old.ctrl }
+    ensures generations { SameGenerations slots.old slots.new }
     ensures left { own_of state.new.ctrl ≡ own_of state.old.ctrl }
     ensures unchanged { result ≢ OK → (state.new ≡ state.old) × (slots.new ≡ slots.old) }
 {

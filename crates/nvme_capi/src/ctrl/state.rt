@@ -1,6 +1,6 @@
 // A controller of C, and what its calls are given and write.
 ghost use Rattle.std.specs.Prelude.{◌≡◌};
-ghost use Rattle.nvme_capi.specs.Controllers.{is_ctrl, is_depth, has_slots};
+ghost use Rattle.nvme_capi.specs.Controllers.{is_ctrl, is_whole, is_depth, has_slots};
 
 use crate::answers::AnswerFields;
 use crate::states::PickFields;
@@ -91,7 +91,7 @@ pub struct StepFields {
 pub struct CommandFields {
     pub entry: Sqe,
     pub cookie: u32,
-    pub tag: u16,
+    pub tag: u32,
 }
 
 /// `nvmearb_post`: the bytes of a completion queue entry, and the slot of the ring that they go into.
@@ -100,7 +100,7 @@ pub struct CommandFields {
 pub struct PostFields {
     pub bytes: [u8; 16],
     pub cookie: u32,
-    pub tag: u16,
+    pub tag: u32,
     pub slot: u16,
 }
 
@@ -109,6 +109,13 @@ pub fn is_ctrl(state: &CtrlState) -> bool
     ensures { result ≡ is_ctrl state.now }
 {
     state.mark == MARK
+}
+
+/// Whether a controller was made here, and what its arbitration keeps is in its ranges: all that a pick asks of it.
+pub fn is_whole(state: &CtrlState) -> bool
+    ensures { result ≡ is_whole state.now }
+{
+    is_ctrl(state) && state.ctrl.has_arbiter()
 }
 
 /// Whether a number can be the depth of a submission queue.

@@ -65,15 +65,6 @@ pub record IsApplied (rules : FrontRules) (late : Bool) (notes : Notes) (c : Con
   pub unanswered : answer_of notes 0 candidate.index ≡ None
   pub cookie : cookie_of notes 0 candidate.index ≡ Some (slot_at slots tag).cookie
 
--- a controller at some such notes
-pub record IsApplying (c : Controller) (slots : List Slot) (did : Effect) : Type 0 where
-  pub rules : FrontRules
-  pub late : Bool
-  pub notes : Notes
-  pub tag : ℕ
-  pub verdict : Verdict
-  pub applied : IsApplied rules late notes c slots tag did verdict
-
 -- ---- queues are opened and closed
 -- a submission queue may be opened on a region of this size, to which nothing happened, and post to a completion queue
 pub record IsOpenable (rules : FrontRules) (notes : Notes) (k : Content) (qid size cqid region c : ℕ) : Type 0 where
@@ -194,16 +185,6 @@ pub record IsAbortableIn (notes : Notes) (k : Content) (sqid cid : ℕ) (entry :
 
 abbrev pub IsAbortable : Notes → Content → (sqid cid : ℕ) → Type 0
 IsAbortable notes k sqid cid = (entry : SqEntry) → sqid ≢ 0 → k.table.sq sqid ≡ Some entry → entry.closing ≡ false → IsAbortableIn notes k sqid cid entry
-
--- a controller keeps some content, of which an Abort command may abort a candidate
-pub record MayAbort (c : Controller) (slots : List Slot) (sqid cid : ℕ) : Type 0 where
-  pub rules : FrontRules
-  pub notes : Notes
-  pub content : Content
-  pub items : Items
-  pub keeps : Keeps rules notes c slots content items
-  pub none_picked : c.picked ≡ 0
-  pub may : IsAbortable notes content sqid cid
 
 -- a candidate was aborted: its completion is ready. `board` is the board with a candidate less
 abbrev pub requesting : Content → (sqid region c cid : ℕ) → BoardView → Candidate → Content

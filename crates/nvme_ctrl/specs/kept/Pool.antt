@@ -26,7 +26,7 @@ no_entry = record {
 }
 
 abbrev pub no_slot : Slot
-no_slot = record { entry = no_entry; cookie = 0; dw0 = 0; next = 0; sct = 0; sc = 0; sqid = 0; state = 0; more = 0; do_not_retry = 0 }
+no_slot = record { entry = no_entry; cookie = 0; dw0 = 0; next = 0; generation = 0; sct = 0; sc = 0; sqid = 0; state = 0; more = 0; do_not_retry = 0 }
 
 -- a slot of a pool; beyond its end, a free one
 abbrev pub slot_at : List Slot → ℕ → Slot

@@ -1,9 +1,6 @@
 use Rattle.std.proofs.Common.{◌∙◌, sym, refl}
 use Rattle.nvme_capi.proofs.ctrl.commands.nvmearb_ctrl_finish.Goals as goal
 
-pub finish-requires : goal.finish-requires
-finish-requires c = record { front = c.requires.kept.front (sym c.is_ctrl.ensures ∙ c.if-not-is_ctrl.false) (sym c.has_slots.ensures ∙ c.if-not-has_slots.false) }
-
 pub returns-in-Some-clause-stands : goal.returns-in-Some-clause-stands
 returns-in-Some-clause-stands c = λ rules late notes s _. c.in-Some.ensures.stands rules late notes s
 

@@ -3,9 +3,6 @@ use Rattle.nvme_arbiter.specs.declared.pick.Pick.{Pick}
 use Rattle.nvme_ctrl.specs.Steps.{IsNextPick}
 use Rattle.nvme_capi.proofs.ctrl.commands.nvmearb_ctrl_peek.Goals as goal
 
-pub next_pick-requires : goal.next_pick-requires
-next_pick-requires c = record { front = c.requires.kept.front (sym c.is_ctrl.ensures ∙ c.if-not-is_ctrl.false) (sym c.has_slots.ensures ∙ c.if-not-has_slots.false) }
-
 pub returns-in-Some-clause-picked : goal.returns-in-Some-clause-picked
 returns-in-Some-clause-picked c = λ rules late notes s _.
     subst (λ (pick : Pick). IsNextPick rules notes (Some pick)) (sym c.fields_of_pick.ensures.same)

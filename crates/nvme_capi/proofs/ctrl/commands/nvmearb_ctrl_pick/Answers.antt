@@ -6,9 +6,6 @@ use Rattle.nvme_ctrl.specs.Steps.{HasStepped}
 use Rattle.nvme_capi.specs.Tables.{answer_of}
 use Rattle.nvme_capi.proofs.ctrl.commands.nvmearb_ctrl_pick.Goals as goal
 
-pub pick-requires : goal.pick-requires
-pick-requires c = record { front = c.requires.kept.front (sym c.is_ctrl.ensures ∙ c.if-not-is_ctrl.false) (sym c.has_slots.ensures ∙ c.if-not-has_slots.false) }
-
 pub returns-in-Idle-clause-idle : goal.returns-in-Idle-clause-idle
 returns-in-Idle-clause-idle c = λ rules late notes s _. subst (λ (it : Step). HasStepped rules late notes c.args.room it c.pick.new.self c.pick.new.slots) c.in-Idle.is (c.pick.ensures.stands rules late notes s)
 

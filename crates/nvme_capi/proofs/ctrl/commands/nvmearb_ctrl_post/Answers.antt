@@ -2,9 +2,6 @@ use Rattle.std.proofs.Common.{◌∙◌, ℕ, sym, subst, refl}
 use Rattle.nvme_ctrl.specs.Calls.{HasPosted}
 use Rattle.nvme_capi.proofs.ctrl.commands.nvmearb_ctrl_post.Goals as goal
 
-pub post-requires : goal.post-requires
-post-requires c = record { front = c.requires.kept.front (sym c.is_ctrl.ensures ∙ c.if-not-is_ctrl.false) (sym c.has_slots.ensures ∙ c.if-not-has_slots.false) }
-
 pub returns-in-Some-clause-stands : goal.returns-in-Some-clause-stands
 returns-in-Some-clause-stands c = λ rules late notes s _. record {
   cqe = c.in-Some.it.cqe;

@@ -1,9 +1,6 @@
 use Rattle.std.proofs.Common.{◌∙◌, sym}
 use Rattle.nvme_capi.proofs.ctrl.lookups.nvmearb_ctrl_named.Goals as goal
 
-pub named-requires : goal.named-requires
-named-requires c = record { front = c.requires.kept.front (sym c.is_ctrl.ensures ∙ c.if-not-is_ctrl.false) (sym c.has_slots.ensures ∙ c.if-not-has_slots.false) }
-
 pub returns-in-Some-clause-found : goal.returns-in-Some-clause-found
 returns-in-Some-clause-found c = λ rules late notes s _. c.in-Some.ensures.found rules late notes s
 

@@ -3,9 +3,6 @@ use Rattle.nvme_entry.specs.declared.submission.Sqe.{Sqe}
 use Rattle.nvme_ctrl.specs.Calls.{HasFetched}
 use Rattle.nvme_capi.proofs.ctrl.rings.nvmearb_ctrl_fetched.Goals as goal
 
-pub fetched-requires : goal.fetched-requires
-fetched-requires c = record { front = c.requires.kept.front (sym c.is_ctrl.ensures ∙ c.if-not-is_ctrl.false) (sym c.has_slots.ensures ∙ c.if-not-has_slots.false) }
-
 pub returns-then-fetched-clause-stands : goal.returns-then-fetched-clause-stands
 returns-then-fetched-clause-stands c = λ rules late notes s _ entry is.
     subst (λ (x : Sqe). HasFetched rules late notes c.args.qid x c.args.cookie c.fetched.new.self c.fetched.new.slots)

@@ -13,41 +13,17 @@ use Rattle.nvme_ctrl.proofs.AppliedQueues.{opens_within, opens_free, opens_io}
 use Rattle.nvme_ctrl.proofs.CarryOut.{ended_plain, ended_opened, ended_cq_opened, ended_cq_closed, ended_set, carried_as, carried_by, applied_as, some_asked, applied_sq, applied_delete, applied_abort}
 use Rattle.nvme_ctrl.proofs.CarryQueues.{begins_on_board, ended_begun}
 use Rattle.nvme_ctrl.proofs.CarryAbort.{aborts_may, carried_found, carried_none}
+use Rattle.nvme_ctrl.proofs.Generations.{left_both}
 use Rattle.nvme_ctrl.proofs.ToldVerdicts.{told_plain, told_sq, told_cq}
 use Rattle.nvme_ctrl.proofs.state.Controller.carry_out.Goals.{then-abort, else-abort}
 use Rattle.nvme_ctrl.proofs.state.Controller.carry_out.Goals as goal
-
-pub open_sq-requires-clause-within : goal.open_sq-requires-clause-within
-open_sq-requires-clause-within c =
-    let h = subst (IsApplying c.args.self.now c.args.slots.now) c.in-OpenSq.is c.requires.applied in
-    opens_within h.rules h.late h.notes _ _ h.tag _ _ _ _ _ (applied_sq h.rules h.late h.notes _ _ h.tag _ _ _ _ _ h.verdict h.applied).1
-
-pub open_sq-requires-clause-not_open : goal.open_sq-requires-clause-not_open
-open_sq-requires-clause-not_open c =
-    let h = subst (IsApplying c.args.self.now c.args.slots.now) c.in-OpenSq.is c.requires.applied in
-    let now = (applied_sq h.rules h.late h.notes _ _ h.tag _ _ _ _ _ h.verdict h.applied).1 in
-    ap (λ (v : BoardView). queue_at v.queues c.in-OpenSq.qid) now.keeps.numbers.board_is ∙ opens_free h.rules h.late h.notes _ _ h.tag _ _ _ _ _ now
-
-pub open_sq-requires-clause-admin : goal.open_sq-requires-clause-admin
-open_sq-requires-clause-admin c =
-    let h = subst (IsApplying c.args.self.now c.args.slots.now) c.in-OpenSq.is c.requires.applied in
-    opens_io h.rules h.late h.notes _ _ h.tag _ _ _ _ _ (applied_sq h.rules h.late h.notes _ _ h.tag _ _ _ _ _ h.verdict h.applied).1
-
-pub begin_delete-requires : goal.begin_delete-requires
-begin_delete-requires c =
-    let h = subst (IsApplying c.args.self.now c.args.slots.now) c.in-BeginDelete.is c.requires.applied in
-    record { on_board = begins_on_board h.rules h.late h.notes _ _ h.tag _ _ (applied_delete h.rules h.late h.notes _ _ h.tag _ _ h.verdict h.applied) }
-
-pub abort-requires : goal.abort-requires
-abort-requires c =
-    let h = subst (IsApplying c.args.self.now c.args.slots.now) c.in-Abort.is c.requires.applied in
-    record { may = aborts_may h.rules h.late h.notes _ _ h.tag _ _ _ (applied_abort h.rules h.late h.notes _ _ h.tag _ _ h.verdict h.applied) }
 
 pub returns-in-Done : goal.returns-in-Done
 returns-in-Done c = record {
   own = ap (λ (z : Controller). z.own) c.end.ensures.left;
   depths = ap (λ (z : Controller). z.depths) c.end.ensures.left;
   size = c.end.ensures.size;
+  generations = c.end.ensures.generations;
   stands = λ rules late notes v.
       let a = c.args.self.now in
       let did = effect.Done c.in-Done.status c.in-Done.dw0 in
@@ -70,6 +46,7 @@ returns-in-OpenSq c = record {
   own = ap (λ (z : Controller). z.own) c.end-in-OpenSq.ensures.left ∙ ap (λ (z : Controller). z.own) c.open_sq.ensures.left;
   depths = ap (λ (z : Controller). z.depths) c.end-in-OpenSq.ensures.left ∙ ap (λ (z : Controller). z.depths) c.open_sq.ensures.left;
   size = c.end-in-OpenSq.ensures.size;
+  generations = c.end-in-OpenSq.ensures.generations;
   stands = λ rules late notes v.
       let a = c.args.self.now in
       let it = c.in-OpenSq in
@@ -77,9 +54,13 @@ returns-in-OpenSq c = record {
       carried_as rules late notes v a c.args.slots.now c.args.tag c.args.effect.now did c.end-in-OpenSq.new.self c.end-in-OpenSq.new.slots c.in-OpenSq.is (λ h.
       let t = told_sq h.before.table.placing it.qid it.region it.cqid it.class v h.told in
       let this = verdict.OpenSq it.qid t.0 it.cqid it.class in
+      let now = applied_as rules late notes a c.args.slots.now c.args.tag did v this t.1 h in
+      let free = ap (λ (v : BoardView). queue_at v.queues it.qid) now.keeps.numbers.board_is ∙ opens_free rules late notes a c.args.slots.now c.args.tag it.qid t.0 it.cqid it.class did now in
       carried_by rules late notes c.end-in-OpenSq.new.self c.end-in-OpenSq.new.slots v this t.1
-      (ended_opened rules late notes a c.args.slots.now c.args.tag it.qid t.0 it.cqid _ it.class did (applied_as rules late notes a c.args.slots.now c.args.tag did v this t.1 h)
-      c.open_sq.new.self c.end-in-OpenSq.new.self c.end-in-OpenSq.new.slots (c.asked_slots-size.ensures ∙ ap (λ (s : Slot). slots_asked (admin_command_of s.entry)) {y = slot_at c.args.slots.now c.args.tag} c.slot_at.ensures) c.open_sq.ensures.kept
+      (ended_opened rules late notes a c.args.slots.now c.args.tag it.qid t.0 it.cqid _ it.class did now
+      c.open_sq.new.self c.end-in-OpenSq.new.self c.end-in-OpenSq.new.slots (c.asked_slots-size.ensures ∙ ap (λ (s : Slot). slots_asked (admin_command_of s.entry)) {y = slot_at c.args.slots.now c.args.tag} c.slot_at.ensures)
+      (c.open_sq.ensures.kept (opens_within rules late notes a c.args.slots.now c.args.tag it.qid t.0 it.cqid it.class did now) free
+      (opens_io rules late notes a c.args.slots.now c.args.tag it.qid t.0 it.cqid it.class did now))
       c.end-in-OpenSq.ensures.kept));
 }
 
@@ -88,6 +69,7 @@ returns-in-OpenCq c = record {
   own = ap (λ (z : Controller). z.own) c.end-in-OpenCq.ensures.left ∙ ap (λ (z : Controller). z.own) c.open_cq.ensures.left;
   depths = ap (λ (z : Controller). z.depths) c.end-in-OpenCq.ensures.left ∙ ap (λ (z : Controller). z.depths) c.open_cq.ensures.left;
   size = c.end-in-OpenCq.ensures.size;
+  generations = c.end-in-OpenCq.ensures.generations;
   stands = λ rules late notes v.
       let a = c.args.self.now in
       let it = c.in-OpenCq in
@@ -106,6 +88,7 @@ returns-in-CloseCq c = record {
   own = ap (λ (z : Controller). z.own) c.end-in-CloseCq.ensures.left ∙ ap (λ (z : Controller). z.own) c.close_cq.ensures.left;
   depths = ap (λ (z : Controller). z.depths) c.end-in-CloseCq.ensures.left ∙ ap (λ (z : Controller). z.depths) c.close_cq.ensures.left;
   size = c.end-in-CloseCq.ensures.size;
+  generations = c.end-in-CloseCq.ensures.generations;
   stands = λ rules late notes v.
       let a = c.args.self.now in
       let did = effect.CloseCq c.in-CloseCq.qid c.in-CloseCq.region in
@@ -122,15 +105,17 @@ returns-in-BeginDelete c = record {
   own = c.begin_delete.ensures.own;
   depths = c.begin_delete.ensures.depths;
   size = c.begin_delete.ensures.size;
+  generations = c.begin_delete.ensures.generations;
   stands = λ rules late notes v.
       let a = c.args.self.now in
       let did = effect.BeginDelete c.in-BeginDelete.qid c.in-BeginDelete.region in
       let this = verdict.BeginDelete c.in-BeginDelete.qid in
       carried_as rules late notes v a c.args.slots.now c.args.tag c.args.effect.now did c.begin_delete.new.self c.begin_delete.new.slots c.in-BeginDelete.is (λ h.
       let is = told_plain h.before.table.placing this v refl h.told in
+      let now = applied_as rules late notes a c.args.slots.now c.args.tag did v this is h in
       carried_by rules late notes c.begin_delete.new.self c.begin_delete.new.slots v this is
-      (ended_begun rules late notes a c.args.slots.now c.args.tag c.in-BeginDelete.qid did (applied_as rules late notes a c.args.slots.now c.args.tag did v this is h)
-      c.begin_delete.new.self c.begin_delete.new.slots c.begin_delete.ensures.begun));
+      (ended_begun rules late notes a c.args.slots.now c.args.tag c.in-BeginDelete.qid did now
+      c.begin_delete.new.self c.begin_delete.new.slots (c.begin_delete.ensures.begun (begins_on_board rules late notes a c.args.slots.now c.args.tag c.in-BeginDelete.qid did now))));
 }
 
 pub returns-after-abort : goal.returns-after-abort
@@ -138,6 +123,7 @@ returns-after-abort c = record {
   own = ap (λ (z : Controller). z.own) c.end-in-Abort.ensures.left ∙ c.abort.ensures.own;
   depths = ap (λ (z : Controller). z.depths) c.end-in-Abort.ensures.left ∙ c.abort.ensures.depths;
   size = c.end-in-Abort.ensures.size ∙ c.abort.ensures.size;
+  generations = left_both c.args.slots.now c.abort.new.slots c.end-in-Abort.new.slots c.abort.ensures.generations c.end-in-Abort.ensures.generations;
   stands = λ rules late notes v.
       let a = c.args.self.now in
       let did = effect.Abort c.in-Abort.sqid c.in-Abort.cid in
@@ -160,6 +146,7 @@ returns-in-SetArbitration c = record {
   own = ap (λ (z : Controller). z.own) c.end-in-SetArbitration.ensures.left ∙ c.set_arbitration.ensures.own;
   depths = ap (λ (z : Controller). z.depths) c.end-in-SetArbitration.ensures.left ∙ c.set_arbitration.ensures.depths;
   size = c.end-in-SetArbitration.ensures.size;
+  generations = c.end-in-SetArbitration.ensures.generations;
   stands = λ rules late notes v.
       let a = c.args.self.now in
       let did = effect.SetArbitration c.in-SetArbitration.settings in

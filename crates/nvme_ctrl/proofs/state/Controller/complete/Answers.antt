@@ -13,6 +13,7 @@ use Rattle.nvme_ctrl.specs.declared.state.Controller.{Controller}
 use Rattle.nvme_ctrl.specs.kept.Pool.{slot_at, put_item}
 use Rattle.nvme_ctrl.specs.kept.State.{sq_at, cq_at}
 use Rattle.nvme_ctrl.proofs.AnswerCall.{IsPushed, answered_slot, answered_pool, answered_controller, answer-stands, other_is_not_out, out_is_out}
+use Rattle.nvme_ctrl.proofs.Generations.{left_both, put_left, items_left}
 use Rattle.nvme_ctrl.proofs.state.Controller.complete.Goals as goal
 
 pub returns-then-slot-ne-OUT-clause-answer : goal.returns-then-slot-ne-OUT-clause-answer
@@ -62,7 +63,12 @@ returns-clause-stands c rules late notes s is_done =
     subst (λ (y : Controller). HasAnswered rules late notes tag answer marks y c.push.new.slots) (sym put) done
 
 pub returns-clause-front : goal.returns-clause-front
-returns-clause-front c =
-    let was = c.requires.front in
+returns-clause-front c was =
     let now = returns-clause-stands c was.rules was.late was.notes was.stands refl in
     record { rules = was.rules; late = was.late; notes = Marked now.region now.index c.args.answer.marks ∷ Answered now.region now.index (record { status = c.args.answer.status; dw0 = c.args.answer.dw0 }) ∷ was.notes; stands = now.stands }
+
+pub returns-clause-generations : goal.returns-clause-generations
+returns-clause-generations c =
+    left_both c.args.slots.now c.put_item.new.slots c.push.new.slots
+    (put_left c.args.slots.now c.put_item.new.slots c.args.tag _ c.put_item.ensures (ap (λ (s : Slot). s.generation) c.slot_at-slot.ensures))
+    (items_left c.put_item.new.slots c.push.new.slots c.push.ensures.items)

@@ -1,8 +1,10 @@
 use Rattle.std.proofs.Common.{arith, ap, ◌∙◌}
 use Rattle.nvme_entry.specs.Status.{StatusCode}
 use Rattle.nvme_ctrl.specs.declared.marks.Marks.{Marks}
+use Rattle.nvme_ctrl.specs.declared.slot.Slot.{Slot}
 use Rattle.nvme_ctrl.specs.kept.Pool.{bit, put_item}
 use Rattle.nvme_ctrl.proofs.Ending.{keeps_end}
+use Rattle.nvme_ctrl.proofs.Generations.{left_both, put_left, items_left}
 use Rattle.nvme_ctrl.proofs.state.Controller.end.Goals as goal
 
 pub returns-clause-kept : goal.returns-clause-kept
@@ -21,3 +23,9 @@ returns-clause-kept c = λ rules notes k g t h loose makes through cookie passed
     })))
     c.cq-cq.ensures c.push.ensures.chain c.push.ensures.items c.push.ensures.links c.put_cq.ensures
     (omega (arith, c.status.invariant, ap (λ (x : StatusCode). x.sct) c.status.view_is)) loose makes through cookie passed_as unmarked x life of_queue
+
+pub returns-clause-generations : goal.returns-clause-generations
+returns-clause-generations c =
+    left_both c.args.slots.now c.put_item.new.slots c.push.new.slots
+    (put_left c.args.slots.now c.put_item.new.slots c.args.tag _ c.put_item.ensures (ap (λ (s : Slot). s.generation) c.slot_at-slot.ensures))
+    (items_left c.put_item.new.slots c.push.new.slots c.push.ensures.items)

@@ -1,4 +1,4 @@
-use Rattle.std.proofs.Common.{◌≡◌, ℕ, ◌+◌, ◌<◌, ◌^◌, Some, not, List, [], ◌∷◌, ◌++◌, length, refl, sym, ap, ◌∙◌, subst, arith}
+use Rattle.std.proofs.Common.{◌≡◌, ℕ, ◌+◌, ◌<◌, ◌^◌, ◌%◌, Some, Bool, not, List, [], ◌∷◌, ◌++◌, length, refl, sym, ap, ◌∙◌, subst, arith}
 use Rattle.std.specs.Prelude.{◌==◌, if◌then◌else◌, slice_set, IsSomeAnd, IfSome}
 use Rattle.nvme_arbiter.specs.Layout.{board_of}
 use Rattle.nvme_arbiter.specs.Limits.{highest_count}
@@ -7,10 +7,11 @@ use Rattle.nvme_arbiter.specs.declared.board_fields.BoardFields.{BoardFields}
 use Rattle.nvme_arbiter.specs.declared.pick.OpenQueue.{OpenQueue}
 use Rattle.nvme_log.specs.declared.event.Event.TheVariants.{Fetch}
 use Rattle.nvme_log.specs.Places.{fetched}
-use Rattle.nvme_ctrl.specs.Notes.{Logged, Kept, logged}
+use Rattle.nvme_log.specs.Rules.{FrontRules}
+use Rattle.nvme_ctrl.specs.Notes.{Notes, Logged, Kept, logged}
 use Rattle.nvme_ctrl.specs.Rings.{HasCounts}
 use Rattle.nvme_ctrl.specs.Calls.{HasFetched}
-use Rattle.nvme_ctrl.specs.Standing.{IsController}
+use Rattle.nvme_ctrl.specs.Standing.{Stands, IsController}
 use Rattle.nvme_ctrl.specs.declared.chain.Chain.{Chain}
 use Rattle.nvme_ctrl.specs.declared.slot.Slot.{Slot}
 use Rattle.nvme_ctrl.specs.declared.state.SqState.{SqState}
@@ -19,12 +20,13 @@ use Rattle.nvme_ctrl.specs.kept.Pool.{IsNew, IsChain, SameItems, SameLinks}
 use Rattle.nvme_ctrl.specs.kept.State.{sq_at}
 use Rattle.nvme_ctrl.proofs.DoorbellCalls.{has_none}
 use Rattle.nvme_ctrl.proofs.FetchCalls.{Fetches, fetched_state, has_fetched, may_come, few_queues, told_fetchable}
+use Rattle.nvme_ctrl.proofs.Generations.{left_both, put_left, items_left}
 use Rattle.nvme_ctrl.proofs.FetchTold.{is_fetchable, some_popped, MayBeFetched, may_be_fetched}
 use Rattle.nvme_ctrl.proofs.state.Controller.fetched.Goals as goal
 
 pub returns-in_default-clause-front : goal.returns-in_default-clause-front
-returns-in_default-clause-front c =
-    subst (λ (free : Chain). IsController (record c.args.self.now { free = free }) c.args.slots.now) (sym (c.in_default.ensures.none refl)) c.requires.front
+returns-in_default-clause-front c front =
+    subst (λ (free : Chain). IsController (record c.args.self.now { free = free }) c.args.slots.now) (sym (c.in_default.ensures.none refl)) front
 
 pub returns-in_default-clause-refused : goal.returns-in_default-clause-refused
 returns-in_default-clause-refused c refused = (ap (λ (free : Chain). record c.args.self.now { free = free }) (c.in_default.ensures.none refl), refl)
@@ -38,35 +40,20 @@ returns-in_default-clause-told c rules late notes s slot m =
     absurd (some_popped c.args.slots.now c.args.self.now.free s.items.free c.pop.result s.has.free_chain
     (may_be_fetched c.args.self.now c.args.qid c.fetchable.result c.fetchable.ensures.some (c.is_none.ensures ∙ ap not c.if-is_none.false)).can.some_free c.pop.ensures.some c.in_default.is)
 
--- an identifier of a queue whose state is kept fits a slot
-pub overflow_cast-qid : goal.overflow_cast-qid
-overflow_cast-qid c =
-    let front = c.requires.front in
-    let found = may_be_fetched c.args.self.now c.args.qid c.fetchable.result c.fetchable.ensures.some (c.is_none.ensures ∙ ap not c.if-is_none.false) in
-    let it = told_fetchable c.args.self.now front.stands.content.table front.stands.numbers.tells c.args.qid found.entry found.can in
-    let few : c.args.qid < 65 = few_queues front.rules front.late front.notes c.args.self.now c.args.slots.now front.stands c.args.qid it.entry it.can in
-    omega (arith, few)
-
-pub came-requires : goal.came-requires
-came-requires c =
-    let front = c.requires.front in
-    let found = may_be_fetched c.args.self.now c.args.qid c.fetchable.result c.fetchable.ensures.some (c.is_none.ensures ∙ ap not c.if-is_none.false) in
-    let it = told_fetchable c.args.self.now front.stands.content.table front.stands.numbers.tells c.args.qid found.entry found.can in
-    subst (λ (board : BoardFields). IsSomeAnd (queue_at (board_of board).queues c.args.qid) (λ (queue : OpenQueue). queue.count < highest_count))
-    (sym (ap (λ (self : Controller). self.board) c.put_sq.ensures))
-    (may_come front.rules front.late front.notes c.args.self.now c.args.slots.now front.stands c.args.qid it.entry it.can)
-
 -- its queue
 fetched_from : (c : goal.After-came) → MayBeFetched c.args.self.now c.args.qid
 fetched_from c = may_be_fetched c.args.self.now c.args.qid c.fetchable.result c.fetchable.ensures.some (c.is_none.ensures ∙ ap not c.if-is_none.false)
 
 -- the command's slot
 abbrev waiting : goal.After-came → Slot
-waiting c = record c.free.result { entry = c.args.entry.now; cookie = c.args.cookie; sqid = c.args.qid; state = 1 }
+waiting c = record c.free.result { entry = c.args.entry.now; cookie = c.args.cookie; generation = c.slot_at-generation.result.generation; sqid = c.args.qid % 256; state = 1 }
 
-fetches : (c : goal.After-came) → Fetches c.args.self.now c.args.slots.now c.args.qid c.args.entry.now c.args.cookie c.in-Some.tag (waiting c) c.pop.new.self
+fetches : (c : goal.After-came) (rules : FrontRules) (late : Bool) (notes : Notes) → Stands rules late notes c.args.self.now c.args.slots.now → Fetches c.args.self.now c.args.slots.now c.args.qid c.args.entry.now c.args.cookie c.in-Some.tag (waiting c) c.pop.new.self
     c.push.new.self c.read.new.self c.came.new.board c.push.new.slots
-fetches c =
+fetches c rules late notes s =
+    let found = fetched_from c in
+    let it = told_fetchable c.args.self.now s.content.table s.numbers.tells c.args.qid found.entry found.can in
+    let few : c.args.qid < 65 = few_queues rules late notes c.args.self.now c.args.slots.now s c.args.qid it.entry it.can in
     let pool : List Slot = c.push.new.slots in
     let tag : ℕ = c.in-Some.tag in
     record {
@@ -78,7 +65,7 @@ fetches c =
           c.sq-sq.ensures c.read.ensures.counts;
       same_slots = subst (λ (state : SqState). c.read.new.self.slots ≡ state.ring.slots) c.sq-sq.ensures c.read.ensures.slots;
       state = refl;
-      queue = refl;
+      queue = (let low = few in omega (arith, low));
       has = refl;
       keeps = refl;
       chain = subst (λ (slots : List Slot). (xs : List ℕ) → IsChain slots (sq_at c.args.self.now.sqs c.args.qid).window xs → tag < length slots → IsNew tag xs
@@ -90,7 +77,10 @@ fetches c =
           (subst (λ (state : SqState). (xs : List ℕ) → IsChain c.put_item.new.slots state.window xs → SameLinks xs c.put_item.new.slots pool) c.sq-sq.ensures c.push.ensures.links);
       came = subst (λ (board : BoardFields). IfSome (queue_at (board_of board).queues c.args.qid) (λ (queue : OpenQueue). board_of c.came.new.board ≡ record (board_of board) {
         queues = slice_set (board_of board).queues c.args.qid (Some (record queue { count = if c.sq-sq.result.held == 1 then queue.count else queue.count + 1 }));
-      })) (ap (λ (self : Controller). self.board) c.put_sq.ensures) c.came.ensures.came;
+      })) (ap (λ (self : Controller). self.board) c.put_sq.ensures)
+          (c.came.ensures.came (subst (λ (board : BoardFields). IsSomeAnd (queue_at (board_of board).queues c.args.qid) (λ (queue : OpenQueue). queue.count < highest_count))
+          (sym (ap (λ (self : Controller). self.board) c.put_sq.ensures))
+          (may_come rules late notes c.args.self.now c.args.slots.now s c.args.qid it.entry it.can)));
       arbiter = subst (λ (board : BoardFields). c.came.new.board.arbiter ≡ board.arbiter) (ap (λ (self : Controller). self.board) c.put_sq.ensures) c.came.ensures.arbiter;
     }
 
@@ -104,11 +94,10 @@ returns-clause-stands c rules late notes s told =
     (record self { sqs = slice_set self.sqs c.args.qid (fetched_state state c.push.new.self c.read.new.self); free = c.pop.new.self; board = c.came.new.board }) c.push.new.slots)
     (sym c.sq-sq.ensures)
     (has_fetched rules late notes self c.args.slots.now s c.args.qid it.entry it.can c.args.entry.now c.args.cookie c.in-Some.tag (waiting c) c.pop.new.self
-    c.push.new.self c.read.new.self c.came.new.board c.push.new.slots (fetches c)))
+    c.push.new.self c.read.new.self c.came.new.board c.push.new.slots (fetches c rules late notes s)))
 
 pub returns-clause-front : goal.returns-clause-front
-returns-clause-front c =
-    let front = c.requires.front in
+returns-clause-front c front =
     let here = returns-clause-stands c front.rules front.late front.notes front.stands refl in
     record {
       rules = front.rules;
@@ -117,3 +106,9 @@ returns-clause-front c =
           ∷ Logged (Fetch here.may.queue.region (length (fetched (logged front.notes) here.may.queue.region)) c.args.entry.now) ∷ front.notes;
       stands = here.stands;
     }
+
+pub returns-clause-generations : goal.returns-clause-generations
+returns-clause-generations c =
+    left_both c.args.slots.now c.put_item.new.slots c.push.new.slots
+    (put_left c.args.slots.now c.put_item.new.slots c.in-Some.tag (waiting c) c.put_item.ensures (ap (λ (s : Slot). s.generation) c.slot_at-generation.ensures))
+    (items_left c.put_item.new.slots c.push.new.slots c.push.ensures.items)

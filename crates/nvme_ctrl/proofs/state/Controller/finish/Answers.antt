@@ -9,10 +9,10 @@ use Rattle.nvme_ctrl.specs.declared.state.Deletion.{Deletion}
 use Rattle.nvme_ctrl.proofs.FinishCall.{closes, finish_call}
 use Rattle.nvme_ctrl.proofs.state.Controller.finish.Goals as goal
 
-pub finish_delete-requires : goal.finish_delete-requires
-finish_delete-requires c =
-    let h = c.requires.front in
-    closes h.rules h.late h.notes c.args.self.now c.args.slots.now h.stands c.in_ok-qid.qid c.in_ok-qid.ensures.kept
+-- a controller's queue whose deletion is pending is closing
+pub returns-then-is_closing-clause-told : goal.returns-then-is_closing-clause-told
+returns-then-is_closing-clause-told c = λ rules late notes s _.
+    absurd (c.is_closing.ensures.no c.if-is_closing.true (closes rules late notes c.args.self.now c.args.slots.now s c.in_ok-qid.qid c.in_ok-qid.ensures.kept))
 
 pub returns-clause-stands : goal.returns-clause-stands
 returns-clause-stands c = λ rules late notes s.
@@ -29,8 +29,7 @@ returns-clause-stands c = λ rules late notes s.
     c.saturating_sub-self.ensures refl c.end.ensures.kept
 
 pub returns-clause-front : goal.returns-clause-front
-returns-clause-front c =
-    let h = c.requires.front in
+returns-clause-front c h =
     let f : HasFinished h.rules h.late h.notes c.in_ok-qid.qid c.end.new.self c.end.new.slots = returns-clause-stands c h.rules h.late h.notes h.stands in
     record {
       rules = h.rules;

@@ -18,7 +18,7 @@ returns c = record {
   stands = λ rules late notes s.
       let self : Controller = c.args.self.now in
       let can = c.requires.can in
-      let lawful = next_lawful self c.args.pick can.next can.some in
+      let lawful = next_lawful self c.args.pick can.next (can.some (record { rules = rules; late = late; notes = notes; stands = s })) in
       let done = pass-call rules late notes self c.args.slots.now s can.none_picked c.args.pick c.keep.new.self
       lawful c.keep.ensures.stands c.keep.ensures.queues c.keep.ensures.is_arbiter c.requires.of_admin (own_may self.own (logged notes) (oldest_entry self c.args.slots.now) (c.requires.own rules late notes s)) in
       let unposted : c.saturating_add.result ≡ min (c.sq-sq.result.unposted + 1) 65535 = c.saturating_add.ensures in

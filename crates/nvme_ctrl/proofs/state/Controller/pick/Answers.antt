@@ -26,20 +26,17 @@ returns-then-room-eq0-clause-stands c rules late notes s =
     (s, record { pick = c.in-Some.whole; next = next; none = c.if-room-eq0.true })
 
 pub returns-else-is_own-clause-front : goal.returns-else-is_own-clause-front
-returns-else-is_own-clause-front c =
-    let was = c.requires.front in
+returns-else-is_own-clause-front c was =
     let step = c.pick_admin-effect.ensures.stands was.rules was.late was.notes was.stands in
     record { rules = _; late = was.late; notes = _; stands = step.carried_out.stands }
 
 pub returns-then-pick-ne0-clause-front : goal.returns-then-pick-ne0-clause-front
-returns-then-pick-ne0-clause-front c =
-    let was = c.requires.front in
+returns-then-pick-ne0-clause-front c was =
     let step = c.pick_io.ensures.stands was.rules was.late was.notes was.stands in
     record { rules = was.rules; late = was.late; notes = _; stands = step }
 
 pub returns-then-is_own-clause-front : goal.returns-then-is_own-clause-front
-returns-then-is_own-clause-front c =
-    let was = c.requires.front in
+returns-then-is_own-clause-front c was =
     let step = c.pass.ensures.stands was.rules was.late was.notes was.stands in
     record { rules = was.rules; late = was.late; notes = _; stands = step.stands }
 
@@ -70,15 +67,15 @@ returns-else-is_own-clause-commanded c rules late notes s effect entry is =
 
 pub pick_io-requires-clause-can : goal.pick_io-requires-clause-can
 pick_io-requires-clause-can c =
-    can_pick c.args.self.now c.args.slots.now c.in-Some.whole c.up_to-pick.result c.args.room c.requires.front c.if-self-ne0.false (sym c.peek.ensures.by_what_is_kept ∙ c.in-Some.is) c.up_to-pick.ensures (some_room c.args.room c.if-room-eq0.false)
+    can_pick c.args.self.now c.args.slots.now c.in-Some.whole c.up_to-pick.result c.args.room c.requires.arbiter c.if-self-ne0.false (sym c.peek.ensures.by_what_is_kept ∙ c.in-Some.is) c.up_to-pick.ensures (some_room c.args.room c.if-room-eq0.false)
 
 pub pass-requires-clause-can : goal.pass-requires-clause-can
 pass-requires-clause-can c =
-    can_pick c.args.self.now c.args.slots.now c.in-Some.whole c.up_to-pick.result c.args.room c.requires.front c.if-self-ne0.false (sym c.peek.ensures.by_what_is_kept ∙ c.in-Some.is) c.up_to-pick.ensures (some_room c.args.room c.if-room-eq0.false)
+    can_pick c.args.self.now c.args.slots.now c.in-Some.whole c.up_to-pick.result c.args.room c.requires.arbiter c.if-self-ne0.false (sym c.peek.ensures.by_what_is_kept ∙ c.in-Some.is) c.up_to-pick.ensures (some_room c.args.room c.if-room-eq0.false)
 
 pub pick_admin-effect-requires-clause-can : goal.pick_admin-effect-requires-clause-can
 pick_admin-effect-requires-clause-can c =
-    can_pick c.args.self.now c.args.slots.now c.in-Some.whole c.up_to-pick.result c.args.room c.requires.front c.if-self-ne0.false (sym c.peek.ensures.by_what_is_kept ∙ c.in-Some.is) c.up_to-pick.ensures (some_room c.args.room c.if-room-eq0.false)
+    can_pick c.args.self.now c.args.slots.now c.in-Some.whole c.up_to-pick.result c.args.room c.requires.arbiter c.if-self-ne0.false (sym c.peek.ensures.by_what_is_kept ∙ c.in-Some.is) c.up_to-pick.ensures (some_room c.args.room c.if-room-eq0.false)
 
 pub returns-then-pick-ne0-clause-stands : goal.returns-then-pick-ne0-clause-stands
 returns-then-pick-ne0-clause-stands c rules late notes s =

@@ -13,20 +13,6 @@ use Rattle.nvme_ctrl.proofs.CommandVerdicts.{verdict_is_of, of_told}
 use Rattle.nvme_ctrl.proofs.PickCall.{next_lawful}
 use Rattle.nvme_ctrl.proofs.state.Controller.pick_admin.Goals as goal
 
-pub carry_out-requires : goal.carry_out-requires
-carry_out-requires c =
-    let h = c.requires.can.front in
-    let a = c.args.self.now in
-    let placed = admin_call h.rules h.late h.notes a c.args.slots.now h.stands c.requires.can.none_picked c.args.pick c.keep.new.self (next_lawful a c.args.pick c.requires.can.next c.requires.can.some)
-    c.keep.ensures.stands c.keep.ensures.queues c.keep.ensures.is_arbiter c.requires.of_admin
-    c.sq-sq.result c.pop.new.self c.pop.result c.unwrap_or-tag.result c.saturating_add.result c.saturating_add-self.result c.slot_at.result.entry c.execute-effect.new.self _ c.execute-effect.result
-    c.sq-sq.ensures c.pop.ensures.some c.pop.ensures.rest (λ x is. c.unwrap_or-tag.ensures ∙ ap (λ (o : Option ℕ). unwrap_or o 0) is) c.saturating_add.ensures
-    (c.saturating_add-self.ensures ∙ ap (λ (z : Controller). min (z.outstanding + 1) 65535) c.put_sq.ensures) (ap (λ (z : Slot). z.entry) c.slot_at.ensures)
-    (ap (λ (z : Controller). record z { outstanding = c.saturating_add-self.result; table = c.execute-effect.new.self }) c.put_sq.ensures)
-    (λ start h. subst (λ (z : Controller). Tells z.table (queue_table start h) → IsTold z.table (verdict_in c.execute-effect.result) (verdict_of start h c.slot_at.result.entry)) c.put_sq.ensures (c.execute-effect.ensures.verdict start h))
-    (λ start h was. c.execute-effect.ensures.stands start h (subst (λ (z : Controller). Tells z.table (queue_table start h)) (sym c.put_sq.ensures) was)) in
-    record { applied = record { rules = _; late = h.late; notes = h.notes; tag = c.unwrap_or-tag.result; verdict = placed.verdict; applied = placed.applied } }
-
 pub returns : goal.returns
 returns c =
     let a = c.args.self.now in
@@ -34,6 +20,7 @@ returns c =
       own = c.carry_out.ensures.own ∙ ap (λ (z : Controller). z.own) c.put_sq.ensures;
       depths = c.carry_out.ensures.depths ∙ ap (λ (z : Controller). z.depths) c.put_sq.ensures;
       size = c.carry_out.ensures.size;
+      generations = c.carry_out.ensures.generations;
       commanded = λ rules late notes s.
           let h = s.holds.tabled.history in
           let entry = c.slot_at.result.entry in
@@ -46,7 +33,7 @@ returns c =
           (λ start h. subst (λ (z : Controller). Tells z.table (queue_table start h) → IsTold z.table (verdict_in c.execute-effect.result) (verdict_of start h c.slot_at.result.entry)) c.put_sq.ensures (c.execute-effect.ensures.verdict start h))
           (subst (λ (z : Controller). placing_of z.table ≡ None → NamesRegions (content_of z.table) c.execute-effect.result) c.put_sq.ensures c.execute-effect.ensures.regions);
       stands = λ rules late notes s.
-          let placed = admin_call rules late notes a c.args.slots.now s c.requires.can.none_picked c.args.pick c.keep.new.self (next_lawful a c.args.pick c.requires.can.next c.requires.can.some)
+          let placed = admin_call rules late notes a c.args.slots.now s c.requires.can.none_picked c.args.pick c.keep.new.self (next_lawful a c.args.pick c.requires.can.next (c.requires.can.some (record { rules = rules; late = late; notes = notes; stands = s })))
           c.keep.ensures.stands c.keep.ensures.queues c.keep.ensures.is_arbiter c.requires.of_admin
           c.sq-sq.result c.pop.new.self c.pop.result c.unwrap_or-tag.result c.saturating_add.result c.saturating_add-self.result c.slot_at.result.entry c.execute-effect.new.self _ c.execute-effect.result
           c.sq-sq.ensures c.pop.ensures.some c.pop.ensures.rest (λ x is. c.unwrap_or-tag.ensures ∙ ap (λ (o : Option ℕ). unwrap_or o 0) is) c.saturating_add.ensures

@@ -17,7 +17,7 @@ returns c = record {
       let q : ℕ = c.args.pick.qid in
       let n : ℕ = c.args.pick.n in
       let done = pick-stands rules late notes self c.args.slots.now s can.none_picked c.args.pick c.keep.new.self
-      (next_lawful self c.args.pick can.next can.some) c.keep.ensures.stands c.keep.ensures.queues c.keep.ensures.is_arbiter c.requires.io in
+      (next_lawful self c.args.pick can.next (can.some (record { rules = rules; late = late; notes = notes; stands = s }))) c.keep.ensures.stands c.keep.ensures.queues c.keep.ensures.is_arbiter c.requires.io in
       let unposted : c.saturating_add.result ≡ min (c.sq-sq.result.unposted + n) 65535 = c.saturating_add.ensures in
       let put : c.put_sq.new.self ≡ record self { board = c.keep.new.self; sqs = slice_set self.sqs q (picked_state self q n) } =
       c.put_sq.ensures

@@ -16,6 +16,7 @@ use Rattle.nvme_ctrl.proofs.NextPost.{IsPostable, postable, not_postable, by_com
 use Rattle.nvme_ctrl.proofs.NoPosts.{full_ring, all_posted, none_ready, open_life}
 use Rattle.nvme_ctrl.proofs.PostCall.{HasDone}
 use Rattle.nvme_ctrl.proofs.PostLog.{steps_post}
+use Rattle.nvme_ctrl.proofs.Generations.{left_both, put_left, items_left}
 use Rattle.nvme_ctrl.proofs.state.Controller.post.Goals as goal
 
 abbrev after : goal.After-slots-2-1 → Controller
@@ -58,8 +59,7 @@ posted c rules late notes stands =
     (subst (λ (s : Slot). HasPosted rules late notes c.args.cqid old.ring.tail post.cqe s.cookie (marks_in s) (after c) c.push.new.slots) c.slot_at-command.ensures here)
 
 pub returns-clause-front : goal.returns-clause-front
-returns-clause-front c =
-    let f = c.requires.front in
+returns-clause-front c f =
     let p = posted c f.rules f.late f.notes f.stands in
     record { rules = f.rules; late = f.late; notes = _; stands = p.stands }
 
@@ -79,3 +79,9 @@ returns-in_err-post-clause-told c rules late notes stands none x is =
       | inr empty ↦ inr (all_posted rules late notes self slots stands x
           (none_ready rules late notes self slots stands c.args.cqid x life (chain-none slots (cq_at self.cqs c.args.cqid) empty)))
     ]
+
+pub returns-clause-generations : goal.returns-clause-generations
+returns-clause-generations c =
+    left_both c.args.slots.now c.put_item.new.slots c.push.new.slots
+    (put_left c.args.slots.now c.put_item.new.slots c.in_ok-post.post.tag _ c.put_item.ensures (ap (λ (s : Slot). s.generation) c.slot_at-command.ensures))
+    (items_left c.put_item.new.slots c.push.new.slots c.push.ensures.items)

@@ -6,10 +6,23 @@ use Rattle.nvme_ctrl.specs.Calls.{HasTaken}
 use Rattle.nvme_ctrl.specs.declared.slot.Slot.{Slot}
 use Rattle.nvme_ctrl.specs.declared.state.SqState.{SqState}
 use Rattle.nvme_ctrl.specs.declared.state.Controller.{Controller}
-use Rattle.nvme_ctrl.specs.kept.Pool.{put_item, IsChain}
+use Rattle.nvme_ctrl.specs.kept.Pool.{put_item, slot_at, IsChain}
 use Rattle.nvme_ctrl.specs.kept.State.{sq_at}
-use Rattle.nvme_ctrl.proofs.TakeCall.{took, took_pool, took_slot, took_sq, take-stands, take-first_there}
+use Rattle.nvme_ctrl.proofs.TakeCall.{took, took_pool, took_slot, took_sq, take-stands, take-inside, take-first_there}
+use Rattle.nvme_ctrl.proofs.Generations.{put_next_generation}
 use Rattle.nvme_ctrl.proofs.state.Controller.take.Goals as goal
+
+-- the slot is out, with its next generation
+its_pool : (c : goal.After-self-picked) → c.put_item.new.slots ≡ took_pool c.args.slots.now c.in_ok-tag.tag
+its_pool c =
+    c.put_item.ensures ∙ ap (λ (g : ℕ). put_item c.args.slots.now c.in_ok-tag.tag (record c.slot_at-slot.result { state = 2; generation = g })) c.wrapping_add-generation.ensures
+    ∙ ap (λ (slot : Slot). put_item c.args.slots.now c.in_ok-tag.tag (took_slot slot)) c.slot_at-slot.ensures
+
+pub returns-clause-generation : goal.returns-clause-generation
+returns-clause-generation c rules late notes s =
+    put_next_generation c.args.slots.now c.put_item.new.slots c.in_ok-tag.tag (took_slot (slot_at c.args.slots.now c.in_ok-tag.tag)) (its_pool c)
+    (take-inside rules late notes c.args.self.now c.args.slots.now s c.if-self-eq0.false c.in_ok-tag.tag
+    (λ x rest linked. c.in_ok-tag.ensures.some x rest (subst (λ (q : SqState). IsChain c.args.slots.now q.window (x ∷ rest)) (sym c.sq-sq.ensures) linked))) refl
 
 pub returns-clause-stands : goal.returns-clause-stands
 returns-clause-stands c rules late notes s =
@@ -22,15 +35,14 @@ returns-clause-stands c rules late notes s =
     take-stands rules late notes self slots s c.if-self-eq0.false c.pop.new.self tag
     (λ x rest linked. c.in_ok-tag.ensures.some x rest (window x rest linked))
     (λ x rest linked. c.pop.ensures.rest x rest (window x rest linked)) in
-    let pool : c.put_item.new.slots ≡ took_pool slots tag = c.put_item.ensures ∙ ap (λ (slot : Slot). put_item slots tag (took_slot slot)) c.slot_at-slot.ensures in
+    let pool = its_pool c in
     let put : c.put_sq.new.self ≡ record self { sqs = slice_set self.sqs self.picked_qid (took_sq self c.pop.new.self) } =
     c.put_sq.ensures ∙ ap (λ (q : SqState). record self { sqs = slice_set self.sqs self.picked_qid (record q { window = c.pop.new.self }) }) c.sq-sq.ensures in
     subst (λ (x : Controller). HasTaken rules late notes tag (record x { picked = x.picked - 1 }) c.put_item.new.slots) (sym put)
     (subst (λ (new : List Slot). HasTaken rules late notes tag (took self c.pop.new.self) new) (sym pool) done)
 
 pub returns-clause-front : goal.returns-clause-front
-returns-clause-front c =
-    let was = c.requires.front in
+returns-clause-front c was =
     let now = returns-clause-stands c was.rules was.late was.notes was.stands in
     record { rules = was.rules; late = was.late; notes = Taken c.in_ok-tag.tag now.region now.index ∷ was.notes; stands = now.stands }
 
