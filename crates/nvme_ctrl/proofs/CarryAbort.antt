@@ -26,7 +26,7 @@ use Rattle.nvme_ctrl.specs.inside.Steps.{oldest_named, without_oldest}
 use Rattle.nvme_ctrl.specs.kept.Kept.{Items}
 use Rattle.nvme_ctrl.specs.kept.Standing.{counted_on}
 use Rattle.nvme_ctrl.specs.inside.Loose.{IsLoose, Keeps}
-use Rattle.nvme_ctrl.specs.inside.Carrying.{IsApplied, HasNoneNamed, IsAbortableIn, IsAbortable, MayAbort, requesting, HasRequested}
+use Rattle.nvme_ctrl.specs.inside.Carrying.{IsApplied, HasNoneNamed, IsAbortableIn, IsAbortable, requesting, HasRequested}
 use Rattle.nvme_ctrl.proofs.AfterSteps.{IsChosen, IsAbortChosen, after_admin, with_events, told_abort, aborting_from, aborting_in}
 use Rattle.nvme_ctrl.proofs.AppliedQueues.{queue_of, IsOpenEntry, open_entry, named_region, named_attached, named_on_board, aborts_is, aborts_open}
 use Rattle.nvme_ctrl.proofs.CarriedOut.{applied, logged_is, keeps_told}

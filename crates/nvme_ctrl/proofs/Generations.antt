@@ -1,10 +1,11 @@
 -- Generations: what leaves them, and when a tag is used up.
 use Rattle.std.proofs.Common.{◌≡◌, ◌≢◌, ℕ, zero, suc, ◌+◌, ◌%◌, ◌<◌, ◌==◌, Bool, true, false, if◌then◌else◌, List, [], ◌∷◌, length, Option, Some, None, refl, sym, ap, ◌∙◌, subst, arith, inl, inr, eq-eqb}
 use Rattle.std.proofs.lemmas.Bool.{cases_lt, cases_eq, ne_eqb}
-use Rattle.std.proofs.lemmas.List.{set_past}
+use Rattle.std.specs.Prelude.{slice_set}
+use Rattle.std.proofs.lemmas.List.{set_past, get_or-set_same, get_or-set_other}
 use Rattle.nvme_ctrl.specs.declared.slot.Slot.{Slot}
 use Rattle.nvme_ctrl.specs.Generations.{generation_at, tag_at, slot_of, SameGenerations, IsNextGeneration, AreTaken, times, TagsAreUsedUp, TagsComeAgain}
-use Rattle.nvme_ctrl.specs.kept.Pool.{next_at, put_item, SameItems}
+use Rattle.nvme_ctrl.specs.kept.Pool.{no_slot, put_item, SameItems}
 use Rattle.nvme_ctrl.proofs.Pools.{slot_at-put_item_same, slot_at-put_item_other}
 
 -- ---- what leaves them
@@ -19,13 +20,13 @@ pub items_left : (old new : List Slot) → SameItems old new → SameGenerations
 items_left old new same x = ap (λ (s : Slot). s.generation) (same.items x)
 
 -- something else in a slot, with the slot's generation
-pub put_left : (slots new : List Slot) (x : ℕ) (s : Slot) → new ≡ put_item slots x s → s.generation ≡ generation_at slots x → SameGenerations slots new
+pub put_left : (slots new : List Slot) (x : ℕ) (s : Slot) → new ≡ slice_set slots x s → s.generation ≡ generation_at slots x → SameGenerations slots new
 put_left slots new x s is same y = ap (λ (p : List Slot). generation_at p y) is ∙ elim (cases_eq y x) [
   | inl here ↦ elim (cases_lt x (length slots)) [
-    | inl within ↦ ap (λ (z : ℕ). generation_at (put_item slots x s) z) here ∙ ap (λ (t : Slot). t.generation) (slot_at-put_item_same slots x s within) ∙ same ∙ ap (generation_at slots) (sym here)
-    | inr past ↦ ap (λ (p : List Slot). generation_at p y) (set_past slots x (record s { next = next_at slots x }) past)
+    | inl within ↦ ap (λ (z : ℕ). generation_at (slice_set slots x s) z) here ∙ ap (λ (t : Slot). t.generation) (get_or-set_same slots x s no_slot within) ∙ same ∙ ap (generation_at slots) (sym here)
+    | inr past ↦ ap (λ (p : List Slot). generation_at p y) (set_past slots x s past)
   ]
-  | inr other ↦ ap (λ (t : Slot). t.generation) (slot_at-put_item_other slots x s y other)
+  | inr other ↦ ap (λ (t : Slot). t.generation) (get_or-set_other slots x y s no_slot other)
 ]
 
 -- something else in a slot, with the next generation
@@ -49,13 +50,13 @@ counted old new (y ∷ xs) x (mid, one, rest) = elim (cases_eq x y) [
   | inl same ↦
       let here : generation_at mid x ≡ (generation_at old x + 1) % 65536 = subst (λ (z : ℕ). generation_at mid z ≡ (generation_at old z + 1) % 65536) (sym same) one.next in
       let more : times x (y ∷ xs) ≡ suc (times x xs) = ap (λ (z : ℕ). times x (z ∷ xs)) (sym same) ∙ one_more x xs in
-      let then = counted mid new xs x rest in
-      omega (arith, here, more, then)
+      let later = counted mid new xs x rest in
+      omega (arith, here, more, later)
   | inr other ↦
       let here = one.others x other in
       let more = none_more x y xs (λ e. other (sym e)) in
-      let then = counted mid new xs x rest in
-      omega (arith, here, more, then)
+      let later = counted mid new xs x rest in
+      omega (arith, here, more, later)
 ]
 
 other_generation : (old new : List Slot) (xs : List ℕ) (x : ℕ) → AreTaken old new xs → 0 < times x xs → times x xs < 65536 → generation_at new x ≢ generation_at old x

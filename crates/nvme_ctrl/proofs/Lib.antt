@@ -140,7 +140,9 @@ pub mod OpenRegions
 pub mod UnpostedPlaces
 pub mod SomeDeleting
 pub mod ServedQueues
+pub mod ToldEffects
 pub mod PlacesNeeded
 pub mod PoolBounds
 pub mod NextPost
 pub mod ClearPools
+pub mod StepCounts

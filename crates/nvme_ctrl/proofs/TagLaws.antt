@@ -1,21 +1,22 @@
 -- A tag stands for one command at a time, and a command has one tag.
-use Rattle.std.proofs.Common.{◌≡◌, ℕ, zero, suc, ◌<◌, ◌==◌, Bool, true, false, List, [], ◌∷◌, ◌++◌, length, map, take, Option, Some, None, refl, sym, ap, ◌∙◌, subst, arith, append_assoc, ◌⊎◌, inl, inr, if◌then◌else◌, ◌||◌}
+use Rattle.std.proofs.Common.{◌≡◌, ℕ, zero, suc, ◌<◌, ◌==◌, Bool, true, false, List, [], ◌∷◌, ◌++◌, length, map, take, Option, Some, None, refl, sym, ap, ◌∙◌, subst, arith, append_assoc, length-append, ◌≤◌, ◌⊎◌, inl, inr, if◌then◌else◌, ◌||◌}
 use Rattle.std.specs.Prelude.{slice_get}
 use Rattle.std.proofs.lemmas.Bool.{cases_Bool, eq-eqb, eqb-true, or_left, or_right}
-use Rattle.std.proofs.lemmas.Option.{same_Some}
+use Rattle.std.proofs.lemmas.Option.{same_Some, slice_get_within}
 use mathlib.Core.List.{IsPrefix}
 use Rattle.nvme_arbiter.specs.declared.pick.Pick.{Pick}
 use Rattle.nvme_log.specs.declared.event.Event.TheVariants as event
 use Rattle.nvme_log.specs.Rules.{Past, FrontRules, Each}
 use Rattle.nvme_log.specs.Effects.{EffectsAtOnce}
 use Rattle.nvme_log.specs.Queues.{Queue, open_sq}
-use Rattle.nvme_log.specs.Places.{waiting, fate_of, is_waiting, is_aborted}
+use Rattle.nvme_log.specs.Places.{fetched, waiting, fate_of, is_waiting, is_aborted}
 use Rattle.nvme_log.specs.declared.place.Place.{Place}
 use Rattle.nvme_log.specs.Dispatches.{place_at, dispatched_by, dispatched}
 use Rattle.nvme_log.proofs.AbortLaws.{WaitsNot, aborted-not_dispatched, dispatched-waits_not}
-use Rattle.nvme_log.proofs.Members.{IsIn, in-all, in-append_left, in-append_right, in-take, Ascending}
+use Rattle.nvme_log.proofs.Members.{IsIn, in-all, in-append_left, in-append_right, in-take, only, Ascending}
+use Rattle.nvme_log.proofs.Prefixes.{fetched-after}
 use Rattle.nvme_log.proofs.Turns.{in-waits, waiting-rises, region-io, admin-unaborted}
-use Rattle.nvme_ctrl.specs.Notes.{Notes, Logged, Passed, Taken, EachNote, logged}
+use Rattle.nvme_ctrl.specs.Notes.{Notes, Note, Logged, Passed, Taken, EachNote, logged}
 use Rattle.nvme_ctrl.specs.Tags.{is_place, is_passed, handed, taken, holder}
 use Rattle.nvme_ctrl.specs.Account.{IsLawful}
 use Rattle.nvme_ctrl.specs.Laws.{TagsAreApart}
@@ -23,7 +24,7 @@ use Rattle.nvme_ctrl.proofs.Noted.{each-event}
 
 -- ---- places that are apart
 -- no place stands twice in a list
-abbrev IsApart : List Place → Type 0
+abbrev pub IsApart : List Place → Type 0
 IsApart [] = Unit {0}
 IsApart (p ∷ ps) = ((q : Place) → IsIn q ps → p ≡ q → ⊥) × IsApart ps
 
@@ -69,16 +70,18 @@ apart-taken region (suc n) (i ∷ is) a = (
 )
 
 -- ---- the dispatched places
--- what a pick dispatches waited
-dispatched_by-waits : (past : Past) (pick : Pick) (o : Option Queue) (q : Place) → IsIn q (dispatched_by past pick o) → is_waiting (fate_of past q.region q.index) ≡ true
+-- what a pick dispatches was fetched, and waited
+dispatched_by-waits : (past : Past) (pick : Pick) (o : Option Queue) (q : Place) → IsIn q (dispatched_by past pick o)
+    → (q.index < length (fetched past q.region)) × (is_waiting (fate_of past q.region q.index) ≡ true)
 dispatched_by-waits past pick None q h = absurd h
 dispatched_by-waits past pick (Some queue) q h = by (pick.qid == 0) h where
-  by : (b : Bool) → IsIn q (if b then [] else map (place_at queue.region) (take pick.n (waiting past queue.region))) → is_waiting (fate_of past q.region q.index) ≡ true
+  by : (b : Bool) → IsIn q (if b then [] else map (place_at queue.region) (take pick.n (waiting past queue.region)))
+      → (q.index < length (fetched past q.region)) × (is_waiting (fate_of past q.region q.index) ≡ true)
   by true k = absurd k
   by false k =
       let it = in-map queue.region q (take pick.n (waiting past queue.region)) k in
-      subst (λ (p : Place). is_waiting (fate_of past p.region p.index) ≡ true) it.same
-      (in-waits past queue.region it.index (in-take it.index pick.n (waiting past queue.region) it.among)).1
+      subst (λ (p : Place). (p.index < length (fetched past p.region)) × (is_waiting (fate_of past p.region p.index) ≡ true)) it.same
+      (in-waits past queue.region it.index (in-take it.index pick.n (waiting past queue.region) it.among))
 
 dispatched_by-apart : (past : Past) (pick : Pick) (o : Option Queue) → IsApart (dispatched_by past pick o)
 dispatched_by-apart past pick None = tt
@@ -140,14 +143,14 @@ in-handed rules (note ∷ notes) h q is = elim (in-handed rules notes h.1 q is) 
   | inr it ↦ inr (record { of_admin = it.of_admin; passed = it.passed })
 ]
 
-handed-apart : (rules : FrontRules) (notes : Notes) → EachNote (IsLawful rules) notes → IsApart (handed notes)
+pub handed-apart : (rules : FrontRules) (notes : Notes) → EachNote (IsLawful rules) notes → IsApart (handed notes)
 handed-apart rules [] h = tt
 handed-apart rules (Logged (event.Pick seen pick) ∷ notes) h =
     apart-append (handed notes) (dispatched_by (logged notes) pick (open_sq (logged notes) pick.qid)) (handed-apart rules notes h.1)
     (dispatched_by-apart (logged notes) pick (open_sq (logged notes) pick.qid)) (λ q old new. elim (in-handed rules notes h.1 q old) [
       | inl it ↦
           let no : is_waiting (fate_of (logged notes) q.region q.index) ≡ false = in-all (WaitsNot (logged notes)) q (dispatched (logged notes)) (dispatched-waits_not (logged notes)) it.among in
-          let yes = dispatched_by-waits (logged notes) pick (open_sq (logged notes) pick.qid) q new in
+          let yes = (dispatched_by-waits (logged notes) pick (open_sq (logged notes) pick.qid) q new).1 in
           cc (no, yes)
       | inr it ↦ dispatched_by-io rules (logged notes) pick (open_sq (logged notes) pick.qid) q (each-event _ rules (λ past e x. x.effects_at_once) notes h.1) refl new it.of_admin
     ])
@@ -161,6 +164,28 @@ handed-apart rules (Passed j ∷ notes) h =
           cc (same, first)
       by q (inr e) it = e
 handed-apart rules (note ∷ notes) h = handed-apart rules notes h.1
+
+-- they were fetched
+fetched-on : (note : Note) (notes : Notes) (r : ℕ) → length (fetched (logged notes) r) ≤ length (fetched (logged (note ∷ notes)) r)
+fetched-on (Logged e) notes r =
+    let more = fetched-after (e ∷ []) (logged notes) r in
+    let longer = ap length more.1 in
+    let sum = length-append (fetched (logged notes) r) more.0 in
+    omega (arith, longer, sum)
+fetched-on note notes r = omega arith
+
+pub handed-fetched : (rules : FrontRules) (notes : Notes) → EachNote (IsLawful rules) notes → (q : Place) → IsIn q (handed notes) → q.index < length (fetched (logged notes) q.region)
+handed-fetched rules [] h q is = absurd is
+handed-fetched rules (Logged (event.Pick seen pick) ∷ notes) h q is =
+    elim (in-either q (handed notes) (dispatched_by (logged notes) pick (open_sq (logged notes) pick.qid)) is) [
+      | inl old ↦ handed-fetched rules notes h.1 q old
+      | inr new ↦ (dispatched_by-waits (logged notes) pick (open_sq (logged notes) pick.qid) q new).0
+    ]
+handed-fetched rules (Passed j ∷ notes) h q is = elim (in-either q (handed notes) (place_at 0 j ∷ []) is) [
+  | inl old ↦ handed-fetched rules notes h.1 q old
+  | inr new ↦ subst (λ (p : Place). p.index < length (fetched (logged notes) p.region)) (only q (place_at 0 j) new) (slice_get_within (fetched (logged notes) 0) j h.0.entry h.0.is_there)
+]
+handed-fetched rules (note ∷ notes) h q is = let before = handed-fetched rules notes h.1 q is in let on = fetched-on note notes q.region in omega (arith, before, on)
 
 -- ---- the places that the device took
 -- a tag that the post of another place leaves

@@ -20,5 +20,6 @@ pub mod Ranges
 pub mod Laws
 pub mod Depths
 pub mod Progress
+pub mod StepCounts
 pub mod Outlook
 pub mod Examples

@@ -6,7 +6,7 @@ use Rattle.nvme_admin.specs.declared.verdict.Verdict.{Verdict}
 use Rattle.nvme_admin.specs.declared.verdict.Verdict.TheVariants as verdict
 use Rattle.nvme_admin.specs.Effects.{verdict_in}
 use Rattle.nvme_admin.specs.declared.effect.Effect.{Effect}
-use Rattle.nvme_admin.specs.declared.effect.Effect.TheVariants.{OpenSq, BeginDelete, CloseCq}
+use Rattle.nvme_admin.specs.declared.effect.Effect.TheVariants.{OpenCq, OpenSq, BeginDelete, CloseCq}
 use Rattle.nvme_placing.specs.Telling.{IsToldBy}
 use Rattle.nvme_entry.specs.declared.submission.Sqe.{Sqe}
 use Rattle.nvme_entry.specs.declared.admin.AdminCommand.{AdminCommand}
@@ -96,6 +96,18 @@ NamesQueues past (BeginDelete qid region) = IsSqOn past qid region
 NamesQueues past (CloseCq qid region) = open_cq past qid ≡ Some region
 NamesQueues past (OpenSq qid region cqid cq_region class) = open_cq past cqid ≡ Some cq_region
 NamesQueues past effect = Unit {0}
+
+-- the number of a region is the identifier of its queue. (Identifiers are at most 64.)
+abbrev pub IsIdentifier : (qid region : ℕ) → Type 0
+IsIdentifier qid region = qid < 256 → region ≡ qid
+
+-- where queues may lie anywhere, the regions in an effect have the numbers of their queues' identifiers (profile)
+abbrev pub NamesIdentifiers : Effect → Type 0
+NamesIdentifiers (OpenSq qid region cqid cq_region class) = IsIdentifier qid region × IsIdentifier cqid cq_region
+NamesIdentifiers (OpenCq qid region) = IsIdentifier qid region
+NamesIdentifiers (BeginDelete qid region) = IsIdentifier qid region
+NamesIdentifiers (CloseCq qid region) = IsIdentifier qid region
+NamesIdentifiers effect = Unit {0}
 
 -- a verdict is of a command: the deletion of a submission queue begins by its Delete, and a command is aborted by its Abort (Delete I/O Submission
 -- Queue, Abort)

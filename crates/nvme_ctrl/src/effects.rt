@@ -41,7 +41,7 @@ impl Controller {
     ghost use Rattle.nvme_ctrl.specs.Steps.{HasCarriedOut};
     ghost use Rattle.nvme_ctrl.specs.Tags.{answer_of, is_passed};
     ghost use Rattle.nvme_ctrl.specs.declared.slot.Slot.{Slot};
-    ghost use Rattle.nvme_ctrl.specs.inside.Carrying.{IsApplied, IsApplying, IsOpenable, IsCqOpenable, IsUnattached, opening, opening_cq, closing_cq, IsDroppable, dropped, HasDropped, oldest_dropped, item_dropped, deleting, HasBegun, HasNoneNamed, IsAbortable, MayAbort, HasRequested};
+    ghost use Rattle.nvme_ctrl.specs.inside.Carrying.{IsApplied, IsOpenable, IsCqOpenable, IsUnattached, opening, opening_cq, closing_cq, IsDroppable, dropped, HasDropped, oldest_dropped, item_dropped, deleting, HasBegun, HasNoneNamed, IsAbortable, HasRequested};
     ghost use Rattle.nvme_admin.specs.declared.bounds.TheConstants.{MAX_REGIONS};
     ghost use Rattle.nvme_log.specs.Rules.{FrontRules};
     ghost use Rattle.nvme_ctrl.specs.Notes.{Notes};

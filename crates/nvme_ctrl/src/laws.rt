@@ -14,6 +14,7 @@ ghost use Rattle.nvme_ctrl.specs.Making.{is_named};
 ghost use Rattle.nvme_ctrl.specs.Account.{IsLawful, IsAccount};
 ghost use Rattle.nvme_ctrl.specs.Examples.{identify, identify_fetched, identify_picked, identify_passed, identify_taken, identify_answered, identified, get_feature, set_feature, told, three_of_four, four_fetched, first_picked, first_answered, first_posted, third_answered, two_passes, succeeded, out_of_range, without_region, with_late_region, creates_fetched, create_picked, create_refused, reads_submitted, reads_waiting, read_picked, read_taken, delete_begun, aborts_posted, read_answered, reads_posted, deletion_noted, unmarked, not_retried, more_told, abort_of_read, abort_waiting, abort_picked, abort_passed, abort_taken, aborted_read, read_aborted, abort_answered, abort_done, held_and_deleted, classed_and_picked, weighted_rules, two_waiting, pick_of, two_deletions, two_closing, third_served, second_gone, both_gone};
 ghost use Rattle.nvme_ctrl.specs.Generations.{TagsAreUsedUp, TagsComeAgain};
+ghost use Rattle.nvme_ctrl.specs.StepCounts.{StepsAreFew};
 ghost use Rattle.nvme_ctrl.specs.Depths.{DepthsSuffice, DepthsLeaveRoom, HeldWaitOrAreUnposted};
 ghost use Rattle.nvme_ctrl.specs.Progress.{IsWithDevice, NoneWaitDeleted, ServedAwait, UnfetchedAwait, WaitingAwait, WaitsForHost, WaitsForQueue};
 ghost use Rattle.nvme_ctrl.specs.Laws.{ControllersKeepAccounts, RegionsLeaveAccounts, EventsAreAccounted, SlotsAreFetchedInOrder, CompletionsFollowAnswers, OneCompletionEach, SlotsAreFree, CompletionsTellTheHead, DeletesAreAnsweredLast, NoneFetchedAfterDeletion, NonePickedAfterDeletion, PicksAreLawful, TagsAreApart, ObservedAsInTheLog, SeenOneByOne, HeldQueuesWait, HeldQueuesWaitUntilTold, FewHoldSlots};
@@ -339,4 +340,10 @@ pub fn wrong_arrangements_are_refused()
 pub fn tags_are_used_up()
     ensures used_up { TagsAreUsedUp }
     ensures again { TagsComeAgain }
+{}
+
+/// At most six calls do something for each command that was fetched: with no doorbell more, calls come to an end that do
+/// something. (profile)
+pub fn steps_are_few()
+    ensures { StepsAreFew }
 {}

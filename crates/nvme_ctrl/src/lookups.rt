@@ -24,6 +24,8 @@ impl Controller {
     ghost use Rattle.nvme_ctrl.specs.Observation.{seen_in};
     ghost use Rattle.nvme_ctrl.specs.Waits.{WaitsAt};
     ghost use Rattle.nvme_ctrl.specs.Making.{placing_in};
+    ghost use Rattle.nvme_ctrl.specs.Steps.{IsIdentifier};
+    ghost use Rattle.nvme_placing.specs.Telling.{placing_of};
     ghost use Rattle.nvme_ctrl.specs.Standing.{Stands, IsController};
     ghost use Rattle.nvme_ctrl.specs.inside.Lookups.{is_found};
     ghost use Rattle.nvme_ctrl.specs.kept.Pool.{IsChain, slot_at};
@@ -82,16 +84,28 @@ impl Controller {
         None
     }
 
+    // The number that is told of a queue's region: where queues may lie anywhere, the queue's identifier.
+    pub(crate) fn region_told(&self, qid: u16, region: u8) -> u8
+        ensures on_regions { placing_of self.now.table ≡ None → result ≡ region }
+        ensures anywhere { is_some (placing_of self.now.table) ≡ true → IsIdentifier qid result }
+    {
+        if self.table.placing().is_none() {
+            return region;
+        }
+        u8::try_from(qid).unwrap_or(region)
+    }
+
     /// The region of an open submission queue. Where queues may lie anywhere, its number is the identifier.
     pub fn sq_region(&self, qid: u16) -> Option<u8>
         ensures told { (rules : FrontRules) (late : Bool) (notes : Notes) (pool : List Slot) → Stands rules late notes self.now pool → is_some result ≡ is_some (open_sq (logged notes) qid) }
         ensures on_regions { (rules : FrontRules) (late : Bool) (notes : Notes) (pool : List Slot) → Stands rules late notes self.now pool → placing_in rules ≡ None → result ≡ option_map (λ queue. queue.region) (open_sq (logged notes) qid) }
+        ensures anywhere { (rules : FrontRules) (late : Bool) (notes : Notes) (pool : List Slot) → Stands rules late notes self.now pool → is_some (placing_in rules) ≡ true → IfSome result (λ region. IsIdentifier qid region) }
     {
         let queue = self.table.sq(qid)?;
         if queue.closing {
             None
         } else {
-            Some(queue.region)
+            Some(self.region_told(qid, queue.region))
         }
     }
 
@@ -99,8 +113,10 @@ impl Controller {
     pub fn cq_region(&self, cqid: u16) -> Option<u8>
         ensures told { (rules : FrontRules) (late : Bool) (notes : Notes) (pool : List Slot) → Stands rules late notes self.now pool → is_some result ≡ is_some (open_cq (logged notes) cqid) }
         ensures on_regions { (rules : FrontRules) (late : Bool) (notes : Notes) (pool : List Slot) → Stands rules late notes self.now pool → placing_in rules ≡ None → result ≡ open_cq (logged notes) cqid }
+        ensures anywhere { (rules : FrontRules) (late : Bool) (notes : Notes) (pool : List Slot) → Stands rules late notes self.now pool → is_some (placing_in rules) ≡ true → IfSome result (λ region. IsIdentifier cqid region) }
     {
-        self.table.cq(cqid)
+        let region = self.table.cq(cqid)?;
+        Some(self.region_told(cqid, region))
     }
 
     /// How many commands of an open submission queue were fetched and wait to be picked. Of no other queue any waits.

@@ -17,7 +17,7 @@ fn is_abort(entry: &Sqe) -> bool
 }
 
 impl Controller {
-    ghost use Rattle.std.specs.Prelude.{◌≡◌, ◌↔◌, ℕ, Bool, true, false, List, Some, None, IsTrue};
+    ghost use Rattle.std.specs.Prelude.{◌≡◌, ◌↔◌, ℕ, Bool, true, false, List, Some, None, IfSome, IsTrue, is_some};
     ghost use Rattle.nvme_log.specs.Rules.{FrontRules};
     ghost use Rattle.nvme_log.specs.Aborts.{is_abort_entry, places_for};
     ghost use Rattle.nvme_log.specs.Histories.{admin_entry};
@@ -29,7 +29,7 @@ impl Controller {
     ghost use Rattle.nvme_ctrl.specs.Observation.{observed_of};
     ghost use Rattle.nvme_ctrl.specs.Outlook.{IsAllDone};
     ghost use Rattle.nvme_ctrl.specs.Standing.{Stands, IsController};
-    ghost use Rattle.nvme_ctrl.specs.Steps.{LacksPlaces};
+    ghost use Rattle.nvme_ctrl.specs.Steps.{IsIdentifier, LacksPlaces};
     ghost use Rattle.nvme_ctrl.specs.declared.slot.Slot.{Slot};
 
     /// What the next pick is shown: the open queues by ascending identifier, each as `seen` tells it. (Base Specification,
@@ -90,14 +90,15 @@ impl Controller {
     /// The region of a submission queue that is open or is being deleted. Where queues may lie anywhere, its number is the
     /// identifier.
     pub fn serving(&self, qid: u16) -> Option<u8>
-        ensures { (rules : FrontRules) (late : Bool) (notes : Notes) (pool : List Slot) → Stands rules late notes self.now pool → placing_in rules ≡ None
+        ensures on_regions { (rules : FrontRules) (late : Bool) (notes : Notes) (pool : List Slot) → Stands rules late notes self.now pool → placing_in rules ≡ None
             → (r : ℕ) → (result ≡ Some r) ↔ ((qid_of_region (logged notes) r ≡ Some qid) × (is_closed_region (logged notes) r ≡ false)) }
+        ensures anywhere { (rules : FrontRules) (late : Bool) (notes : Notes) (pool : List Slot) → Stands rules late notes self.now pool → is_some (placing_in rules) ≡ true → IfSome result (λ region. IsIdentifier qid region) }
     {
         if self.sq(qid).ring.slots == 0 {
             return None;
         }
         let queue = self.table.sq(qid)?;
-        Some(queue.region)
+        Some(self.region_told(qid, queue.region))
     }
 
     /// Whether nothing is left to do: no command waits, each fetched command has its completion posted, and no queue is

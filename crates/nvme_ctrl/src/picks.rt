@@ -24,7 +24,7 @@ pub enum Step {
 }
 
 impl Controller {
-    ghost use Rattle.std.specs.Prelude.{◌≡◌, ◌≢◌, ℕ, ◌+◌, ◌≤◌, Bool, true, false, not, List, length, Option, Some, None, IfSome, IsTrue};
+    ghost use Rattle.std.specs.Prelude.{◌≡◌, ◌≢◌, ℕ, ◌+◌, ◌≤◌, Bool, true, false, not, List, length, Option, Some, None, IfSome, IsTrue, is_some};
     ghost use Rattle.nvme_arbiter.specs.Layout.{board_of};
     ghost use Rattle.nvme_arbiter.specs.Queues.{seen_of};
     ghost use Rattle.nvme_arbiter.specs.Standing.{pick_of};
@@ -39,9 +39,10 @@ impl Controller {
     ghost use Rattle.nvme_ctrl.specs.Generations.{SameGenerations};
     ghost use Rattle.nvme_ctrl.specs.Own.{names_none, is_own, own_of, oldest_is_own};
     ghost use Rattle.nvme_ctrl.specs.Calls.{depths_of};
+    ghost use Rattle.nvme_placing.specs.Telling.{placing_of, unplaced_verdict};
     ghost use Rattle.nvme_ctrl.specs.Making.{placing_in};
     ghost use Rattle.nvme_admin.specs.Effects.{verdict_in};
-    ghost use Rattle.nvme_ctrl.specs.Steps.{IsNextPick, IsVerdictOf, IsBusy, HasStepped, HasPassed, HasDone, NamesQueues, picked_notes};
+    ghost use Rattle.nvme_ctrl.specs.Steps.{IsNextPick, IsVerdictOf, IsBusy, HasStepped, HasPassed, HasDone, NamesQueues, NamesIdentifiers, picked_notes};
     ghost use Rattle.nvme_ctrl.specs.inside.Picks.{CanPickNow, oldest_entry};
     ghost use Rattle.nvme_ctrl.specs.declared.slot.Slot.{Slot};
     ghost use Rattle.nvme_ctrl.specs.declared.picks.Step.TheVariants as step;
@@ -126,6 +127,42 @@ impl Controller {
         self.picked_qid = 0;
     }
 
+    // An effect with the regions that are told.
+    fn told(&self, effect: Effect) -> Effect
+        ensures on_regions { placing_of self.now.table ≡ None → result ≡ effect }
+        ensures anywhere { is_some (placing_of self.now.table) ≡ true → NamesIdentifiers result }
+        ensures same { unplaced_verdict (verdict_in result) ≡ unplaced_verdict (verdict_in effect) }
+    {
+        match effect {
+            Effect::OpenSq {
+                qid,
+                region,
+                cqid,
+                cq_region,
+                class,
+            } => Effect::OpenSq {
+                qid,
+                region: self.region_told(qid, region),
+                cqid,
+                cq_region: self.region_told(cqid, cq_region),
+                class,
+            },
+            Effect::OpenCq { qid, region } => Effect::OpenCq {
+                qid,
+                region: self.region_told(qid, region),
+            },
+            Effect::BeginDelete { qid, region } => Effect::BeginDelete {
+                qid,
+                region: self.region_told(qid, region),
+            },
+            Effect::CloseCq { qid, region } => Effect::CloseCq {
+                qid,
+                region: self.region_told(qid, region),
+            },
+            _ => effect,
+        }
+    }
+
     // Makes the next pick, which is of the admin queue, and carries the command out.
     fn pick_admin(&mut self, slots: &mut [Slot], pick: Pick) -> (Effect, Sqe)
         requires can { CanPickNow self.old slots.old pick }
@@ -134,6 +171,7 @@ impl Controller {
         ensures size { length slots.new ≡ length slots.old }
         ensures generations { SameGenerations slots.old slots.new }
         ensures names { (rules : FrontRules) (late : Bool) (notes : Notes) → Stands rules late notes self.old slots.old → placing_in rules ≡ None → NamesQueues (logged notes) result.0 }
+        ensures anywhere { (rules : FrontRules) (late : Bool) (notes : Notes) → Stands rules late notes self.old slots.old → is_some (placing_in rules) ≡ true → NamesIdentifiers result.0 }
         ensures own { own_of self.new ≡ own_of self.old }
         ensures commanded { (rules : FrontRules) (late : Bool) (notes : Notes) → Stands rules late notes self.old slots.old → IsVerdictOf (admin_command_of result.1) (verdict_in result.0) }
         ensures stands { (rules : FrontRules) (late : Bool) (notes : Notes) → Stands rules late notes self.old slots.old → HasDone rules late notes result.0 result.1 self.new slots.new }
@@ -146,8 +184,9 @@ impl Controller {
         self.outstanding = self.outstanding.saturating_add(1);
         let entry = slot_at(slots, tag).entry;
         let effect = self.table.execute(&entry);
+        let told = self.told(effect);
         self.carry_out(slots, tag, &effect);
-        (effect, entry)
+        (told, entry)
     }
 
     /// Makes the next pick of arbitration, of at most `room` commands: as many as the device can take now. The rest of the
@@ -166,6 +205,7 @@ impl Controller {
         ensures commanded { (rules : FrontRules) (late : Bool) (notes : Notes) → Stands rules late notes self.old slots.old → (effect : Effect) (entry : Sqe) → result ≡ step.Done effect entry → IsVerdictOf (admin_command_of entry) (verdict_in effect) }
         ensures passed { (rules : FrontRules) (late : Bool) (notes : Notes) → Stands rules late notes self.old slots.old → (pick : Pick) → result ≡ step.Passed pick → oldest_is_own (own_of self.old) notes ≡ Some true }
         ensures carried_out { (rules : FrontRules) (late : Bool) (notes : Notes) → Stands rules late notes self.old slots.old → (effect : Effect) (entry : Sqe) → result ≡ step.Done effect entry → oldest_is_own (own_of self.old) notes ≡ Some false }
+        ensures anywhere { (rules : FrontRules) (late : Bool) (notes : Notes) → Stands rules late notes self.old slots.old → is_some (placing_in rules) ≡ true → (effect : Effect) (entry : Sqe) → result ≡ step.Done effect entry → NamesIdentifiers effect }
         ensures names { (rules : FrontRules) (late : Bool) (notes : Notes) → Stands rules late notes self.old slots.old → placing_in rules ≡ None → (effect : Effect) (entry : Sqe) → result ≡ step.Done effect entry → NamesQueues (logged notes) effect }
         ensures depths { depths_of self.new ≡ depths_of self.old }
         ensures size { length slots.new ≡ length slots.old }

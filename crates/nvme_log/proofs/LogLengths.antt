@@ -47,7 +47,7 @@ ones [] = refl
 ones (x ∷ xs) = sum_by-cons (λ (p : Place). 1) x xs ∙ omega (arith, ones xs)
 
 -- a list in which no place stands more often than in another is no longer
-fewer : (xs ys : List Place) → ((r i : ℕ) → times_at r i xs ≤ times_at r i ys) → length xs ≤ length ys
+pub fewer : (xs ys : List Place) → ((r i : ℕ) → times_at r i xs ≤ times_at r i ys) → length xs ≤ length ys
 fewer [] ys h = omega arith
 fewer (x ∷ xs) ys h =
     let test : ℕ → ℕ → Place → ℕ = λ r i p. one_if (p.region == r && p.index == i) in
@@ -62,7 +62,7 @@ first_of past None = []
 first_of past (Some queue) = map (place_at queue.region) (take 1 (waiting past queue.region))
 
 -- the first place of each pick, and each place that was aborted
-abbrev taken_places : Past → List Place
+abbrev pub taken_places : Past → List Place
 taken_places [] = []
 taken_places (event.Pick seen pick ∷ past) = first_of past (open_sq past pick.qid) ++ taken_places past
 taken_places (Abort r i ∷ past) = place_at r i ∷ taken_places past
@@ -180,7 +180,7 @@ none-taken e past r i h = elim (cases_Bool (is_served past r i)) [
 ]
 
 -- so each place is taken once, and only where it is served
-taken-served : (rules : FrontRules) (past : Past) → Each (EffectsAtOnce rules) past → Each TakesSome past → (r i : ℕ) → times_at r i (taken_places past) ≤ one_if (is_served past r i)
+pub taken-served : (rules : FrontRules) (past : Past) → Each (EffectsAtOnce rules) past → Each TakesSome past → (r i : ℕ) → times_at r i (taken_places past) ≤ one_if (is_served past r i)
 taken-served rules [] h t r i = omega arith
 taken-served rules (event.Pick seen pick ∷ past) h t r i =
     let it = t.0 in
@@ -205,7 +205,7 @@ taken-served rules (e ∷ past) h t r i = none-taken e past r i (taken-served ru
 
 -- ---- events by their kind
 -- an event that opens or closes a queue, begins a deletion or changes the settings
-abbrev is_change : Event → Bool
+abbrev pub is_change : Event → Bool
 is_change (SetArbitration settings) = true
 is_change (OpenSq qid region cqid class) = true
 is_change (OpenCq qid region) = true
@@ -213,11 +213,11 @@ is_change (Closing qid region) = true
 is_change (ClosedCq qid region) = true
 is_change e = false
 
-abbrev changes : List Event → ℕ
+abbrev pub changes : List Event → ℕ
 changes [] = 0
 changes (e ∷ past) = one_if (is_change e) + changes past
 
-abbrev ends : Past → ℕ
+abbrev pub ends : Past → ℕ
 ends [] = 0
 ends (ClosedSq qid region ∷ past) = ends past + 1
 ends (e ∷ past) = ends past
@@ -241,7 +241,7 @@ all-events (Closing qid region ∷ past) t = let rest = all-events past t.1 in o
 all-events (ClosedCq qid region ∷ past) t = let rest = all-events past t.1 in omega (arith, rest)
 
 -- picks and aborts are together as many as places were taken
-picks-few : (past : Past) → Each TakesSome past → picks_in past ≤ length (taken_places past)
+pub picks-few : (past : Past) → Each TakesSome past → picks_in past ≤ length (taken_places past)
 picks-few [] t = omega arith
 picks-few (event.Pick seen pick ∷ past) t = let are = ap length (first-is past pick t.0) in let rest = picks-few past t.1 in omega (arith, are, rest)
 picks-few (Abort r i ∷ past) t = let rest = picks-few past t.1 in omega (arith, rest)
@@ -283,7 +283,7 @@ left-none xs (y ∷ rest) made e f = absurd (omega (arith, length-append xs (y �
 
 -- with what the latest command still makes there is no more than one change for each pick
 module _ (rules : FrontRules) where
-  abbrev AreFew : Past → Type 0
+  abbrev pub AreFew : Past → Type 0
   AreFew past = (rest : List Event) → effects_since past ++ rest ≡ made_last rules past → changes past + changes rest ≤ picks_in past
 
   -- an event that makes none comes when all are there
@@ -300,7 +300,7 @@ module _ (rules : FrontRules) where
       let before = h (e ∷ rest) (sym (append_assoc (effects_since past) (e ∷ []) rest) ∙ is) in
       omega (arith, before)
 
-  changes-few : (past : Past) → Each (EffectsAtOnce rules) past → AreFew past
+  pub changes-few : (past : Past) → Each (EffectsAtOnce rules) past → AreFew past
   changes-few [] h rest e = omega (arith, ap changes e)
   changes-few (event.Pick seen pick ∷ past) h rest e =
       let before = changes-few past h.1 [] (append-nil (effects_since past) ∙ h.0) in
@@ -364,7 +364,7 @@ sums-less f g h [] = omega arith
 sums-less f g h (x ∷ xs) = omega (arith, h x, sums-less f g h xs, sum_by-cons f x xs, sum_by-cons g x xs)
 
 -- ---- the length of a log
-served-few : (past : Past) (r i : ℕ) → one_if (is_served past r i) ≤ one_if (nat_lt i (length (fetched past r)))
+pub served-few : (past : Past) (r i : ℕ) → one_if (is_served past r i) ≤ one_if (nat_lt i (length (fetched past r)))
 served-few past r i = by (nat_lt i (length (fetched past r))) (not (is_waiting (fate_of past r i))) where
   by : (a b : Bool) → one_if (a && b) ≤ one_if a
   by true true = omega arith

@@ -15,7 +15,7 @@ returns c = record {
   depths = ap (λ (z : Controller). z.depths) c.put_deletion.ensures ∙ ap (λ (z : Controller). z.depths) c.drop_window.ensures.left ∙ ap (λ (z : Controller). z.depths) c.put_sq.ensures;
   size = ap (λ (s : List Slot). length s) c.put_item.ensures ∙ length-put_item c.drop_window.new.slots c.args.tag (record c.slot_at-slot.result { state = 6 }) ∙ c.drop_window.ensures.size;
   generations = left_both c.args.slots.now c.drop_window.new.slots c.put_item.new.slots c.drop_window.ensures.generations
-      (put_left c.drop_window.new.slots c.put_item.new.slots c.args.tag (record c.slot_at-slot.result { state = 6 }) c.put_item.ensures (ap (λ (s : Slot). s.generation) c.slot_at-slot.ensures));
+      (put_left c.drop_window.new.slots c.put_item.new.slots c.args.tag _ c.put_item.ensures (ap (λ (s : Slot). s.generation) c.slot_at-slot.ensures));
   begun = λ on_board rules notes k g region to candidate h none loose entry first unanswered cookie not_passed_on d few.
       let a = c.args.self.now in
       let n_is = c.saturating_add.ensures ∙ n_counted rules notes a c.args.slots.now k g c.args.qid region c.sq-sq.result h none d.there c.sq-sq.ensures few in

@@ -5,14 +5,13 @@ use Rattle.nvme_arbiter.specs.Queues.{queue_at}
 use Rattle.nvme_admin.specs.declared.effect.Effect.TheVariants as effect
 use Rattle.nvme_admin.specs.declared.verdict.Verdict.TheVariants as verdict
 use Rattle.nvme_ctrl.specs.Making.{slots_asked}
-use Rattle.nvme_ctrl.specs.inside.Carrying.{IsApplying}
 use Rattle.nvme_entry.specs.AdminCommand.{admin_command_of}
 use Rattle.nvme_ctrl.specs.declared.slot.Slot.{Slot}
 use Rattle.nvme_ctrl.specs.kept.Pool.{slot_at}
 use Rattle.nvme_ctrl.proofs.AppliedQueues.{opens_within, opens_free, opens_io}
 use Rattle.nvme_ctrl.proofs.CarryOut.{ended_plain, ended_opened, ended_cq_opened, ended_cq_closed, ended_set, carried_as, carried_by, applied_as, some_asked, applied_sq, applied_delete, applied_abort}
 use Rattle.nvme_ctrl.proofs.CarryQueues.{begins_on_board, ended_begun}
-use Rattle.nvme_ctrl.proofs.CarryAbort.{aborts_may, carried_found, carried_none}
+use Rattle.nvme_ctrl.proofs.CarryAbort.{carried_found, carried_none}
 use Rattle.nvme_ctrl.proofs.Generations.{left_both}
 use Rattle.nvme_ctrl.proofs.ToldVerdicts.{told_plain, told_sq, told_cq}
 use Rattle.nvme_ctrl.proofs.state.Controller.carry_out.Goals.{then-abort, else-abort}
@@ -35,8 +34,8 @@ returns-in-Done c = record {
       c.end.new.self c.end.new.slots c.end.ensures.kept));
 }
 
-pub open_sq-requires-clause-some : goal.open_sq-requires-clause-some
-open_sq-requires-clause-some c = subst (λ (n : ℕ). 0 < n) (sym c.asked_slots-size.ensures) (some_asked _)
+pub open_sq-requires : goal.open_sq-requires
+open_sq-requires c = record { some = subst (λ (n : ℕ). 0 < n) (sym c.asked_slots-size.ensures) (some_asked _) }
 
 pub open_cq-requires : goal.open_cq-requires
 open_cq-requires c = record { some = subst (λ (n : ℕ). 0 < n) (sym c.asked_slots-size-in-OpenCq.ensures) (some_asked _) }

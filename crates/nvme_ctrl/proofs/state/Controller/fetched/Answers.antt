@@ -110,5 +110,5 @@ returns-clause-front c front =
 pub returns-clause-generations : goal.returns-clause-generations
 returns-clause-generations c =
     left_both c.args.slots.now c.put_item.new.slots c.push.new.slots
-    (put_left c.args.slots.now c.put_item.new.slots c.in-Some.tag (waiting c) c.put_item.ensures (ap (λ (s : Slot). s.generation) c.slot_at-generation.ensures))
+    (put_left c.args.slots.now c.put_item.new.slots c.in-Some.tag _ c.put_item.ensures (ap (λ (s : Slot). s.generation) c.slot_at-generation.ensures))
     (items_left c.put_item.new.slots c.push.new.slots c.push.ensures.items)

@@ -10,9 +10,9 @@ use Rattle.nvme_ctrl.proofs.FinishCall.{closes, finish_call}
 use Rattle.nvme_ctrl.proofs.state.Controller.finish.Goals as goal
 
 -- a controller's queue whose deletion is pending is closing
-pub returns-then-is_closing-clause-told : goal.returns-then-is_closing-clause-told
-returns-then-is_closing-clause-told c = λ rules late notes s _.
-    absurd (c.is_closing.ensures.no c.if-is_closing.true (closes rules late notes c.args.self.now c.args.slots.now s c.in_ok-qid.qid c.in_ok-qid.ensures.kept))
+pub returns-then-not-is_closing-clause-told : goal.returns-then-not-is_closing-clause-told
+returns-then-not-is_closing-clause-told c = λ rules late notes s _.
+    absurd (c.is_closing.ensures.no c.if-not-is_closing.true (closes rules late notes c.args.self.now c.args.slots.now s c.in_ok-qid.qid c.in_ok-qid.ensures.kept))
 
 pub returns-clause-stands : goal.returns-clause-stands
 returns-clause-stands c = λ rules late notes s.

@@ -14,7 +14,7 @@ returns-then-is_named-clause-found c rules late notes s =
 
 pub loop-x-preserved : goal.loop-x-preserved
 loop-x-preserved c = record {
-  end = refl;
+  few = c.loop-x.invariant.few;
   none = λ tag lt. elim (cases_eq tag c.loop-x.x) [
     | inl same ↦ ap (λ (t : ℕ). is_found (slot_at c.args.slots.now t) c.args.qid c.args.cid) same
         ∙ ap (λ (x : Slot). is_found x c.args.qid c.args.cid) (sym c.slot_at.ensures) ∙ sym c.is_named.ensures ∙ c.if-is_named.false
@@ -27,4 +27,4 @@ returns-clause-none c rules late notes s none tag t =
     let self = c.args.self.now in
     let slots = c.args.slots.now in
     let inside : tag < length slots = tag_inside rules late notes self slots s c.args.qid c.args.cid tag t in
-    absurd (true≢false (sym (tag_named rules late notes self slots s c.args.qid c.args.cid tag t) ∙ c.loop-x.invariant.none tag (omega (arith, inside, c.loop-x-test.false))))
+    absurd (true≢false (sym (tag_named rules late notes self slots s c.args.qid c.args.cid tag t) ∙ c.loop-x.invariant.none tag (omega (arith, inside, c.loop-x-test.false, c.loop-x.invariant.few, s.has.few))))

@@ -10,6 +10,7 @@ use Rattle.nvme_ctrl.proofs.CommandVerdicts.{IsCommanded}
 use Rattle.nvme_ctrl.proofs.PickCall.{next_is, is_busy, isnt_busy}
 use Rattle.nvme_ctrl.specs.declared.picks.Step.{Step}
 use Rattle.nvme_ctrl.proofs.NamedQueues.{NamesIn}
+use Rattle.nvme_ctrl.proofs.ToldEffects.{IdentifiesIn}
 use Rattle.nvme_ctrl.proofs.state.Controller.pick.Goals as goal
 
 pub returns-then-self-ne0-clause-stands : goal.returns-then-self-ne0-clause-stands
@@ -97,3 +98,7 @@ returns-then-is_own-clause-taken c rules late notes s busy = absurd (isnt_busy r
 
 pub returns-else-is_own-clause-taken : goal.returns-else-is_own-clause-taken
 returns-else-is_own-clause-taken c rules late notes s busy = absurd (isnt_busy rules late notes c.args.self.now c.args.slots.now s c.if-self-ne0.false busy)
+
+pub returns-else-is_own-clause-anywhere : goal.returns-else-is_own-clause-anywhere
+returns-else-is_own-clause-anywhere c rules late notes s on effect entry is =
+    subst (λ (z : Step). IdentifiesIn z) is (c.pick_admin-effect.ensures.anywhere rules late notes s on)

@@ -1,6 +1,7 @@
 use Rattle.std.proofs.Common.{ℕ, Option, is_some, sym, ap, ◌∙◌}
 use Rattle.nvme_log.specs.Queues.{Queue}
 use Rattle.nvme_ctrl.proofs.DoorbellCalls.{none_is_open, closing_is_not_open}
+use Rattle.nvme_ctrl.proofs.ToldEffects.{is_anywhere}
 use Rattle.nvme_ctrl.proofs.state.Controller.sq_region.Goals as goal
 
 pub returns-in_err-queue-clause-told : goal.returns-in_err-queue-clause-told
@@ -13,3 +14,6 @@ pub returns-then-queue-clause-told : goal.returns-then-queue-clause-told
 returns-then-queue-clause-told c rules late notes pool s =
     sym (ap (λ (o : Option Queue). is_some o)
     (closing_is_not_open rules late notes c.args.self.now pool s c.args.qid c.sq.result (c.sq.ensures.told s.content.table s.numbers.tells) c.in_ok-queue.queue c.in_ok-queue.was c.if-queue.true))
+
+pub returns-else-queue-clause-anywhere : goal.returns-else-queue-clause-anywhere
+returns-else-queue-clause-anywhere c rules late notes pool s on = c.region_told.ensures.anywhere (is_anywhere rules late notes c.args.self.now pool s on)

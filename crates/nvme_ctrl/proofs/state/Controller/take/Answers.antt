@@ -13,10 +13,8 @@ use Rattle.nvme_ctrl.proofs.Generations.{put_next_generation}
 use Rattle.nvme_ctrl.proofs.state.Controller.take.Goals as goal
 
 -- the slot is out, with its next generation
-its_pool : (c : goal.After-self-picked) → c.put_item.new.slots ≡ took_pool c.args.slots.now c.in_ok-tag.tag
-its_pool c =
-    c.put_item.ensures ∙ ap (λ (g : ℕ). put_item c.args.slots.now c.in_ok-tag.tag (record c.slot_at-slot.result { state = 2; generation = g })) c.wrapping_add-generation.ensures
-    ∙ ap (λ (slot : Slot). put_item c.args.slots.now c.in_ok-tag.tag (took_slot slot)) c.slot_at-slot.ensures
+its_pool : (c : goal.After-self-1) → c.put_item.new.slots ≡ took_pool c.args.slots.now c.in_ok-tag.tag
+its_pool c = c.put_item.ensures ∙ ap (λ (slot : Slot). put_item c.args.slots.now c.in_ok-tag.tag (took_slot slot)) c.slot_at-slot.ensures
 
 pub returns-clause-generation : goal.returns-clause-generation
 returns-clause-generation c rules late notes s =

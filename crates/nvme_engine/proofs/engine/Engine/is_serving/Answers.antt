@@ -6,7 +6,7 @@ use Rattle.nvme_engine.proofs.engine.Engine.is_serving.Goals as goal
 
 pub returns-then-eq : goal.returns-then-eq
 returns-then-eq c rules late notes s =
-    let it = (c.serving.ensures s.their s.their_late notes c.args.self.now.slots.items s.stands (on_regions s.their s.alike.adds) c.args.region).0
+    let it = (c.serving.ensures.on_regions s.their s.their_late notes c.args.self.now.slots.items s.stands (on_regions s.their s.alike.adds) c.args.region).0
     (is_some_of c.serving.result c.args.region (sym c.eq.ensures ∙ c.if-eq.true)) in
     sym (s.served c.args.region c.loop-qid.qid it.0 it.1)
 
@@ -15,7 +15,7 @@ loop-qid-preserved c rules late notes s q below named still = elim (cases_lt q c
   | inl before ↦ c.loop-qid.invariant rules late notes s q before named still
   | inr from ↦ (
       let here : q ≡ c.loop-qid.qid = omega (arith, below, from) in
-      let it = (c.serving.ensures s.their s.their_late notes c.args.self.now.slots.items s.stands (on_regions s.their s.alike.adds) c.args.region).1
+      let it = (c.serving.ensures.on_regions s.their s.their_late notes c.args.self.now.slots.items s.stands (on_regions s.their s.alike.adds) c.args.region).1
       (named ∙ ap (λ (x : ℕ). Some x) here, still) in
       true≢false (sym (c.eq.ensures ∙ eq_some c.serving.result c.args.region it) ∙ c.if-eq.false))
 ]

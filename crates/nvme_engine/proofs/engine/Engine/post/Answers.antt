@@ -15,7 +15,7 @@ returns-in_err-region-clause-posted c rules late notes x cqe s is_open size_is n
     let did : HasPosted s.their s.their_late notes c.args.cqid c.in_ok-post.post.slot c.in_ok-post.post.cqe c.in_ok-post.post.cookie c.in_ok-post.post.marks c.post.new.self c.post.new.slots =
     c.in_ok-post.ensures.stands s.their s.their_late notes (subst (λ (xs : List Slot). Stands s.their s.their_late notes e.controller xs) (sym c.deref_mut.ensures.value) s.stands) in
     let is = told rules late notes e s c.args.cqid x c.args.slots is_open size_is c.in_ok-post.post c.post.new.self c.post.new.slots did ((c.from.result + 1) % c.from-2.result)
-    (λ j. (c.from.ensures j + 1) % c.from-2.ensures j) c.cq_head.result c.cq_head.new.self c.cq_head.ensures.answer c.cq_head.ensures.stands c.serving.result c.serving.ensures in
+    (λ j. (c.from.ensures j + 1) % c.from-2.ensures j) c.cq_head.result c.cq_head.new.self c.cq_head.ensures.answer c.cq_head.ensures.stands c.serving.result c.serving.ensures.on_regions in
     let none = c.in_err-region.was in
     absurd (cc (none, is))
 
@@ -28,7 +28,7 @@ returns-clause-stands c rules late notes x cqe s is_open size_is next =
     let value : Some c.in_ok-post.post ≡ next_post_of e.controller e.slots.items c.args.cqid =
     c.in_ok-post.ensures.value ∙ ap (λ (xs : List Slot). next_post_of e.controller xs c.args.cqid) c.deref_mut.ensures.value in
     post_done rules late notes e s c.args.cqid x c.args.slots is_open size_is c.in_ok-post.post c.post.new.self c.post.new.slots did ((c.from.result + 1) % c.from-2.result)
-    (λ j. (c.from.ensures j + 1) % c.from-2.ensures j) c.cq_head.result c.cq_head.new.self c.cq_head.ensures.answer c.cq_head.ensures.stands c.serving.result c.serving.ensures
+    (λ j. (c.from.ensures j + 1) % c.from-2.ensures j) c.cq_head.result c.cq_head.new.self c.cq_head.ensures.answer c.cq_head.ensures.stands c.serving.result c.serving.ensures.on_regions
     cqe value next c.in_ok-region.region c.in_ok-region.was (written e c.cq_head.new.self c.post.new.slots)
     (leaves e c.cq_head.new.self c.post.new.slots (c.cq_head.ensures.depths ∙ c.post.ensures.depths) (c.cq_head.ensures.own ∙ c.post.ensures.own) size)
     (stands_written s.their s.their_late _ e c.cq_head.new.self c.post.new.slots size)

@@ -1,0 +1,26 @@
+-- How many calls did something: all but those that tell what the host did or what the device wants (profile).
+use Rattle.std.specs.Prelude.{ℕ, ◌+◌, ◌*◌, ◌≤◌, List, [], ◌∷◌}
+use Rattle.nvme_log.specs.declared.event.Event.TheVariants.{Fetch, Pick, Post, ClosedSq}
+use Rattle.nvme_log.specs.Rules.{FrontRules}
+use Rattle.nvme_ctrl.specs.Notes.{Notes, Logged, Taken, Marked, logged}
+use Rattle.nvme_ctrl.specs.Tags.{all_fetches}
+use Rattle.nvme_ctrl.specs.Account.{IsAccount}
+
+-- each of these notes is that of one call: `fetched`, `pick`, `post`, `finish`, `take` and `complete`, in this order
+abbrev pub steps : Notes → ℕ
+steps [] = 0
+steps (Logged (Fetch r i entry) ∷ notes) = steps notes + 1
+steps (Logged (Pick seen pick) ∷ notes) = steps notes + 1
+steps (Logged (Post c r i cqe) ∷ notes) = steps notes + 1
+steps (Logged (ClosedSq q r) ∷ notes) = steps notes + 1
+steps (Taken tag r i ∷ notes) = steps notes + 1
+steps (Marked r i marks ∷ notes) = steps notes + 1
+steps (note ∷ notes) = steps notes
+
+abbrev pub steps_each : ℕ
+steps_each = 6
+
+-- so at most six calls do something for each command that was fetched, and only fetched commands are those that the host submitted (SlotsAreFetchedInOrder):
+-- with no doorbell more, calls come to an end that do something
+abbrev pub StepsAreFew : Type 0
+StepsAreFew = (rules : FrontRules) (notes : Notes) → IsAccount rules notes → steps notes ≤ steps_each * all_fetches (logged notes)
