@@ -1,10 +1,10 @@
 -- Generations: what leaves them, and when a tag is used up.
-use Rattle.std.proofs.Common.{◌≡◌, ◌≢◌, ℕ, zero, suc, ◌+◌, ◌%◌, ◌<◌, ◌==◌, Bool, true, false, if◌then◌else◌, List, [], ◌∷◌, length, Option, Some, None, refl, sym, ap, ◌∙◌, subst, arith, inl, inr, eq-eqb}
+use Rattle.std.proofs.Common.{◌≡◌, ◌≢◌, ℕ, suc, ◌+◌, ◌%◌, ◌<◌, List, [], ◌∷◌, length, refl, sym, ap, ◌∙◌, subst, arith, inl, inr, eq-eqb}
 use Rattle.std.proofs.lemmas.Bool.{cases_lt, cases_eq, ne_eqb}
 use Rattle.std.specs.Prelude.{slice_set}
 use Rattle.std.proofs.lemmas.List.{set_past, get_or-set_same, get_or-set_other}
 use Rattle.nvme_ctrl.specs.declared.slot.Slot.{Slot}
-use Rattle.nvme_ctrl.specs.Generations.{generation_at, tag_at, slot_of, SameGenerations, IsNextGeneration, AreTaken, times, TagsAreUsedUp, TagsComeAgain}
+use Rattle.nvme_ctrl.specs.Generations.{generation_at, SameGenerations, IsNextGeneration, AreTaken, times, TagsAreUsedUp, TagsComeAgain}
 use Rattle.nvme_ctrl.specs.kept.Pool.{no_slot, put_item, SameItems}
 use Rattle.nvme_ctrl.proofs.Pools.{slot_at-put_item_same, slot_at-put_item_other}
 

@@ -1,5 +1,5 @@
 -- What the board would pick, cut to the room that there is, may be picked.
-use Rattle.std.proofs.Common.{◌≡◌, ℕ, zero, suc, ◌-◌, ◌≤◌, List, Option, Some, refl, sym, ap, ◌∙◌, subst, arith}
+use Rattle.std.proofs.Common.{◌≡◌, ℕ, zero, suc, ◌≤◌, List, Option, Some, refl, sym, ap, ◌∙◌, subst, arith}
 use Rattle.std.specs.Prelude.{option_map, IsSomeAnd, IsTrue}
 use Rattle.nvme_arbiter.specs.Settings.{ArbitrationFields}
 use Rattle.nvme_arbiter.specs.History.{History}
@@ -15,12 +15,16 @@ use Rattle.nvme_arbiter.proofs.Stands.{lawful as lawful_where_stands}
 use Rattle.nvme_log.specs.Histories.{arbitration_of}
 use Rattle.nvme_log.specs.Rules.{FrontRules}
 use Rattle.nvme_ctrl.specs.Notes.{Notes, logged}
-use Rattle.nvme_ctrl.specs.Standing.{IsController}
+use Rattle.nvme_ctrl.specs.Standing.{IsController, has_arbiter}
 use Rattle.nvme_ctrl.specs.Steps.{IsNextPick, IsNextWithin}
 use Rattle.nvme_ctrl.specs.inside.Picks.{CanPickNow}
 use Rattle.nvme_ctrl.specs.declared.slot.Slot.{Slot}
 use Rattle.nvme_ctrl.specs.declared.state.Controller.{Controller}
 use Rattle.nvme_ctrl.proofs.PickCall.{board_stands}
+
+-- what a controller's arbitration keeps is in its ranges
+pub arbiter_there : (c : Controller) (slots : List Slot) → IsController c slots → IsTrue (has_arbiter c)
+arbiter_there c slots front = front.stands.numbers.is_arbiter
 
 -- there is room for a command where there is any
 pub some_room : (room : ℕ) → (room ≡ 0 → ⊥) → 1 ≤ room

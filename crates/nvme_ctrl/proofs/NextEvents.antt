@@ -11,7 +11,6 @@ use Rattle.std.proofs.lemmas.Option.{same_Some}
 use Rattle.std.proofs.lemmas.List.Elements.{All-head, All-same, filter-append}
 use Rattle.nvme_entry.specs.declared.submission.Sqe.{Sqe}
 use Rattle.nvme_entry.specs.declared.completion.Cqe.{Cqe}
-use Rattle.nvme_log.specs.declared.event.Event.TheVariants as event
 use Rattle.nvme_ctrl.specs.kept.Content.{Candidate}
 use Rattle.nvme_ctrl.specs.kept.Content.{Ready}
 use Rattle.nvme_ctrl.specs.kept.Content.{PendingDelete}

@@ -1,6 +1,6 @@
 -- A pick of the admin queue whose command is passed on to the device: the controller stands at its log afterwards.
 use Rattle.std.proofs.Common.{◌||◌, ◌&&◌, ◌==◌, eqb-true}
-use Rattle.std.proofs.Common.{◌≡◌, ℕ, ◌+◌, Bool, true, false, List, [], ◌∷◌, ◌++◌, map, take, Option, Some, None, inr, refl, sym, ap, ◌∙◌, subst, not}
+use Rattle.std.proofs.Common.{◌≡◌, ℕ, Bool, true, false, List, [], ◌∷◌, ◌++◌, map, take, Option, Some, None, inr, refl, sym, ap, ◌∙◌, subst, not}
 use Rattle.std.specs.Prelude.{slice_get, IsTrue}
 use Rattle.std.specs.List.{All}
 use Rattle.std.proofs.lemmas.Bool.{eq-eqb, or_left}

@@ -1,5 +1,5 @@
 -- Whether the places of the next pick are free, whatever is picked and not taken.
-use Rattle.std.proofs.Common.{◌≡◌, ℕ, ◌+◌, ◌-◌, ◌<◌, ◌≤◌, Bool, List, [], ◌∷◌, length, Some, None, refl, sym, ap, ◌∙◌, subst, arith}
+use Rattle.std.proofs.Common.{◌≡◌, ℕ, ◌+◌, ◌<◌, ◌≤◌, Bool, List, [], ◌∷◌, length, Some, None, refl, sym, ap, ◌∙◌, subst, arith}
 use Rattle.std.specs.Prelude.{option_and_then, slice_get, min}
 use Rattle.std.proofs.lemmas.Option.{same_Some}
 use Rattle.nvme_arbiter.specs.declared.pick.Pick.{Pick}

@@ -1,7 +1,7 @@
 -- No more than six calls do something for each command that was fetched.
-use Rattle.std.proofs.Common.{◌≡◌, ℕ, ◌+◌, ◌<◌, ◌≤◌, ◌==◌, ◌&&◌, ◌||◌, nat_lt, Bool, true, false, if◌then◌else◌, List, [], ◌∷◌, ◌++◌, length, sum_by, Option, Some, None, refl, sym, ap, ◌∙◌, subst, arith, inl, inr, length-append}
+use Rattle.std.proofs.Common.{◌≡◌, ℕ, ◌+◌, ◌<◌, ◌≤◌, ◌==◌, ◌&&◌, ◌||◌, nat_lt, Bool, true, false, if◌then◌else◌, List, [], ◌∷◌, length, Option, Some, None, refl, sym, ap, ◌∙◌, subst, arith, inl, inr, length-append}
 use Rattle.std.specs.Prelude.{is_some, MatchBool}
-use Rattle.std.proofs.lemmas.Bool.{cases_Bool, cases_lt, eqb-true, eq-eqb, and_parts, lt-ltb, ltb-true}
+use Rattle.std.proofs.lemmas.Bool.{cases_Bool, cases_lt, eqb-true, and_parts, lt-ltb}
 use Rattle.std.proofs.lemmas.List.{append-nil}
 use Rattle.std.proofs.lemmas.List.Sums.{sum_by-cons}
 use Rattle.std.proofs.lemmas.Option.{slice_get_within}
@@ -9,12 +9,11 @@ use Rattle.nvme_entry.specs.declared.completion.Cqe.{Cqe}
 use Rattle.nvme_log.specs.declared.event.Event.TheVariants.{Fetch, Closing, Post, ClosedSq}
 use Rattle.nvme_log.specs.declared.event.Event.TheVariants as event
 use Rattle.nvme_log.specs.Rules.{Past, FrontRules, Each}
-use Rattle.nvme_log.specs.Queues.{open_sq}
-use Rattle.nvme_log.specs.Places.{fetched, one_if, is_served}
+use Rattle.nvme_log.specs.Places.{fetched, one_if}
 use Rattle.nvme_log.specs.Histories.{picks_in}
 use Rattle.nvme_log.specs.Completions.{is_posted, posts_of}
-use Rattle.nvme_log.specs.Effects.{EffectsAtOnce, effects_since}
-use Rattle.nvme_log.specs.Account.{IndexCounts, PostsOwnBy, latest_admin_place}
+use Rattle.nvme_log.specs.Effects.{effects_since}
+use Rattle.nvme_log.specs.Account.{IndexCounts, PostsOwnBy}
 use Rattle.nvme_log.specs.Answers.{by_answers}
 use Rattle.nvme_log.specs.Dispatches.{place_at}
 use Rattle.nvme_log.specs.declared.place.Place.{Place}

@@ -1,5 +1,5 @@
 -- How many calls did something: all but those that tell what the host did or what the device wants (profile).
-use Rattle.std.specs.Prelude.{ℕ, ◌+◌, ◌*◌, ◌≤◌, List, [], ◌∷◌}
+use Rattle.std.specs.Prelude.{ℕ, ◌+◌, ◌*◌, ◌≤◌, [], ◌∷◌}
 use Rattle.nvme_log.specs.declared.event.Event.TheVariants.{Fetch, Pick, Post, ClosedSq}
 use Rattle.nvme_log.specs.Rules.{FrontRules}
 use Rattle.nvme_ctrl.specs.Notes.{Notes, Logged, Taken, Marked, logged}

@@ -4,12 +4,8 @@ use Rattle.nvme_ctrl.specs.Calls.{HasAnswered}
 use Rattle.nvme_ctrl.specs.Generations.{tag_of, slot_of}
 use Rattle.nvme_capi.specs.Controllers.{is_ctrl, has_slots}
 use Rattle.nvme_capi.proofs.Refusals.{no_refusal}
-use Rattle.nvme_capi.proofs.SlotsOfTags.{out_under, not_out_under, not_under, slot_is}
+use Rattle.nvme_capi.proofs.SlotsOfTags.{out_under, not_out_under, not_under, slot_is, found_slot}
 use Rattle.nvme_capi.proofs.ctrl.commands.complete_marked.Goals as goal
-
--- the slot of the tag
-its_slot : (c : goal.After-complete) → slot_of c.args.slots.now (tag_of c.args.tag) ≡ Some c.in-Some-slot_in.slot
-its_slot c = ap (slot_of c.args.slots.now) (sym c.of_number.ensures) ∙ sym c.slot_in-slot.ensures ∙ c.in-Some-slot_in.is
 
 pub returns-then-complete-clause-bad_argument : goal.returns-then-complete-clause-bad_argument
 returns-then-complete-clause-bad_argument c =
@@ -20,14 +16,14 @@ returns-then-complete-clause-bad_argument c =
 
 pub returns-then-complete-clause-was_out : goal.returns-then-complete-clause-was_out
 returns-then-complete-clause-was_out c = λ rules late notes s _.
-    out_under notes c.args.slots.now c.args.tag c.in-Some-slot_in.slot (its_slot c) (sym (c.complete.ensures.answer rules late notes s) ∙ c.if-complete.true)
+    out_under notes c.args.slots.now c.args.tag c.in-Some-slot_in.slot (found_slot c.args.slots.now c.args.tag c.of_number.result c.slot_in.result c.in-Some-slot_in.slot c.of_number.ensures c.slot_in.ensures c.in-Some-slot_in.is) (sym (c.complete.ensures.answer rules late notes s) ∙ c.if-complete.true)
 
 pub returns-then-complete-clause-stands : goal.returns-then-complete-clause-stands
 returns-then-complete-clause-stands c = λ rules late notes s _.
     subst (λ (code : StatusCode). HasAnswered rules late notes (tag_of c.args.tag).slot (record { status = code; dw0 = c.args.dw0 }) c.args.marks c.complete.new.self c.complete.new.slots)
     c.in-Some.ensures.some
     (subst (λ (slot : ℕ). HasAnswered rules late notes slot (record { status = c.in-Some.status; dw0 = c.args.dw0 }) c.args.marks c.complete.new.self c.complete.new.slots)
-    (slot_is c.args.slots.now c.args.tag c.in-Some-slot_in.slot (its_slot c)) (c.complete.ensures.stands rules late notes s c.if-complete.true))
+    (slot_is c.args.slots.now c.args.tag c.in-Some-slot_in.slot (found_slot c.args.slots.now c.args.tag c.of_number.result c.slot_in.result c.in-Some-slot_in.slot c.of_number.ensures c.slot_in.ensures c.in-Some-slot_in.is)) (c.complete.ensures.stands rules late notes s c.if-complete.true))
 
 pub returns-else-complete-clause-bad_argument : goal.returns-else-complete-clause-bad_argument
 returns-else-complete-clause-bad_argument c =
@@ -38,10 +34,13 @@ returns-else-complete-clause-bad_argument c =
 
 pub returns-else-complete-clause-nothing : goal.returns-else-complete-clause-nothing
 returns-else-complete-clause-nothing c = λ rules late notes s _.
-    not_out_under notes c.args.slots.now c.args.tag c.in-Some-slot_in.slot (its_slot c) (sym (c.complete.ensures.answer rules late notes s) ∙ c.if-complete.false)
+    not_out_under notes c.args.slots.now c.args.tag c.in-Some-slot_in.slot (found_slot c.args.slots.now c.args.tag c.of_number.result c.slot_in.result c.in-Some-slot_in.slot c.of_number.ensures c.slot_in.ensures c.in-Some-slot_in.is) (sym (c.complete.ensures.answer rules late notes s) ∙ c.if-complete.false)
 
 pub returns-else-complete-clause-unchanged : goal.returns-else-complete-clause-unchanged
 returns-else-complete-clause-unchanged c = λ _. (let h = c.complete.ensures.refused c.if-complete.false in ((λ i. record c.args.state.now { ctrl = h.0 i }), h.1))
 
--- a tag that is used up has no command
-pub returns-in_default-clause-bad_argument : goal.returns-in_default-slot_in-clause-bad_argument
+pub returns-then-complete-clause-kept : goal.returns-then-complete-clause-kept
+returns-then-complete-clause-kept c = λ k. record { front = λ m n. c.complete.ensures.front (k.front m (sym c.has_slots.ensures ∙ c.if-not-has_slots.false)) }
+
+pub returns-else-complete-clause-kept : goal.returns-else-complete-clause-kept
+returns-else-complete-clause-kept c = λ k. record { front = λ m n. c.complete.ensures.front (k.front m (sym c.has_slots.ensures ∙ c.if-not-has_slots.false)) }

@@ -48,3 +48,21 @@ returns-in-Passed-clause-own c = λ rules late notes s _ _. c.pick.ensures.passe
 
 pub returns-in-Done-clause-not_own : goal.returns-in-Done-clause-not_own
 returns-in-Done-clause-not_own c = λ rules late notes s _ _. c.pick.ensures.carried_out rules late notes s c.in-Done.effect c.in-Done.entry c.in-Done.is
+
+pub returns-in-Idle-clause-kept : goal.returns-in-Idle-clause-kept
+returns-in-Idle-clause-kept c = λ k. record { front = λ m n. c.pick.ensures.front (k.front m (sym c.has_slots.ensures ∙ c.if-not-has_slots.false)) }
+
+pub returns-in-Busy-clause-kept : goal.returns-in-Busy-clause-kept
+returns-in-Busy-clause-kept c = λ k. record { front = λ m n. c.pick.ensures.front (k.front m (sym c.has_slots.ensures ∙ c.if-not-has_slots.false)) }
+
+pub returns-in-NoRoom-clause-kept : goal.returns-in-NoRoom-clause-kept
+returns-in-NoRoom-clause-kept c = λ k. record { front = λ m n. c.pick.ensures.front (k.front m (sym c.has_slots.ensures ∙ c.if-not-has_slots.false)) }
+
+pub returns-in-Picked-clause-kept : goal.returns-in-Picked-clause-kept
+returns-in-Picked-clause-kept c = λ k. record { front = λ m n. c.pick.ensures.front (k.front m (sym c.has_slots.ensures ∙ c.if-not-has_slots.false)) }
+
+pub returns-in-Passed-clause-kept : goal.returns-in-Passed-clause-kept
+returns-in-Passed-clause-kept c = λ k. record { front = λ m n. c.pick.ensures.front (k.front m (sym c.has_slots.ensures ∙ c.if-not-has_slots.false)) }
+
+pub returns-in-Done-clause-kept : goal.returns-in-Done-clause-kept
+returns-in-Done-clause-kept c = λ k. record { front = λ m n. c.pick.ensures.front (k.front m (sym c.has_slots.ensures ∙ c.if-not-has_slots.false)) }

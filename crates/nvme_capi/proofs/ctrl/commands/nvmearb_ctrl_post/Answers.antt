@@ -17,3 +17,9 @@ returns-in-None-clause-nothing c = λ rules late notes s _ x is_open. c.post.ens
 
 pub returns-in-None-clause-unchanged : goal.returns-in-None-clause-unchanged
 returns-in-None-clause-unchanged c = λ _. (let h = c.post.ensures.none c.in-None.is in ((λ i. record c.args.state.now { ctrl = h.0 i }), (h.1, refl)))
+
+pub returns-in-Some-clause-kept : goal.returns-in-Some-clause-kept
+returns-in-Some-clause-kept c = λ k. record { front = λ m n. c.post.ensures.front (k.front m (sym c.has_slots.ensures ∙ c.if-not-has_slots.false)) }
+
+pub returns-in-None-clause-kept : goal.returns-in-None-clause-kept
+returns-in-None-clause-kept c = λ k. record { front = λ m n. c.post.ensures.front (k.front m (sym c.has_slots.ensures ∙ c.if-not-has_slots.false)) }

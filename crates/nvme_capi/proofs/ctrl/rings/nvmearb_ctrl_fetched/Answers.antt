@@ -16,3 +16,9 @@ returns-else-fetched-clause-nothing c = λ rules late notes s _ slot may.
 
 pub returns-else-fetched-clause-unchanged : goal.returns-else-fetched-clause-unchanged
 returns-else-fetched-clause-unchanged c = λ _. (let h = c.fetched.ensures.refused c.if-fetched.false in ((λ i. record c.args.state.now { ctrl = h.0 i }), h.1))
+
+pub returns-then-fetched-clause-kept : goal.returns-then-fetched-clause-kept
+returns-then-fetched-clause-kept c = λ k. record { front = λ m n. c.fetched.ensures.front (k.front m (sym c.has_slots.ensures ∙ c.if-not-has_slots.false)) }
+
+pub returns-else-fetched-clause-kept : goal.returns-else-fetched-clause-kept
+returns-else-fetched-clause-kept c = λ k. record { front = λ m n. c.fetched.ensures.front (k.front m (sym c.has_slots.ensures ∙ c.if-not-has_slots.false)) }

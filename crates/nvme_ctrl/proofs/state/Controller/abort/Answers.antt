@@ -1,6 +1,6 @@
 use Rattle.std.proofs.Common.{◌<◌, ◌∙◌, ap, sym, subst}
 use Rattle.std.proofs.lemmas.Option.{same_Some}
-use Rattle.std.specs.Prelude.{◌==◌, IsSome, IsSomeAnd}
+use Rattle.std.specs.Prelude.{◌==◌, IsSomeAnd}
 use Rattle.nvme_arbiter.specs.Layout.{board_of}
 use Rattle.nvme_arbiter.specs.Board.{BoardStandsAt}
 use Rattle.nvme_arbiter.specs.Queues.{queue_at}
@@ -9,7 +9,7 @@ use Rattle.nvme_placing.specs.Telling.{unplaced}
 use Rattle.nvme_admin.specs.declared.verdict.SqEntry.{SqEntry}
 use Rattle.nvme_ctrl.specs.declared.state.Controller.{Controller}
 use Rattle.nvme_ctrl.specs.kept.Kept.{tags_of}
-use Rattle.nvme_ctrl.proofs.Aborting.{kept_life, told_queue, none_left, chain_there, went_there, went_some, WentBoard, requested_one, few_unposted_more, few_outstanding_more}
+use Rattle.nvme_ctrl.proofs.Aborting.{told_queue, none_left, chain_there, went_some, WentBoard, requested_one, few_unposted_more, few_outstanding_more}
 use Rattle.nvme_ctrl.proofs.Generations.{left_both, items_left}
 use Rattle.nvme_ctrl.proofs.state.Controller.abort.Goals as goal
 

@@ -9,7 +9,7 @@ use Rattle.nvme_entry.specs.AdminCommand.{admin_command_of}
 use Rattle.nvme_ctrl.specs.declared.slot.Slot.{Slot}
 use Rattle.nvme_ctrl.specs.kept.Pool.{slot_at}
 use Rattle.nvme_ctrl.proofs.AppliedQueues.{opens_within, opens_free, opens_io}
-use Rattle.nvme_ctrl.proofs.CarryOut.{ended_plain, ended_opened, ended_cq_opened, ended_cq_closed, ended_set, carried_as, carried_by, applied_as, some_asked, applied_sq, applied_delete, applied_abort}
+use Rattle.nvme_ctrl.proofs.CarryOut.{ended_plain, ended_opened, ended_cq_opened, ended_cq_closed, ended_set, carried_as, carried_by, applied_as, some_asked}
 use Rattle.nvme_ctrl.proofs.CarryQueues.{begins_on_board, ended_begun}
 use Rattle.nvme_ctrl.proofs.CarryAbort.{carried_found, carried_none}
 use Rattle.nvme_ctrl.proofs.Generations.{left_both}

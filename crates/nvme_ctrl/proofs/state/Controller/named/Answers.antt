@@ -1,4 +1,4 @@
-use Rattle.std.proofs.Common.{◌<◌, ℕ, refl, sym, ap, ◌∙◌, arith, length, inl, inr, true≢false}
+use Rattle.std.proofs.Common.{◌<◌, ℕ, sym, ap, ◌∙◌, arith, length, inl, inr, true≢false}
 use Rattle.std.proofs.lemmas.Bool.{cases_eq}
 use Rattle.nvme_ctrl.specs.declared.slot.Slot.{Slot}
 use Rattle.nvme_ctrl.specs.kept.Pool.{slot_at}

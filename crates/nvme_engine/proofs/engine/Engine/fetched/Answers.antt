@@ -4,19 +4,13 @@ use Rattle.nvme_log.specs.Places.{fetched}
 use Rattle.nvme_ctrl.specs.Calls as calls
 use Rattle.nvme_ctrl.specs.Doorbells.{sq_slots}
 use Rattle.nvme_ctrl.specs.Notes.{Notes, Tail, logged}
-use Rattle.nvme_ctrl.specs.Standing.{Stands, IsController}
+use Rattle.nvme_ctrl.specs.Standing.{Stands}
 use Rattle.nvme_ctrl.specs.declared.slot.Slot.{Slot}
 use Rattle.nvme_engine.specs.declared.engine.Engine.{Engine}
-use Rattle.nvme_engine.proofs.Controllers.{is_controller, items_are}
+use Rattle.nvme_engine.proofs.Controllers.{items_are}
 use Rattle.nvme_engine.proofs.FetchNotes.{is_tail, may_fetch, tail_is, has_fetched}
 use Rattle.nvme_engine.proofs.Turn.{next-slot}
 use Rattle.nvme_engine.proofs.engine.Engine.fetched.Goals as goal
-
-pub fetched-requires : goal.fetched-requires
-fetched-requires c = record {
-  front = subst (λ (pool : List Slot). IsController c.sq_tail.new.self pool) (sym c.deref_mut.ensures.value)
-      (c.sq_tail.ensures.front c.args.self.now.slots.items (is_controller c.args.self.now c.requires.engine));
-}
 
 pub returns : goal.returns
 returns c = record {

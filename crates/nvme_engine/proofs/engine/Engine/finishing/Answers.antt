@@ -15,7 +15,7 @@ returns-in_err-region-clause-none c rules late notes s none d is =
     let e : Engine = c.args.self.now in
     let f = c.in_ok-qid.ensures.some s.their s.their_late notes e.slots.items s.stands in
     let at : None ≡ Some f.region =
-    (c.in_err-region.ensures s.their s.their_late notes e.slots.items s.stands (on_regions s.their s.alike.adds) f.region).1
+    (c.in_err-region.ensures.on_regions s.their s.their_late notes e.slots.items s.stands (on_regions s.their s.alike.adds) f.region).1
     (f.queue, (finishable_is rules late notes e s c.in_ok-qid.qid f).1) in
     absurd (cc at)
 
@@ -23,4 +23,4 @@ pub returns-clause-some : goal.returns-clause-some
 returns-clause-some c rules late notes s =
     let e : Engine = c.args.self.now in
     finishing_is rules late notes e s c.in_ok-qid.qid c.in_ok-region.region (c.in_ok-qid.ensures.some s.their s.their_late notes e.slots.items s.stands)
-    (c.in_ok-region.ensures s.their s.their_late notes e.slots.items s.stands (on_regions s.their s.alike.adds))
+    (c.in_ok-region.ensures.on_regions s.their s.their_late notes e.slots.items s.stands (on_regions s.their s.alike.adds))

@@ -1,9 +1,10 @@
 use Rattle.std.proofs.Common.{[]}
+use Rattle.nvme_ctrl.proofs.MayPick.{arbiter_there}
 use Rattle.nvme_engine.proofs.NextPicks.{controller_of, stands_with, next_is}
 use Rattle.nvme_engine.proofs.engine.Engine.next_pick.Goals as goal
 
 pub next_pick-requires : goal.next_pick-requires
-next_pick-requires c = record { front = controller_of c.args.self.now c.requires.engine c.as_slice.result.now c.as_slice.ensures.value }
+next_pick-requires c = record { arbiter = arbiter_there c.args.self.now.controller c.as_slice.result.now (controller_of c.args.self.now c.requires.engine c.as_slice.result.now c.as_slice.ensures.value) }
 
 pub returns : goal.returns
 returns c rules late notes s =

@@ -8,12 +8,13 @@ use Rattle.nvme_ctrl.specs.declared.slot.Slot.{Slot}
 use Rattle.nvme_engine.specs.declared.engine.Engine.{Engine}
 use Rattle.nvme_engine.proofs.Additions.{on_regions}
 use Rattle.nvme_engine.proofs.Calls.{written, slots_are, leaves}
+use Rattle.nvme_ctrl.proofs.MayPick.{arbiter_there}
 use Rattle.nvme_engine.proofs.NextPicks.{controller_of, stands_with}
 use Rattle.nvme_engine.proofs.PickCalls.{carried, is_carried_out}
 use Rattle.nvme_engine.proofs.engine.Engine.pick_admin.Goals as goal
 
 pub pick-requires : goal.pick-requires
-pick-requires c = record { front = controller_of c.args.self.now c.requires.engine c.deref_mut.result.now c.deref_mut.ensures.value }
+pick-requires c = record { arbiter = arbiter_there c.args.self.now.controller c.deref_mut.result.now (controller_of c.args.self.now c.requires.engine c.deref_mut.result.now c.deref_mut.ensures.value) }
 
 pub returns-in_default : goal.returns-in_default
 returns-in_default c = record {

@@ -4,12 +4,13 @@ use Rattle.nvme_ctrl.specs.Steps.{HasStepped}
 use Rattle.nvme_ctrl.specs.declared.slot.Slot.{Slot}
 use Rattle.nvme_engine.specs.declared.engine.Engine.{Engine}
 use Rattle.nvme_engine.proofs.Calls.{written, slots_are, leaves}
+use Rattle.nvme_ctrl.proofs.MayPick.{arbiter_there}
 use Rattle.nvme_engine.proofs.NextPicks.{controller_of, stands_with}
 use Rattle.nvme_engine.proofs.PickCalls.{has_picked}
 use Rattle.nvme_engine.proofs.engine.Engine.pick_io.Goals as goal
 
 pub pick-requires : goal.pick-requires
-pick-requires c = record { front = controller_of c.args.self.now c.requires.engine c.deref_mut.result.now c.deref_mut.ensures.value }
+pick-requires c = record { arbiter = arbiter_there c.args.self.now.controller c.deref_mut.result.now (controller_of c.args.self.now c.requires.engine c.deref_mut.result.now c.deref_mut.ensures.value) }
 
 pub returns : goal.returns
 returns c = record {

@@ -3,15 +3,20 @@ use Rattle.nvme_ctrl.specs.Standing.{IsController, Stands}
 use Rattle.nvme_ctrl.specs.Steps.{HasStepped}
 use Rattle.nvme_ctrl.specs.declared.picks.Step.{Step}
 use Rattle.nvme_ctrl.specs.declared.slot.Slot.{Slot}
+use Rattle.nvme_ctrl.proofs.MayPick.{arbiter_there}
 use Rattle.nvme_simulation.specs.Fronts.{Arbitrates}
 use Rattle.nvme_simulation.proofs.Pools.{at_pool, stepped}
 use Rattle.nvme_simulation.proofs.front.Front.pick.Goals as goal
+
+pub pick-requires : goal.pick-requires
+pick-requires c = record { arbiter = arbiter_there c.args.self.now.controller c.args.self.now.pool.items c.requires.front }
 
 pub returns-clause-front : goal.returns-clause-front
 returns-clause-front c =
     let value = c.deref_mut.ensures.value in
     record {
-      is = at_pool (λ (xs : List Slot). IsController c.pick.new.self xs) c.args.self.now.pool _ c.pick.new.slots value c.pick.ensures.size c.pick.ensures.front;
+      is = at_pool (λ (xs : List Slot). IsController c.pick.new.self xs) c.args.self.now.pool _ c.pick.new.slots value c.pick.ensures.size
+            (c.pick.ensures.front (subst (λ (xs : List Slot). IsController c.args.self.now.controller xs) (sym value) c.requires.front));
       arbitrates = λ m s a. at_pool (λ (xs : List Slot). Arbitrates m s c.pick.new.self xs) c.args.self.now.pool _ c.pick.new.slots value c.pick.ensures.size
           (let stood = subst (λ (xs : List Slot). Arbitrates m s c.args.self.now.controller xs) (sym value) a in
           stepped m s _ _ _ _ stood c.args.room c.pick.result (c.pick.ensures.stands stood.rules stood.late stood.notes stood.stands));

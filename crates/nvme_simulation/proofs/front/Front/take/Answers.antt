@@ -10,7 +10,8 @@ returns-in_err-tag c =
     let value = c.deref_mut.ensures.value in
     record {
       front = record {
-        is = at_pool (λ (xs : List Slot). IsController c.take.new.self xs) c.args.self.now.pool _ c.take.new.slots value c.take.ensures.size c.take.ensures.front;
+        is = at_pool (λ (xs : List Slot). IsController c.take.new.self xs) c.args.self.now.pool _ c.take.new.slots value c.take.ensures.size
+            (c.take.ensures.front (subst (λ (xs : List Slot). IsController c.args.self.now.controller xs) (sym value) c.requires.front));
         arbitrates = λ m s a. at_pool (λ (xs : List Slot). Arbitrates m s c.take.new.self xs) c.args.self.now.pool _ c.take.new.slots value c.take.ensures.size
             (let stood = subst (λ (xs : List Slot). Arbitrates m s c.args.self.now.controller xs) (sym value) a in
             told m s _ _ _ _ _ c.take.result c.take.ensures.none (c.take.ensures.stands stood.rules stood.late stood.notes stood.stands)
@@ -23,7 +24,8 @@ returns c =
     let value = c.deref_mut.ensures.value in
     record {
       front = record {
-        is = at_pool (λ (xs : List Slot). IsController c.take.new.self xs) c.args.self.now.pool _ c.take.new.slots value c.take.ensures.size c.take.ensures.front;
+        is = at_pool (λ (xs : List Slot). IsController c.take.new.self xs) c.args.self.now.pool _ c.take.new.slots value c.take.ensures.size
+            (c.take.ensures.front (subst (λ (xs : List Slot). IsController c.args.self.now.controller xs) (sym value) c.requires.front));
         arbitrates = λ m s a. at_pool (λ (xs : List Slot). Arbitrates m s c.take.new.self xs) c.args.self.now.pool _ c.take.new.slots value c.take.ensures.size
             (let stood = subst (λ (xs : List Slot). Arbitrates m s c.args.self.now.controller xs) (sym value) a in
             told m s _ _ _ _ _ c.take.result c.take.ensures.none (c.take.ensures.stands stood.rules stood.late stood.notes stood.stands)
