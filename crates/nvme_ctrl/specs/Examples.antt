@@ -1,5 +1,5 @@
 -- Worked logs of a controller, for which the definitions compute (profile).
-use Rattle.std.specs.Prelude.{ℕ, ◌+◌, ◌*◌, true, false, [], ◌∷◌}
+use Rattle.std.specs.Prelude.{List, ℕ, ◌+◌, ◌*◌, true, false, [], ◌∷◌}
 use Rattle.nvme_entry.specs.Status.{StatusCode, success, invalid_field, aborted_by_deletion, lba_out_of_range, abort_requested}
 use Rattle.nvme_entry.specs.declared.submission.Sqe.{Sqe}
 use Rattle.nvme_entry.specs.declared.completion.Cqe.{Cqe}
@@ -11,6 +11,8 @@ use Rattle.nvme_arbiter.specs.declared.pick.Seen.{Seen}
 use Rattle.nvme_log.specs.Rules.{FrontRules}
 use Rattle.nvme_log.specs.Examples.{one_deletion, get_arbitration, admin_picked, admin_posted, create_cq, create_sq, delete_sq, read, done, admin_seen, reads_seen, picked_of}
 use Rattle.nvme_log.specs.AbortExamples.{abort}
+use Rattle.nvme_ctrl.specs.declared.slot.Slot.{Slot}
+use Rattle.nvme_ctrl.specs.kept.Pool.{no_slot}
 use Rattle.nvme_ctrl.specs.Notes.{Notes, Logged, Tail, Head, Passed, Taken, Answered, Held, Classed}
 use Rattle.nvme_ctrl.specs.Making.{with_region}
 use Rattle.nvme_arbiter.specs.declared.settings.Mechanism.TheVariants.{Weighted}
@@ -428,3 +430,8 @@ two_waiting =
 -- a pick of so many commands of a queue, in which no round starts
 abbrev pub pick_of : (qid n : ℕ) → Pick
 pick_of qid n = record { qid = qid; n = n; fresh = false }
+
+-- ---- tags
+-- a pool of one slot, whose command was taken three times
+abbrev pub taken_thrice : List Slot
+taken_thrice = record no_slot { generation = 3 } ∷ []

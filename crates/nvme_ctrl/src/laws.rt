@@ -8,13 +8,13 @@ ghost use Rattle.nvme_arbiter.specs.declared.settings.Class.TheVariants.{Admin, 
 ghost use Rattle.nvme_ctrl.specs.Observation.{is_held, class_set};
 ghost use Rattle.nvme_ctrl.specs.Steps.{IsNextPick};
 ghost use Rattle.nvme_ctrl.specs.Marks.{own_marks};
-ghost use Rattle.nvme_ctrl.specs.Tags.{cookie_of, marks_of};
+ghost use Rattle.nvme_ctrl.specs.Tags.{cookie_of, marks_of, all_fetches};
 ghost use Rattle.nvme_ctrl.specs.Own.{is_own, no_own, with_opcode, with_feature};
 ghost use Rattle.nvme_ctrl.specs.Making.{is_named};
 ghost use Rattle.nvme_ctrl.specs.Account.{IsLawful, IsAccount};
-ghost use Rattle.nvme_ctrl.specs.Examples.{identify, identify_fetched, identify_picked, identify_passed, identify_taken, identify_answered, identified, get_feature, set_feature, told, three_of_four, four_fetched, first_picked, first_answered, first_posted, third_answered, two_passes, succeeded, out_of_range, without_region, with_late_region, creates_fetched, create_picked, create_refused, reads_submitted, reads_waiting, read_picked, read_taken, delete_begun, aborts_posted, read_answered, reads_posted, deletion_noted, unmarked, not_retried, more_told, abort_of_read, abort_waiting, abort_picked, abort_passed, abort_taken, aborted_read, read_aborted, abort_answered, abort_done, held_and_deleted, classed_and_picked, weighted_rules, two_waiting, pick_of, two_deletions, two_closing, third_served, second_gone, both_gone};
-ghost use Rattle.nvme_ctrl.specs.Generations.{TagsAreUsedUp, TagsComeAgain};
-ghost use Rattle.nvme_ctrl.specs.StepCounts.{StepsAreFew};
+ghost use Rattle.nvme_ctrl.specs.Examples.{taken_thrice, identify, identify_fetched, identify_picked, identify_passed, identify_taken, identify_answered, identified, get_feature, set_feature, told, three_of_four, four_fetched, first_picked, first_answered, first_posted, third_answered, two_passes, succeeded, out_of_range, without_region, with_late_region, creates_fetched, create_picked, create_refused, reads_submitted, reads_waiting, read_picked, read_taken, delete_begun, aborts_posted, read_answered, reads_posted, deletion_noted, unmarked, not_retried, more_told, abort_of_read, abort_waiting, abort_picked, abort_passed, abort_taken, aborted_read, read_aborted, abort_answered, abort_done, held_and_deleted, classed_and_picked, weighted_rules, two_waiting, pick_of, two_deletions, two_closing, third_served, second_gone, both_gone};
+ghost use Rattle.nvme_ctrl.specs.Generations.{TagsAreUsedUp, TagsComeAgain, tag_at, tag_of, number_of, slot_of};
+ghost use Rattle.nvme_ctrl.specs.StepCounts.{StepsAreFew, steps};
 ghost use Rattle.nvme_ctrl.specs.Depths.{DepthsSuffice, DepthsLeaveRoom, HeldWaitOrAreUnposted};
 ghost use Rattle.nvme_ctrl.specs.Progress.{IsWithDevice, NoneWaitDeleted, ServedAwait, UnfetchedAwait, WaitingAwait, WaitsForHost, WaitsForQueue};
 ghost use Rattle.nvme_ctrl.specs.Laws.{ControllersKeepAccounts, RegionsLeaveAccounts, EventsAreAccounted, SlotsAreFetchedInOrder, CompletionsFollowAnswers, OneCompletionEach, SlotsAreFree, CompletionsTellTheHead, DeletesAreAnsweredLast, NoneFetchedAfterDeletion, NonePickedAfterDeletion, PicksAreLawful, TagsAreApart, ObservedAsInTheLog, SeenOneByOne, HeldQueuesWait, HeldQueuesWaitUntilTold, FewHoldSlots};
@@ -346,4 +346,22 @@ pub fn tags_are_used_up()
 /// something. (profile)
 pub fn steps_are_few()
     ensures { StepsAreFew }
+{}
+
+/// Worked: a log of six commands, of which one is a Delete, and one goes to the device, has 18 notes of calls that do
+/// something. A note of the device's marks is one, too.
+pub fn worked_steps()
+    ensures all { steps deletion_noted ≡ 18 }
+    ensures answered { steps (Marked 1 0 not_retried ∷ read_answered) ≡ 16 }
+    ensures fetched { all_fetches (logged deletion_noted) ≡ 6 }
+{}
+
+/// Worked: the tag of slot 7 in generation 3, and one of a slot whose command was taken three times.
+pub fn worked_tags()
+    ensures number { tag_of 0x00030007 ≡ record { slot = 7; generation = 3 } }
+    ensures back { number_of (record { slot = 7; generation = 3 }) ≡ 0x00030007 }
+    ensures told { tag_at taken_thrice 0 ≡ record { slot = 0; generation = 3 } }
+    ensures current { slot_of taken_thrice (record { slot = 0; generation = 3 }) ≡ Some 0 }
+    ensures used_up { slot_of taken_thrice (record { slot = 0; generation = 2 }) ≡ None }
+    ensures later { slot_of taken_thrice (record { slot = 0; generation = 4 }) ≡ None }
 {}
