@@ -29,7 +29,7 @@ status_fields_of s = record { sct = s.sct; sc = s.sc }
 abbrev pub plain_answer : ℕ → AnswerFields
 plain_answer verdict = record { verdict = verdict; dw0 = 0; cdw11 = 0; qid = 0; region = 0; cqid = 0; priority = 0; status = status_fields_of success; cid = 0 }
 
--- what a verdict says, with 0 for what verdicts of its kind don't have. Command Dword 0 of an Abort is the caller's, and 0 here
+-- what a verdict says, with 0 for what verdicts of its kind don't have. Dword 0 of an Abort is the caller's, and 0 here
 abbrev pub answer_of : Verdict → AnswerFields
 answer_of (Done status dw0) = record (plain_answer 0) { status = status_fields_of status; dw0 = dw0 }
 answer_of (OpenSq qid region cqid class) = record (plain_answer 1) { qid = qid; region = region; cqid = cqid; priority = number_of_class class }

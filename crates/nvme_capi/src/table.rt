@@ -154,7 +154,7 @@ pub extern "C" fn nvmearb_table_add_cq_region(
     }
 }
 
-/// Applies the admin entry in 64 bytes, and writes its verdict, its status and its Command Dword 0. A command whose
+/// Applies the admin entry in 64 bytes, and writes its verdict, its status and its Dword 0. A command whose
 /// status isn't success leaves the table as it was.
 #[unsafe(no_mangle)]
 pub extern "C" fn nvmearb_table_apply(

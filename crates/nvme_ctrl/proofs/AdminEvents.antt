@@ -160,7 +160,7 @@ module _ (rules : FrontRules) (past mid : Past) (candidate : Candidate) (v : Ver
   own_status-answered : (answer : Answer) → own_status_by rules answer after 0 candidate.index candidate.entry ≡ status_in v
   own_status-answered answer = rw (unaborted, effects_leave_table rules candidate.index (made_by past v) mid (made_are_effects past v)) p.status
 
-  -- so is its Command Dword 0, but for an Abort, of which it tells whether it aborted a command
+  -- so is its Dword 0, but for an Abort, of which it tells whether it aborted a command
   own_dw0-answered : (answer : Answer) → own_dw0_by rules answer after 0 candidate.index candidate.entry ≡ told_dw0 (has_aborted after candidate.index) v (dw0_in v)
   own_dw0-answered answer =
       rw (unaborted, effects_leave_table rules candidate.index (made_by past v) mid (made_are_effects past v))

@@ -103,7 +103,7 @@ with_deleting k qid region c candidate =
       deletion = put_deletion k.deletion region (Some (record { place = place_at 0 candidate.index; cid = candidate.entry.cid; qid = qid; region = region }));
     }
 
--- the answer of an Abort command: Command Dword 0 is 0 where it aborted a candidate, and 1 otherwise
+-- the answer of an Abort command: Dword 0 is 0 where it aborted a candidate, and 1 otherwise
 abbrev pub told_abort : Candidate → ℕ → Ready
 told_abort candidate dw0 = told candidate success dw0
 

@@ -41,7 +41,7 @@ module _ (rules : FrontRules) (kind : Kind) (a n : ℕ) (some_sqs : 0 < length (
         status-further rules.start kind a n (table_before rules past i) (table_before (with_region kind a n rules) past i) entry (entry-other (eqb-true r 0 is))
         (before-further rules kind a n some_sqs some_cqs past i passed)
 
-  -- and Command Dword 0
+  -- and Dword 0
   pub dw0-stays : (answer : Answer) → own_dw0_by (with_region kind a n rules) answer past r i entry ≡ own_dw0_by rules answer past r i entry
   dw0-stays answer = by (is_aborted past r i) (r == 0) refl where
     by : (b z : Bool) → (r == 0) ≡ z

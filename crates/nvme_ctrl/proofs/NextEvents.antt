@@ -140,7 +140,7 @@ posts-as-ready rules past k c t rest cqe s can carried =
       phase = can.phase ∙ (λ j. phase_after (posts j) ((sym (s.tabled.cq_slots c)) j));
     }
 
--- a completion is the own one of its place but for its status and Command Dword 0
+-- a completion is the own one of its place but for its status and Dword 0
 pub record IsOwnElse (rules : FrontRules) (answer : Sqe → Answer) (past : Past) (c r i : ℕ) (cqe : Cqe) : Type 0 where
   pub status : StatusCode
   pub dw0 : ℕ

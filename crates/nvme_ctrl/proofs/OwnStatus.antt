@@ -59,7 +59,7 @@ own_status-stays rules answer past later r i entry h =
     (ap (λ (b : Bool). if b then abort_requested else aborted_by_deletion) h.requested)
     (λ zero. ap (λ (t : TableHistory). status_of rules.start t entry) (h.table (eqb-true r 0 zero)))
 
--- so is its Command Dword 0
+-- so is its Dword 0
 pub own_dw0-stays : (rules : FrontRules) (answer : Answer) (past later : Past) (r i : ℕ) (entry : Sqe) → Stays rules past later r i
     → own_dw0_by rules answer later r i entry ≡ own_dw0_by rules answer past r i entry
 own_dw0-stays rules answer past later r i entry h =
@@ -250,7 +250,7 @@ set-answers : (b : Bool) (numbers dw0 : ℕ) (settings : ArbitrationFields) → 
 set-answers true numbers dw0 settings e = (refl, e)
 set-answers false numbers dw0 settings e = (refl, refl)
 
--- an accepted command is answered with success and its Command Dword 0
+-- an accepted command is answered with success and its Dword 0
 accepted-answers : (t : QueueTable) (command : AdminCommand)
     → (status_in (verdict_after t command) ≡ success) × (dw0_in (verdict_after t command) ≡ dw0_after t command)
 accepted-answers t (CreateSq qid qsize prp1 cqid qprio pc) = opened_sq-answers qid (t.sq qid)
@@ -262,7 +262,7 @@ accepted-answers t (SetFeatures fid sv cdw11) = set-answers (fid == number_of_qu
 accepted-answers t (GetFeatures fid) = (refl, refl)
 accepted-answers t Other = (refl, refl)
 
--- a command of a status is answered with that status, and its Command Dword 0
+-- a command of a status is answered with that status, and its Dword 0
 status-answers : (b : Bool) (status : StatusCode) (t : QueueTable) (command : AdminCommand) → (b ≡ true → status ≡ success)
     → (status_in (if b then verdict_after t command else Done status 0) ≡ status)
     × (dw0_in (if b then verdict_after t command else Done status 0) ≡ (if b then dw0_after t command else 0))
@@ -275,7 +275,7 @@ unfolding verdict_of
 verdict_answers_status start h entry =
     (status-answers (is_success (status_of start h entry)) (status_of start h entry) (queue_table start (EntryApplied entry ∷ h)) (admin_command_of entry) (success_is (status_of start h entry))).0
 
--- and its Command Dword 0
+-- and its Dword 0
 pub verdict_answers_dw0 : (start : Start) (h : TableHistory) (entry : Sqe) → dw0_in (verdict_of start h entry) ≡ dw0_of start h entry
 unfolding verdict_of dw0_of
 verdict_answers_dw0 start h entry =

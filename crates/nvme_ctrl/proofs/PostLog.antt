@@ -86,7 +86,7 @@ swapped a b r i h = elim (cases_eq r a) [
   false_right false = refl
 
 -- ---- an executor that answers as the ready completion
--- the status and Command Dword 0 of an aborted place don't depend on the answer
+-- the status and Dword 0 of an aborted place don't depend on the answer
 own_by-answer : (rules : FrontRules) (past : Past) (x r i : ℕ) (cqe : Cqe) (one other : Sqe → Answer) → ((is_aborted past r i ≡ true) ⊎ ((e : Sqe) → one e ≡ other e))
     → IsOwnBy rules one past x r i cqe → IsOwnBy rules other past x r i cqe
 own_by-answer rules past x r i cqe one other same h = record {

@@ -258,7 +258,7 @@ module _ (rules : FrontRules) (late : Bool) (past : Past) (k : Content) (seen : 
   answer later after status dw0 same a regions =
       answers-ready past later k after candidate rest status dw0 s.ready s.regions apply.oldest (some_cqs past k (hand_of k) s.ready s.queues) same a regions
 
-  -- with the status and the Command Dword 0 of a verdict
+  -- with the status and the Dword 0 of a verdict
   answer_by : (later : Past) (after : Content) (v : Verdict) → SamePlaces past later → Answers k after (answered candidate v) → ReadyOnes rules late later after
   answer_by later after v same a regions = answer later after (status_in v) (dw0_in v) same a regions
 

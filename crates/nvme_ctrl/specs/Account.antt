@@ -51,7 +51,7 @@ abbrev pub PostsWhatIsThrough : Notes → Event → Type 0
 PostsWhatIsThrough notes (Post c r i cqe) = is_through notes r i ≡ true
 PostsWhatIsThrough notes e = Unit {0}
 
--- a completion is the own one of its place. An admin command that was passed on has the status and Command Dword 0 of the device's answer, and all else
+-- a completion is the own one of its place. An admin command that was passed on has the status and Dword 0 of the device's answer, and all else
 -- is as it would be without (Completion Queue Entry)
 pub record PostsAnswer (rules : FrontRules) (notes : Notes) (c i : ℕ) (cqe : Cqe) : Type 0 where
   pub answer : Answer

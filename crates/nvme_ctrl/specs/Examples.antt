@@ -379,12 +379,12 @@ abbrev pub read_aborted : Notes
 read_aborted =
     Answered 1 0 aborted_read ∷ abort_taken
 
--- and answers the Abort: bit 0 of Command Dword 0 is clear, for a command that was aborted (Abort)
+-- and answers the Abort: bit 0 of Dword 0 is clear, for a command that was aborted (Abort)
 abbrev pub abort_answered : Notes
 abort_answered =
     Answered 0 2 succeeded ∷ read_aborted
 
--- the completion of the Abort, with Command Dword 0
+-- the completion of the Abort, with Dword 0
 abbrev pub abort_done : ℕ → Cqe
 abort_done dw0 = record (done 0 2 success) { dw0 = dw0 }
 

@@ -8,7 +8,7 @@ use nvme_entry::Status;
 #[derive(Clone, Copy, Debug, PartialEq, Eq)]
 pub struct Answer {
     pub status: Status,
-    /// Command Dword 0 of the completion.
+    /// Dword 0 of the completion.
     pub dw0: u32,
     /// The marks of the completion.
     pub marks: Marks,

@@ -277,7 +277,7 @@ pub fn device_commands_are_passed_on()
 {}
 
 /// An Abort of a command that the device has is passed on to it. The device ends that command, and answers the Abort, which
-/// is posted with its Command Dword 0. An Abort of a command that waits isn't passed on. (Abort)
+/// is posted with its Dword 0. An Abort of a command that waits isn't passed on. (Abort)
 pub fn aborts_are_passed_on()
     ensures passed { IsLawful one_deletion (abort_picked 0) (Passed 2) }
     ensures taken { IsLawful one_deletion abort_passed (Taken 8 0 2) }

@@ -129,7 +129,7 @@ impl Controller {
     /// From now on the admin commands of an opcode are the device's: they are picked in their turn, and the device takes
     /// and answers them as it does commands of I/O queues, at any later time. A fused one isn't, and an opcode of the
     /// controller's own stays the controller's, but for Abort (08h): of those the device's are all that name no command
-    /// that waits. It finds the tag of a command by `named`, and answers with bit 0 of Command Dword 0 clear where it
+    /// that waits. It finds the tag of a command by `named`, and answers with bit 0 of Dword 0 clear where it
     /// aborted the command, or with Abort Command Limit Exceeded (1/03). The device checks PSDT itself. (Base
     /// Specification, Opcodes for Admin Commands, Abort)
     pub fn own_opcode(&mut self, opcode: u8)

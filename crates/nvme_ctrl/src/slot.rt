@@ -28,7 +28,7 @@ pub struct Slot {
     pub entry: Sqe,
     /// What the caller keeps with the command.
     pub cookie: u32,
-    /// Command Dword 0 of its completion, where it ended.
+    /// Dword 0 of its completion, where it ended.
     pub dw0: u32,
     /// The slot after it in its chain.
     pub next: u16,

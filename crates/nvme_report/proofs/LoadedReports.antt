@@ -35,7 +35,7 @@ use Rattle.nvme_report.specs.Laws.{script_at, IsLoadedRun, ReportsAreOne}
 use Rattle.nvme_report.proofs.Completions.{completion_is, completions_are_posts, one_line}
 
 -- ---- the lines of commands
--- the line of a place with a status and a Command Dword 0
+-- the line of a place with a status and a Dword 0
 abbrev told_line : ℕ → ℕ → StatusCode → ℕ → List ℕ
 told_line r i status dw0 =
     line (codes "cmd " ∷ decimal r ∷ codes "." ∷ decimal i ∷ codes " " ∷ decimal status.sct ∷ codes "/" ∷ hex_byte status.sc
