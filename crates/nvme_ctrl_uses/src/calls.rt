@@ -86,6 +86,42 @@ fn read(cid: u16) -> Sqe {
     entry(0x02, cid, 0, 0, 0)
 }
 
+// The calls that write slots. Each leaves a controller a controller.
+fn pick(ctrl: &mut Controller, slots: &mut [Slot], room: u16) -> Step
+    requires { IsController ctrl.old slots.old }
+    ensures { IsController ctrl.new slots.new }
+{
+    ctrl.pick(slots, room)
+}
+
+fn take(ctrl: &mut Controller, slots: &mut [Slot]) -> Option<u16>
+    requires { IsController ctrl.old slots.old }
+    ensures { IsController ctrl.new slots.new }
+{
+    ctrl.take(slots)
+}
+
+fn complete(ctrl: &mut Controller, slots: &mut [Slot], tag: u16, answer: Answer) -> bool
+    requires { IsController ctrl.old slots.old }
+    ensures { IsController ctrl.new slots.new }
+{
+    ctrl.complete(slots, tag, answer)
+}
+
+fn post_next(ctrl: &mut Controller, slots: &mut [Slot], cqid: u16) -> Option<Post>
+    requires { IsController ctrl.old slots.old }
+    ensures { IsController ctrl.new slots.new }
+{
+    ctrl.post(slots, cqid)
+}
+
+fn finish(ctrl: &mut Controller, slots: &mut [Slot]) -> Option<u16>
+    requires { IsController ctrl.old slots.old }
+    ensures { IsController ctrl.new slots.new }
+{
+    ctrl.finish(slots)
+}
+
 // The next entry of a queue is read, from the slot that the controller tells. What is kept with it is its command
 // identifier.
 fn fetch(
@@ -185,7 +221,7 @@ fn prepared(
     step(rt, &mut ctrl, slots, true);
     post(rt, &mut ctrl, slots, 0, (0, 2, 10, true), Status::SUCCESS);
     post(rt, &mut ctrl, slots, 0, (1, 2, 11, true), Status::SUCCESS);
-    assert_eq!(rt; ctrl.post(slots, 0), None);
+    assert_eq!(rt; post_next(ctrl, slots, 0), None);
     head(rt, &mut ctrl, slots, 0, 3, false);
     head(rt, &mut ctrl, slots, 0, 2, true);
     Ok(ctrl)
@@ -196,11 +232,11 @@ fn serve_one(rt: &impl Abort, ctrl: &mut Controller, slots: &mut [Slot])
     requires { IsController ctrl.old slots.old }
     ensures { IsController ctrl.new slots.new }
 {
-    let Some(tag) = ctrl.take(slots) else {
+    let Some(tag) = take(ctrl, slots) else {
         assert!(rt; false, "nothing is picked");
         return;
     };
-    assert!(rt; ctrl.complete(slots, tag, DONE));
+    assert!(rt; complete(ctrl, slots, tag, DONE));
 }
 
 // A step of arbitration.
@@ -208,7 +244,7 @@ fn step(rt: &impl Abort, ctrl: &mut Controller, slots: &mut [Slot], carries_out:
     requires { IsController ctrl.old slots.old }
     ensures { IsController ctrl.new slots.new }
 {
-    let step = ctrl.pick(slots, ROOM);
+    let step = pick(ctrl, slots, ROOM);
     assert_eq!(rt; matches!(step, Step::Done(..)), carries_out);
     assert!(rt; carries_out || matches!(step, Step::Picked(_)));
 }
@@ -226,7 +262,7 @@ fn post_marked(
     requires { IsController ctrl.old slots.old }
     ensures { IsController ctrl.new slots.new }
 {
-    posted(rt, ctrl.post(slots, cqid), want, status, marks);
+    posted(rt, post_next(ctrl, slots, cqid), want, status, marks);
 }
 
 // So is one with neither mark.
@@ -288,14 +324,14 @@ fn take_three(rt: &impl Abort, ctrl: &mut Controller, slots: &mut [Slot]) -> Opt
     requires { IsController ctrl.old slots.old }
     ensures { IsController ctrl.new slots.new }
 {
-    assert_eq!(rt; ctrl.pick(slots, 0), Step::NoRoom);
-    let step = ctrl.pick(slots, ROOM);
+    assert_eq!(rt; pick(ctrl, slots, 0), Step::NoRoom);
+    let step = pick(ctrl, slots, ROOM);
     assert!(rt; matches!(step, Step::Picked(Pick { qid: 1, n: 3, .. })));
-    assert_eq!(rt; ctrl.pick(slots, ROOM), Step::Busy);
-    let first = ctrl.take(slots)?;
-    let second = ctrl.take(slots)?;
-    let third = ctrl.take(slots)?;
-    assert_eq!(rt; ctrl.take(slots), None);
+    assert_eq!(rt; pick(ctrl, slots, ROOM), Step::Busy);
+    let first = take(ctrl, slots)?;
+    let second = take(ctrl, slots)?;
+    let third = take(ctrl, slots)?;
+    assert_eq!(rt; take(ctrl, slots), None);
     Some([first, second, third])
 }
 
@@ -308,22 +344,22 @@ fn device_answers_in_any_order(rt: HostRuntime) -> Result<(), Fail> {
         return Err(Fail::from(AllocError));
     };
     let [first, second, third] = tags;
-    assert!(rt; ctrl.complete(&mut slots, third, DONE));
+    assert!(rt; complete(&mut ctrl, &mut slots, third, DONE));
     // (and once)
-    assert!(rt; !ctrl.complete(&mut slots, third, DONE));
-    assert!(rt; ctrl.complete(&mut slots, first, DONE));
+    assert!(rt; !complete(&mut ctrl, &mut slots, third, DONE));
+    assert!(rt; complete(&mut ctrl, &mut slots, first, DONE));
     let after = (0, 3, 22, true);
     post(&rt, &mut ctrl, &mut slots, 1, after, Status::SUCCESS);
     let after = (1, 3, 20, true);
     post(&rt, &mut ctrl, &mut slots, 1, after, Status::SUCCESS);
-    assert_eq!(rt; ctrl.post(&mut slots, 1), None);
+    assert_eq!(rt; post_next(&mut ctrl, &mut slots, 1), None);
     let status = Status::LBA_OUT_OF_RANGE;
     let answer = Answer {
         status,
         dw0: 9,
         marks: BOTH,
     };
-    assert!(rt; ctrl.complete(&mut slots, second, answer));
+    assert!(rt; complete(&mut ctrl, &mut slots, second, answer));
     let last = (2, 3, 21, true);
     post_marked(&rt, &mut ctrl, &mut slots, 1, last, status, BOTH);
     Ok(())
@@ -368,7 +404,7 @@ fn abort_taken(rt: &impl Abort, ctrl: &mut Controller, slots: &mut [Slot])
     let abort = entry(0x08, 12, 0, 20 << 16 | 1, 0);
     tail(rt, ctrl, slots, 0, 3, true);
     fetch(rt, ctrl, slots, 0, 2, &abort);
-    assert!(rt; matches!(ctrl.pick(slots, ROOM), Step::Passed(_)));
+    assert!(rt; matches!(pick(ctrl, slots, ROOM), Step::Passed(_)));
     // (of the admin queue it has no command 20)
     assert_eq!(rt; ctrl.named(slots, 0, 20), None);
     let Some(tag) = ctrl.named(slots, 1, 20) else {
@@ -380,7 +416,7 @@ fn abort_taken(rt: &impl Abort, ctrl: &mut Controller, slots: &mut [Slot])
         dw0: 0,
         marks: Marks::NONE,
     };
-    assert!(rt; ctrl.complete(slots, tag, answer));
+    assert!(rt; complete(ctrl, slots, tag, answer));
     assert_eq!(rt; ctrl.named(slots, 1, 20), None);
     serve_one(rt, ctrl, slots);
 }
@@ -411,10 +447,10 @@ fn begin_delete(rt: &impl Abort, ctrl: &mut Controller, slots: &mut [Slot])
     tail(rt, ctrl, slots, 0, 4, true);
     fetch(rt, ctrl, slots, 0, 3, &delete);
     step(rt, ctrl, slots, true);
-    assert_eq!(rt; ctrl.pick(slots, ROOM), Step::Idle);
+    assert_eq!(rt; pick(ctrl, slots, ROOM), Step::Idle);
     tail(rt, ctrl, slots, 1, 0, false);
     assert_eq!(rt; (ctrl.fetch(0), ctrl.fetch(1)), (None, None));
-    assert_eq!(rt; ctrl.finish(slots), None);
+    assert_eq!(rt; finish(ctrl, slots), None);
 }
 
 #[test]
@@ -426,13 +462,13 @@ fn abort_and_deletion_end_what_waits(rt: HostRuntime) -> Result<(), Fail> {
     begin_delete(&rt, &mut ctrl, &mut slots);
     let ended = Status::ABORTED_BY_DELETION;
     post(&rt, &mut ctrl, &mut slots, 1, (1, 3, 40, true), ended);
-    assert_eq!(rt; ctrl.finish(&mut slots), None);
+    assert_eq!(rt; finish(&mut ctrl, &mut slots), None);
     post(&rt, &mut ctrl, &mut slots, 1, (2, 3, 42, true), ended);
-    assert_eq!(rt; ctrl.post(&mut slots, 0), None);
-    assert_eq!(rt; ctrl.finish(&mut slots), Some(1));
+    assert_eq!(rt; post_next(&mut ctrl, &mut slots, 0), None);
+    assert_eq!(rt; finish(&mut ctrl, &mut slots), Some(1));
     let last = (3, 4, 13, true);
     post(&rt, &mut ctrl, &mut slots, 0, last, Status::SUCCESS);
-    assert_eq!(rt; ctrl.pick(&mut slots, ROOM), Step::Idle);
+    assert_eq!(rt; pick(&mut ctrl, &mut slots, ROOM), Step::Idle);
     Ok(())
 }
 
@@ -460,7 +496,7 @@ fn delete_both(rt: &impl Abort, ctrl: &mut Controller, slots: &mut [Slot])
     step(rt, ctrl, slots, true);
     post(rt, ctrl, slots, 0, (2, 6, 12, true), Status::SUCCESS);
     post(rt, ctrl, slots, 0, (3, 6, 15, true), Status::SUCCESS);
-    assert_eq!(rt; ctrl.post(slots, 0), None);
+    assert_eq!(rt; post_next(ctrl, slots, 0), None);
 }
 
 // The device has a command of queue 1, so the deletion of queue 2 ends first.
@@ -472,22 +508,22 @@ fn deletions_are_apart(rt: HostRuntime) -> Result<(), Fail> {
     tail(&rt, &mut ctrl, &slots, 1, 1, true);
     fetch(&rt, &mut ctrl, &mut slots, 1, 0, &read(40));
     step(&rt, &mut ctrl, &mut slots, false);
-    let Some(tag) = ctrl.take(&mut slots) else {
+    let Some(tag) = take(&mut ctrl, &mut slots) else {
         return Err(Fail::from(AllocError));
     };
     delete_both(&rt, &mut ctrl, &mut slots);
-    assert_eq!(rt; ctrl.finish(&mut slots), Some(2));
-    assert_eq!(rt; ctrl.finish(&mut slots), None);
+    assert_eq!(rt; finish(&mut ctrl, &mut slots), Some(2));
+    assert_eq!(rt; finish(&mut ctrl, &mut slots), None);
     let last = (4, 6, 14, true);
     post(&rt, &mut ctrl, &mut slots, 0, last, Status::SUCCESS);
-    assert!(rt; ctrl.complete(&mut slots, tag, DONE));
-    assert_eq!(rt; ctrl.finish(&mut slots), None);
+    assert!(rt; complete(&mut ctrl, &mut slots, tag, DONE));
+    assert_eq!(rt; finish(&mut ctrl, &mut slots), None);
     let last = (0, 1, 40, true);
     post(&rt, &mut ctrl, &mut slots, 1, last, Status::SUCCESS);
-    assert_eq!(rt; ctrl.finish(&mut slots), Some(1));
+    assert_eq!(rt; finish(&mut ctrl, &mut slots), Some(1));
     let last = (5, 6, 13, true);
     post(&rt, &mut ctrl, &mut slots, 0, last, Status::SUCCESS);
-    assert_eq!(rt; ctrl.pick(&mut slots, ROOM), Step::Idle);
+    assert_eq!(rt; pick(&mut ctrl, &mut slots, ROOM), Step::Idle);
     Ok(())
 }
 
@@ -529,7 +565,7 @@ fn reset_leaves_nothing(rt: HostRuntime) -> Result<(), Fail> {
     )?;
     assert_eq!(rt; (ctrl.waiting(1), ctrl.sq_region(1)), (0, None));
     tail(&rt, &mut ctrl, &slots, 1, 1, false);
-    assert_eq!(rt; ctrl.pick(&mut slots, ROOM), Step::Idle);
+    assert_eq!(rt; pick(&mut ctrl, &mut slots, ROOM), Step::Idle);
     // (the admin queue begins at its first slot again, and the phase tag at 1)
     tail(&rt, &mut ctrl, &slots, 0, 1, true);
     fetch(&rt, &mut ctrl, &mut slots, 0, 0, &create_cq(50));
@@ -575,7 +611,7 @@ fn create_again(rt: &impl Abort, ctrl: &mut Controller, slots: &mut [Slot])
     step(rt, ctrl, slots, true);
     fetch(rt, ctrl, slots, 0, 2, &entry(0x00, 12, 0, 1, 0));
     step(rt, ctrl, slots, true);
-    assert_eq!(rt; ctrl.finish(slots), Some(1));
+    assert_eq!(rt; finish(ctrl, slots), Some(1));
     let again = entry(0x01, 13, SQ, 0x0001_0001, 0x0001_0001);
     fetch(rt, ctrl, slots, 0, 3, &again);
     step(rt, ctrl, slots, true);
