@@ -112,7 +112,7 @@ static void limits(void)
 /* A command goes through queue 1, whose rings have `size` slots and are new. */
 static int serves(uint16_t size, uint16_t cid)
 {
-    uint16_t tag;
+    uint32_t tag;
     return nvmearb_ctrl_sq_tail(&ctrl, 1, 1) == NVMEARB_OK && read_fetched(0, cid) && picked(1) && taken(cid, &tag) &&
            completes(tag, success, 0, NVMEARB_OK) && posted(1, 0, 1, cid, 1, success, 0) &&
            nvmearb_ctrl_sq_tail(&ctrl, 1, size) == NVMEARB_EARG;

@@ -154,7 +154,7 @@ static unsigned fetch_all(uint16_t qid)
 /* All that waits is picked, with no limit, before any command ends. Then the device ends them all. Returns how many. */
 static unsigned serve_all(void)
 {
-    static uint16_t tags[ALL];
+    static uint32_t tags[ALL];
     nvmearb_step step;
     nvmearb_command command;
     unsigned n = 0;
