@@ -4,6 +4,7 @@
 
 enum { PAGE = 0x1000, ROUNDS = 400, AT_SQ = 0x20000, AT_CQ = 0x30000 };
 
+static nvmearb_slot many[NVMEARB_MAX_SLOTS + 1];
 static const nvmearb_placement placement = {PAGE, 7, 2};
 static const nvmearb_status bad_size = {NVMEARB_SCT_COMMAND_SPECIFIC, NVMEARB_SC_INVALID_QUEUE_SIZE};
 static const nvmearb_status bad_vector = {NVMEARB_SCT_COMMAND_SPECIFIC, NVMEARB_SC_INVALID_INTERRUPT_VECTOR};

@@ -16,7 +16,7 @@
 enum { IDENTIFY = 0x06, EVENT_REQUEST = 0x0c, EVENTS = 0x0b };
 
 static nvmearb_ctrl ctrl;
-static nvmearb_slot slots[SLOTS], many[NVMEARB_MAX_SLOTS + 1];
+static nvmearb_slot slots[SLOTS];
 static const nvmearb_status success = {NVMEARB_SCT_GENERIC, NVMEARB_SC_SUCCESS};
 
 /* Admin queues of 8 slots, at most 4 I/O queues of a kind, no limit on the burst, depths of all slots. */

@@ -4,6 +4,8 @@
 
 enum { READS = 256, RING = READS + 1, POOL = 3 * READS };
 
+static nvmearb_slot many[NVMEARB_MAX_SLOTS + 1];
+
 /* What a pick is asked for and does. */
 static uint32_t picks(uint16_t room, nvmearb_step *step)
 {

@@ -1,22 +1,9 @@
 /* What nvmearb_ctrl_verify finds: one number out of range, for each kind, and any bytes. */
 #include "ctrl.h"
+#include "places.h"
 #include "tell.h"
 
-/* Where numbers lie in a controller and in a slot. Each queue has a ring of slots, head and tail, and a chain of first,
- * last and length, each of 2 bytes. */
-enum {
-    PLACING = 16, /* where queues may lie */
-    BOARD = 16 + sizeof(nvmearb_table) - 8 + PLACING,
-    SQS = BOARD + sizeof(nvmearb_board) - 8,
-    SQ_SIZE = 18,
-    CQS = SQS + NVMEARB_MAX_REGIONS * SQ_SIZE,
-    CQ_SIZE = 14,
-    FREE_SLOTS = CQS + NVMEARB_MAX_REGIONS * CQ_SIZE
-};
-enum { HEAD = 2, TAIL = 4, FIRST = 6, LAST = 8, LENGTH = 10, CQID = 14 };
-enum { DEPTHS = FREE_SLOTS + 6, OUTSTANDING = DEPTHS + 2 * NVMEARB_MAX_QUEUES, PICKED_COUNT = OUTSTANDING + 2 };
-enum { DELETION = PICKED_COUNT + 4, DELETION_SIZE = 4 };
-enum { NEXT = 72, STATUS_TYPE = 76, SQID = 78, USED = 79 };
+static nvmearb_slot many[SLOTS];
 
 /* The controller and its slots pass, and don't with another number in `bytes` of these. */
 static int finds(void *at, unsigned where, unsigned value, unsigned bytes)
@@ -64,7 +51,7 @@ static void overwritten(void)
     CHECK(finds(&slots[number_at(SQS + SQ_SIZE + FIRST)], SQID, 65, 1) && finds(&slots[slot], SQID, 65, 1));
     CHECK(finds(&slots[number_at(CQS + FIRST)], STATUS_TYPE, 8, 1));
     CHECK(finds(&ctrl, OUTSTANDING, 257, 2) && finds(&ctrl, PICKED_COUNT, 3, 2));
-    CHECK(finds(&ctrl, SQS - 40, 3, 2) && finds(&ctrl, SQS - 40 + 10, 2, 2)); /* the mechanism, and the last served */
+    CHECK(finds(&ctrl, ARBITER, 3, 2) && finds(&ctrl, ARBITER + 10, 2, 2)); /* the mechanism, and the last served */
     CHECK(finds(&ctrl, 0, 1, 1) && finds(&ctrl, 1, 0, 1) && finds(&ctrl, DELETION, 1, 1)); /* the mark, a deletion */
     CHECK(nvmearb_ctrl_verify(&ctrl, slots, SLOTS - 1) == NVMEARB_ESTATE);
     CHECK(nvmearb_ctrl_verify(&ctrl, many, SLOTS) == NVMEARB_ESTATE);
