@@ -78,7 +78,7 @@ static struct account {
     uint8_t opcodes[256], fids[256]; /* 1 for those that are the device's */
 } account;
 
-/* The tag under which the last command of each slot was taken, if one was. It outlasts the making of another controller. */
+/* The tag under which the last command of each slot was taken, if one was, also by a controller of before. */
 static struct last_tag {
     int is_known;
     uint32_t tag;

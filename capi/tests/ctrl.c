@@ -237,45 +237,6 @@ static void wrong_depths(void)
     CHECK(nvmearb_ctrl_set_depth(&ctrl, 64, SLOTS) == NVMEARB_OK && memcmp(&ctrl, &before, sizeof ctrl) == 0);
 }
 
-/* A read goes through an I/O queue of 4 slots, up to where its completion is to be posted. */
-static int is_executed(uint16_t qid, uint16_t n, uint16_t cid)
-{
-    nvmearb_step step;
-    uint32_t tag;
-    return nvmearb_ctrl_sq_tail(&ctrl, qid, (n + 1) % 4) == NVMEARB_OK &&
-           fetched(qid, n % 4, NVMEARB_OPC_READ, cid, 0, 0, 0) &&
-           nvmearb_ctrl_pick(&ctrl, slots, SLOTS, 1, &step) == NVMEARB_OK && step.pick.qid == qid && taken(cid, &tag) &&
-           completes(tag, success, 0, NVMEARB_OK);
-}
-
-/*
- * The host doesn't read what queue 1 posts: so its commands hold as many slots as its depth, and no more. Queue 2 and the
- * admin queue go on. There are as many slots as all depths have together.
- */
-static void a_host_that_reads_nothing(void)
-{
-    uint16_t number;
-    CHECK(is_prepared(NVMEARB_ROUND_ROBIN) && nvmearb_ctrl_set_depth(&ctrl, 0, 4) == NVMEARB_OK);
-    CHECK(nvmearb_ctrl_set_depth(&ctrl, 1, 6) == NVMEARB_OK && nvmearb_ctrl_set_depth(&ctrl, 2, 6) == NVMEARB_OK);
-    CHECK(nvmearb_ctrl_add_sq_region(&ctrl, 0x5000, 4, &number) == NVMEARB_OK);
-    CHECK(nvmearb_ctrl_add_cq_region(&ctrl, 0x6000, 4, &number) == NVMEARB_OK);
-    CHECK(nvmearb_ctrl_sq_tail(&ctrl, 0, 5) == NVMEARB_OK);
-    CHECK(fetched(0, 2, NVMEARB_OPC_CREATE_CQ, 12, 0x6000, 0x00030002, 1) && carried_out(NVMEARB_OPEN_CQ));
-    CHECK(fetched(0, 3, NVMEARB_OPC_CREATE_SQ, 13, 0x5000, 0x00030002, 0x00020001) && carried_out(NVMEARB_OPEN_SQ));
-    CHECK(posted(0, 2, 4, 12, 1, success, 0) && posted(0, 3, 4, 13, 1, success, 0));
-    for (uint16_t n = 0; n < 9; n++) { /* the ring has room for 3 completions, and 6 commands wait for it */
-        CHECK(is_executed(1, n, 40 + n));
-        CHECK(n < 3 ? posted(1, n, n + 1, 40 + n, 1, success, 0) : none_to_post(1));
-    }
-    CHECK(nvmearb_ctrl_sq_tail(&ctrl, 1, 2) == NVMEARB_OK && none_to_fetch(1));
-    for (uint16_t n = 0; n < 20; n++)
-        CHECK(is_executed(2, n, 60 + n) && posted(2, n % 4, (n + 1) % 4, 60 + n, n / 4 % 2 == 0, success, 0) &&
-              nvmearb_ctrl_cq_head(&ctrl, 2, (n + 1) % 4) == NVMEARB_OK);
-    CHECK(fetched(0, 4, NVMEARB_OPC_GET_FEATURES, 14, 0, NVMEARB_FID_ARBITRATION, 0) && carried_out(NVMEARB_DONE));
-    CHECK(none_to_fetch(1) && nvmearb_ctrl_cq_head(&ctrl, 1, 3) == NVMEARB_OK);
-    CHECK(posted(1, 3, 1, 43, 1, success, 0) && read_fetched(1, 49) && none_to_fetch(1));
-}
-
 /* Without the mark each call answers NVMEARB_ESTATE, and with another number of slots NVMEARB_EARG. */
 static void refused_states(void)
 {
@@ -615,7 +576,6 @@ int main(void)
     two_deletions();
     depths_and_slots();
     wrong_depths();
-    a_host_that_reads_nothing();
     marks();
     own_opcodes();
     own_features();

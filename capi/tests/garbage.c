@@ -18,7 +18,7 @@
 
 enum { BUSY = 64, CALLS_OF_ONE = 8, SECONDS = 20 };
 
-/* What is handed to a call. Of the two of each kind the first lies at the beginning of its pages, and the second at the end. */
+/* What is handed to a call. Of the two of each kind one lies at the beginning of its pages, and the other at their end. */
 static struct object {
     nvmearb_ctrl *ctrl;
     nvmearb_slot *slots;
@@ -111,8 +111,8 @@ static void make_busy(void)
 /* Another number of one, two or four bytes, which mostly is about a limit. */
 static void overwrite(void *object, size_t size)
 {
-    static const uint32_t limits[] = {0,   1,   2,    3,    4,    5,     6,     7,     SLOTS - 1, SLOTS, SLOTS + 1, 64, 65, 255,
-                                      256, 257, 4095, 4096, 4097, 32767, 65534, 65535, 65536,     65537};
+    static const uint32_t limits[] = {0,  1,  2,   3,   4,   5,    6,    7,    SLOTS - 1, SLOTS, SLOTS + 1, 63,
+                                      64, 65, 255, 256, 257, 4095, 4096, 4097, 32767,     65535, 65536,     65537};
     size_t width = (size_t)1 << upto(3), place = width * upto((uint32_t)(size / width));
     uint32_t number = upto(4) ? limits[upto(sizeof limits / sizeof *limits)] : (uint32_t)drawn(&seed);
     memcpy((uint8_t *)object + place, &number, width);
@@ -162,7 +162,8 @@ static int is_arbiter(const nvmearb_ctrl *it)
 static int are_same(const struct object *it)
 {
     return !memcmp(it->ctrl, before.ctrl, sizeof *it->ctrl) &&
-           !memcmp(it->slots, before.slots, SLOTS * sizeof *it->slots) && !memcmp(it->call, before.call, sizeof *it->call);
+           !memcmp(it->slots, before.slots, SLOTS * sizeof *it->slots) &&
+           !memcmp(it->call, before.call, sizeof *it->call);
 }
 
 /* Clears what a call writes but for the controller and its slots. */
@@ -224,7 +225,9 @@ static int is_well(const struct object *it, unsigned done[CALLS])
     made_calls++;
     uint32_t told = made(it->call, which);
     done[which] += told == NVMEARB_OK;
-    if ((told == NVMEARB_ESTATE) != is_refused || (is_other && !is_refused && told != NVMEARB_EARG) || told > NVMEARB_NOROOM)
+    if ((told == NVMEARB_ESTATE) != is_refused || told > NVMEARB_NOROOM)
+        return 0;
+    if (is_other && !is_refused && told != NVMEARB_EARG)
         return 0;
     return told == NVMEARB_OK ? is_well_done(it) : are_same(it);
 }
