@@ -120,7 +120,8 @@ static int is_begun(const struct nvme_backend *backend, int is_weighted, uint32_
     is_well = is_running();
     for (unsigned k = 0; k < requests; k++)
         put(0, (nvmearb_sqe){.opcode = EVENT_REQUEST});
-    is_well = is_well && answers((nvmearb_sqe){.opcode = NVMEARB_OPC_SET_FEATURES, .cdw10 = 1, .cdw11 = arbitration}, 0, 0);
+    nvmearb_sqe set = {.opcode = NVMEARB_OPC_SET_FEATURES, .cdw10 = NVMEARB_FID_ARBITRATION, .cdw11 = arbitration};
+    is_well = is_well && answers(set, 0, 0);
     create.opcode = NVMEARB_OPC_CREATE_CQ, create.prp1 = queues[1].cq;
     is_well = is_well && answers(create, 0, 0);
     create.opcode = NVMEARB_OPC_CREATE_SQ, create.prp1 = queues[1].sq, create.cdw11 = 1 << 16 | 1;
