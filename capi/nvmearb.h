@@ -12,8 +12,8 @@
  *
  *   1. nvmearb_is_of_this_header, which answers 0 for an unproved library too (NVMEARB_UNPROVED).
  *   2. When the host enables the controller (CC.EN), nvmearb_ctrl_init_anywhere with the admin queues (AQA, ASQ, ACQ).
- *      When CC.EN becomes 0, stop: make no call until it is 1 again, forget all tags, since they will be those of other
- *      commands, and begin again here. Nothing of before is left.
+ *      When CC.EN becomes 0, stop: make no call until it is 1 again, and begin again here. Nothing of before is left,
+ *      and what the device completes late under a tag from before is refused (nvmearb_command).
  *   3. nvmearb_ctrl_own_opcode and nvmearb_ctrl_own_feature for the admin commands that the device answers itself, such
  *      as Identify.
  *   4. At each doorbell write nvmearb_ctrl_sq_tail or nvmearb_ctrl_cq_head.
@@ -33,8 +33,7 @@
  *
  * What holds of all calls. Every function is proved (crates/nvme_capi), unless NVMEARB_UNPROVED says otherwise. None
  * allocates, waits, starts a thread, keeps a pointer, or reads or writes anything but what its arguments point to, and all
- * return. Every bit pattern of the arguments is answered, but for that of a controller and its slots. The caller sees to
- * this:
+ * return, whatever bytes the arguments, the states and the slots have. The caller sees to this:
  *
  *   - A pointer isn't null, is aligned for its type, and points to as many objects as its comment says, which live at
  *     least as long as the call. This holds for an array of length 0 too.
@@ -617,16 +616,15 @@ uint32_t nvmearb_table_settings(const nvmearb_table *table, nvmearb_settings *se
  */
 
 /*
- * A slot of a controller: it holds one command from its fetch until its completion is posted, and its number is the
- * command's tag. The caller keeps an array of them, whose content is the library's. Nothing is fetched while none is
- * free. At most as many commands of a submission queue hold a slot as its depth (nvmearb_ctrl_set_depth). With as many
- * slots as the depths of the queues that may be open have together, admin_depth + nsq * depth, one is free for each
- * command that may be fetched otherwise, while queues are being deleted too. With fewer, commands of one queue may keep
- * those of another from being fetched. Commands that a deletion drops hold their slots until their completions are
- * posted.
+ * A slot of a controller: it holds one command from its fetch until its completion is posted. The caller keeps an array
+ * of them, whose content is the library's. Nothing is fetched while none is free. At most as many commands of a
+ * submission queue hold a slot as its depth (nvmearb_ctrl_set_depth). With as many slots as the depths of the queues
+ * that may be open have together, admin_depth + nsq * depth, one is free for each command that may be fetched otherwise,
+ * while queues are being deleted too. With fewer, commands of one queue may keep those of another from being fetched.
+ * Commands that a deletion drops hold their slots until their completions are posted.
  */
 typedef struct nvmearb_slot {
-    uint64_t words[10];
+    uint64_t words[11];
 } nvmearb_slot;
 
 /* The most slots of a controller. */
@@ -637,13 +635,14 @@ typedef struct nvmearb_slot {
 
 /*
  * A controller. nvmearb_ctrl_init_anywhere or nvmearb_ctrl_init makes it. Its fields are the library's. It is valid if
- * `mark` is what these write; zeros aren't.
+ * `mark` is what these write; zeros aren't. What they make has a valid arbiter too, at which nvmearb_ctrl_peek and
+ * nvmearb_ctrl_pick look.
  *
  * The caller hands each call the array of slots that the controller was made with, and writes neither into it nor into
- * the controller. The calls trust what is in both: where anything else is written behind a right mark, a call may read
- * and write beyond the controller and its slots. nvmearb_ctrl_verify finds most of what was written there. The caller
- * reads no slot of a ring but the one that nvmearb_ctrl_fetch tells, and posts no completion but those of
- * nvmearb_ctrl_post. A ring has 64 or 16 bytes for each slot, from its address on.
+ * the controller. Where anything else is written there, a call still reads and writes no more than it is given, and
+ * returns, but nothing else is promised of what it answers and writes. nvmearb_ctrl_verify finds most of what was written
+ * there. The caller reads no slot of a ring but the one that nvmearb_ctrl_fetch tells, and posts no completion but those
+ * of nvmearb_ctrl_post. A ring has 64 or 16 bytes for each slot, from its address on.
  *
  * A controller and its slots are numbers without a pointer, so both together may be moved, or saved as bytes and
  * restored by a library of the same major and minor version, if what is restored takes the place of the first. The mark
@@ -713,12 +712,22 @@ typedef struct nvmearb_step {
     nvmearb_asked asked;
 } nvmearb_step;
 
-/* A command that the device has. */
+/*
+ * A command that the device has. Its tag is its name until it is completed: bits 15:0 are the index of the slot that
+ * holds it, and bits 31:16 that slot's generation, which goes up by one, modulo 65,536, each time the device takes a
+ * command of the slot. So a tag is used up once its command is completed, and comes again with the 65,536th command that
+ * is taken from its slot after it. A call with a tag that is used up answers NVMEARB_NONE and changes nothing: where the
+ * device completes a command twice, or late, after its completion was posted and another command was taken, or after
+ * another making of the controller over the same slots, which keeps their generations.
+ */
 typedef struct nvmearb_command {
     nvmearb_sqe entry;
     uint32_t cookie; /* what the caller gave nvmearb_ctrl_fetched with it, for example the number of its queue */
-    uint16_t tag;    /* its name until its completion is posted */
+    uint32_t tag;
 } nvmearb_command;
+
+/* The slot of a tag, below `count` of nvmearb_ctrl_init: for an array in which the device keeps what it has of a command. */
+#define NVMEARB_SLOT_OF(tag) ((tag) & 0xffffu)
 
 /*
  * The marks of a completion, beside its status: bits 31 and 30 of Dword 3. A host that finds Do Not Retry
@@ -737,7 +746,7 @@ typedef struct nvmearb_post {
      */
     uint8_t bytes[NVMEARB_CQE_BYTES];
     uint32_t cookie;                  /* that of its command */
-    uint16_t tag;                     /* that of its command, free from now on */
+    uint32_t tag;                     /* that of its command, if the device took it: its slot is free from now on */
     uint16_t slot;                    /* the slot of the ring */
 } nvmearb_post;
 
@@ -765,7 +774,9 @@ uint32_t nvmearb_ctrl_init_anywhere(nvmearb_ctrl *ctrl, nvmearb_slot *slots, siz
 
 /*
  * Initialises a controller with its admin queues alone, which are open, on region 0 of each kind. No command is
- * fetched, and all `count` slots are free; this takes the longer the more there are.
+ * fetched, and all `count` slots are free; this takes the longer the more there are. What lies in the slots may be
+ * anything, as zeros at first. They keep their generations, so don't clear them at a reset: then tags of before name no
+ * command after it (nvmearb_command).
  *
  * The device says beforehand where rings may lie, by nvmearb_ctrl_add_sq_region and nvmearb_ctrl_add_cq_region. A
  * Create names the address of such a region that no queue has used, and has exactly QSIZE + 1 slots. There are
@@ -882,8 +893,8 @@ uint32_t nvmearb_ctrl_fetched(nvmearb_ctrl *ctrl, nvmearb_slot *slots, size_t co
 /*
  * Writes the pick that arbitration makes next of the commands that wait now, where there is room for all of it, whether
  * or not nvmearb_ctrl_pick can make it already.
- * NVMEARB_ESTATE, NVMEARB_EARG as nvmearb_ctrl_fetched; otherwise NVMEARB_NONE if no command waits but in queues that
- * are held.
+ * NVMEARB_ESTATE if `ctrl` or its arbiter isn't valid; otherwise NVMEARB_EARG as nvmearb_ctrl_fetched; otherwise
+ * NVMEARB_NONE if no command waits but in queues that are held.
  */
 uint32_t nvmearb_ctrl_peek(const nvmearb_ctrl *ctrl, const nvmearb_slot *slots, size_t count, nvmearb_pick *pick);
 
@@ -899,7 +910,7 @@ uint32_t nvmearb_ctrl_peek(const nvmearb_ctrl *ctrl, const nvmearb_slot *slots, 
  * aborted with 0/07, features are set and told. A Delete and an Abort take the longer the more commands of their queue
  * wait.
  *
- * NVMEARB_ESTATE, NVMEARB_EARG as nvmearb_ctrl_fetched; otherwise NVMEARB_BUSY if commands are picked and not taken;
+ * NVMEARB_ESTATE, NVMEARB_EARG as nvmearb_ctrl_peek; otherwise NVMEARB_BUSY if commands are picked and not taken;
  * otherwise NVMEARB_NONE if no command waits but in queues that are held; otherwise NVMEARB_NOROOM if `room` is 0. Then
  * everything stays as it was.
  */
@@ -914,16 +925,16 @@ uint32_t nvmearb_ctrl_take(nvmearb_ctrl *ctrl, nvmearb_slot *slots, size_t count
 /*
  * The device completes a command, whose completion is ready then. `dw0` is Dword 0 of its completion.
  * NVMEARB_ESTATE, NVMEARB_EARG as nvmearb_ctrl_fetched; NVMEARB_EARG too if `status->sct` is above 7; otherwise
- * NVMEARB_NONE if the device has no command of this tag: none was taken under it, or it is completed already.
+ * NVMEARB_NONE if the device has no command of this tag: none was taken under it, or the tag is used up.
  */
-uint32_t nvmearb_ctrl_complete(nvmearb_ctrl *ctrl, nvmearb_slot *slots, size_t count, uint16_t tag,
+uint32_t nvmearb_ctrl_complete(nvmearb_ctrl *ctrl, nvmearb_slot *slots, size_t count, uint32_t tag,
                                const nvmearb_status *status, uint32_t dw0);
 
 /*
  * The device completes a command, with marks: NVMEARB_DNR, NVMEARB_MORE, both or 0. nvmearb_ctrl_complete gives none.
  * Otherwise as nvmearb_ctrl_complete; NVMEARB_EARG too if `marks` has another bit.
  */
-uint32_t nvmearb_ctrl_complete_with(nvmearb_ctrl *ctrl, nvmearb_slot *slots, size_t count, uint16_t tag,
+uint32_t nvmearb_ctrl_complete_with(nvmearb_ctrl *ctrl, nvmearb_slot *slots, size_t count, uint32_t tag,
                                     const nvmearb_status *status, uint32_t dw0, uint8_t marks);
 
 /*
@@ -949,7 +960,7 @@ uint32_t nvmearb_ctrl_finish(nvmearb_ctrl *ctrl, nvmearb_slot *slots, size_t cou
  * Writes the command of a tag once more.
  * NVMEARB_ESTATE, NVMEARB_EARG as nvmearb_ctrl_fetched; otherwise NVMEARB_NONE if the device has no command of this tag.
  */
-uint32_t nvmearb_ctrl_command(const nvmearb_ctrl *ctrl, const nvmearb_slot *slots, size_t count, uint16_t tag,
+uint32_t nvmearb_ctrl_command(const nvmearb_ctrl *ctrl, const nvmearb_slot *slots, size_t count, uint32_t tag,
                               nvmearb_command *command);
 
 /*
@@ -960,7 +971,7 @@ uint32_t nvmearb_ctrl_command(const nvmearb_ctrl *ctrl, const nvmearb_slot *slot
  * waits, say, or is completed.
  */
 uint32_t nvmearb_ctrl_named(const nvmearb_ctrl *ctrl, const nvmearb_slot *slots, size_t count, uint16_t qid,
-                            uint16_t cid, uint16_t *tag);
+                            uint16_t cid, uint32_t *tag);
 
 /*
  * Whether a submission queue is open: writes the number of its region, which is `qid` where queues may lie anywhere.
@@ -998,11 +1009,11 @@ uint32_t nvmearb_ctrl_waits(const nvmearb_ctrl *ctrl, const nvmearb_slot *slots,
 uint32_t nvmearb_ctrl_seen(const nvmearb_ctrl *ctrl, uint16_t qid, nvmearb_seen *seen);
 
 /*
- * Tests whether something was written into a controller or its slots by mistake. Unlike the calls above it trusts
- * nothing behind the mark, and reads no further than `count` slots. It looks at each head and tail, each region and tag
- * that is used as one, each count that has a limit, and each chain of slots: that it has as many as it says, in the
- * pool and used for it. So it takes as long as there are slots, and is meant for tests, and for a call that answers
- * what it shouldn't. What the library wrote passes; not each mistake is found, such as another command in a slot.
+ * Tests whether something was written into a controller or its slots by mistake. It looks at each head and tail, each
+ * number of a region or a slot that is used as one, each count that has a limit, and each chain of slots: that it has
+ * as many as it says, in the pool and used for it. So it takes as long as there are slots, and is meant for tests, for
+ * what was restored, and for a call that answers what it shouldn't. What the library wrote passes; not each mistake is
+ * found, such as another command in a slot.
  * NVMEARB_ESTATE if `ctrl` isn't valid, `count` isn't that of nvmearb_ctrl_init, or one of these numbers is out of
  * range.
  */

@@ -150,7 +150,7 @@ static nvmearb_status feature(struct nvme *d, const nvmearb_sqe *entry, uint32_t
 
 /* ---- Asynchronous events ---- */
 
-static void hold(struct nvme *d, uint16_t tag)
+static void hold(struct nvme *d, uint32_t tag)
 {
     if (d->state.held_count == sizeof d->state.held / sizeof d->state.held[0])
         nvme_complete(d, tag, specific(EVENT_LIMIT_EXCEEDED), 0);
@@ -208,7 +208,8 @@ void nvme_resize(struct nvme *d, uint32_t nsid, uint64_t blocks)
 static uint32_t abort_command(struct nvme *d, const nvmearb_sqe *entry)
 {
     nvmearb_status requested = {NVMEARB_SCT_GENERIC, NVMEARB_SC_ABORT_REQUESTED};
-    uint16_t sqid = entry->cdw10 & 0xffff, cid = entry->cdw10 >> 16, tag, k = 0;
+    uint16_t sqid = entry->cdw10 & 0xffff, cid = entry->cdw10 >> 16, k = 0;
+    uint32_t tag;
     if (nvmearb_ctrl_named(&d->state.ctrl, d->state.slots, NVME_COMMANDS, sqid, cid, &tag) != NVMEARB_OK)
         return 1;
     while (k < d->state.held_count && d->state.held[k] != tag)

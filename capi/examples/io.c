@@ -321,7 +321,7 @@ static int take_back(struct nvme_request *r)
  * A command that its backend hasn't begun is taken back. Of one that reads, what comes later is dropped. One that
  * writes goes on, since it may still change what the host writes after it.
  */
-int nvme_abort(struct nvme *d, uint16_t tag)
+int nvme_abort(struct nvme *d, uint32_t tag)
 {
     struct nvme_request *r = d->requests;
     while (r && (r->is_own || r->is_dropped || r->tag != tag))

@@ -101,7 +101,8 @@ struct nvme_request {
     /* The device's own: those in flight, the command, and whether it was answered already. */
     struct nvme_request *before, *after;
     nvmearb_sqe entry;
-    uint16_t tag, step, count;
+    uint32_t tag;
+    uint16_t step, count;
     uint8_t is_own, is_dropped, is_durable;
     struct nvme_piece pieces[NVME_PIECES];
 };
@@ -129,7 +130,8 @@ struct nvme_state {
     uint8_t uncoalesced[NVME_QUEUES + 1]; /* by vector: CD of Interrupt Vector Configuration */
     uint8_t held_queues[NVME_QUEUES + 1]; /* queues that are held, since a namespace has no room */
     uint8_t is_asserted, is_stopping;     /* the pin; CC.EN is 0, and Writes are in flight */
-    uint16_t held[NVME_EVENT_REQUESTS], held_count; /* Asynchronous Event Requests */
+    uint32_t held[NVME_EVENT_REQUESTS];   /* Asynchronous Event Requests, by their tags */
+    uint16_t held_count;
     uint32_t pending, told;               /* events, and those whose log wasn't read since they were told */
     uint32_t changed;                     /* namespaces that changed since their log was read: bit 0 is namespace 1 */
     struct {

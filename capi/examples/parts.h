@@ -36,7 +36,7 @@ static inline int nvme_is_error(nvmearb_status status)
 }
 
 /* nvme.c: ends a command of this tag. */
-void nvme_complete(struct nvme *device, uint16_t tag, nvmearb_status status, uint32_t dw0);
+void nvme_complete(struct nvme *device, uint32_t tag, nvmearb_status status, uint32_t dw0);
 
 /* prp.c: finds what the PRPs of a command name; copies between the device's bytes and these. */
 nvmearb_status nvme_find(struct nvme *device, const nvmearb_sqe *entry, size_t length, struct nvme_piece *pieces,
@@ -49,7 +49,7 @@ nvmearb_status nvme_transfer(struct nvme *device, const nvmearb_sqe *entry, uint
 
 /* io.c: begins an I/O command, or ends it at once. Ends the command that an Abort names, if it can. */
 void nvme_begin(struct nvme *device, const nvmearb_command *command);
-int nvme_abort(struct nvme *device, uint16_t tag);
+int nvme_abort(struct nvme *device, uint32_t tag);
 /* Flushes all namespaces, and then says in CSTS that the shutdown is complete. */
 void nvme_shut_down(struct nvme *device);
 /* CC.EN became 0: what is in flight isn't answered any more. Whether none of it may still write. */

@@ -173,7 +173,7 @@ void nvme_save(const struct nvme *d, struct nvme_state *to)
     to->counts.begun = d->host.now(d->host.context) - d->state.counts.begun;
 }
 
-/* Whether the library can be called with these bytes, and each open completion queue has slots. */
+/* Whether each number of the controller is in its range, and each open completion queue has slots. */
 static int is_sound(const struct nvme_state *s)
 {
     uint16_t region;

@@ -1,8 +1,9 @@
 /* SPDX-License-Identifier: MIT */
 /*
  * A front for I/O queues as one writes it by hand in C: the yardstick of the library's controller. Its calls check what
- * the library's check, return the same results, and write the same bytes. It has no admin commands and holds no queue, so
- * it leaves out what these want, and it copies entries as they are, which wants a little-endian machine.
+ * the library's check, return the same results, and write the same bytes, but for the generations of tags. It has no
+ * admin commands and holds no queue, so it leaves out what these want, and it copies entries as they are, which wants a
+ * little-endian machine.
  */
 #ifndef HAND_H
 #define HAND_H

@@ -193,7 +193,7 @@ static void loop_submit(uint16_t qid, uint16_t batch)
     }
 }
 
-/* What was picked is taken, and completed in the other order. */
+/* What was picked is taken, and completed in the other order. Tags have generations in the library's loop alone. */
 static void loop_execute(void)
 {
     const nvmearb_status success = {0, 0};
@@ -201,7 +201,8 @@ static void loop_execute(void)
     int count = 0;
     while (CALL(take)(&it.ctrl, it.slots, POOL, &taken[count]) == NVMEARB_OK) {
         const nvmearb_command *command = &taken[count++];
-        loop_add(loop_join(command->entry.cid, command->tag, command->cookie) ^ command->entry.cdw15);
+        uint16_t slot = NVMEARB_SLOT_OF(command->tag);
+        loop_add(loop_join(command->entry.cid, slot, command->cookie) ^ command->entry.cdw15);
     }
     while (count-- > 0) {
         loop_check(CALL(complete)(&it.ctrl, it.slots, POOL, taken[count].tag, &success, taken[count].cookie));
@@ -218,7 +219,7 @@ static void loop_post(uint16_t cqid)
         memcpy(halves, post.bytes, sizeof halves);
         loop_add(halves[0]);
         loop_add(halves[1]);
-        loop_add(loop_join(post.slot, post.tag, post.cookie));
+        loop_add(loop_join(post.slot, NVMEARB_SLOT_OF(post.tag), post.cookie));
         head = (post.slot + 1) % RING;
     }
     loop_check(CALL(cq_head)(&it.ctrl, cqid, head));

@@ -18,7 +18,8 @@ enum state { NOT_HERE, WAITING, PICKED, OUT, READY };
 struct command {
     enum state state;
     int has_tag;
-    uint16_t qid, cqid, tag; /* its queues, and its tag once it was taken */
+    uint16_t qid, cqid; /* its queues */
+    uint32_t tag;       /* once it was taken */
     uint32_t cookie, dw0;
     nvmearb_status status;
     uint8_t entry[NVMEARB_SQE_BYTES], marks;
@@ -72,10 +73,37 @@ static struct account {
     unsigned creates;                /* how many Creates were */
     uint32_t cdw11;                  /* the Arbitration feature */
     struct list picked;
-    uint16_t by_tag[SLOTS];          /* numbers of commands, or NO_COMMAND */
+    uint16_t by_slot[SLOTS];         /* the commands that were taken by their tags' slots, or NO_COMMAND */
     nvmearb_arbiter arbiter;
     uint8_t opcodes[256], fids[256]; /* 1 for those that are the device's */
 } account;
+
+/* The tag under which the last command of each slot was taken, if one was, also by a controller of before. */
+static struct last_tag {
+    int is_known;
+    uint32_t tag;
+} last_tags[SLOTS];
+
+/* The command of a slot that the device has, by its number, or NO_COMMAND. */
+static uint16_t out_in(uint32_t slot)
+{
+    uint16_t number = slot < SLOTS ? account.by_slot[slot] : NO_COMMAND;
+    return number < SLOTS && account.commands[number].state == OUT ? number : NO_COMMAND;
+}
+
+/* That under a tag. */
+static uint16_t out_under(uint32_t tag)
+{
+    uint16_t number = out_in(NVMEARB_SLOT_OF(tag));
+    return number < SLOTS && account.commands[number].tag == tag ? number : NO_COMMAND;
+}
+
+/* Whether a tag that was told is the last one of a slot, or of one of which none is known. */
+static int may_be_last(uint32_t tag)
+{
+    uint32_t slot = NVMEARB_SLOT_OF(tag);
+    return slot < account.slots && (!last_tags[slot].is_known || last_tags[slot].tag == tag);
+}
 
 static void push(struct list *list, uint16_t number)
 {

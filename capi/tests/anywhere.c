@@ -4,6 +4,7 @@
 
 enum { PAGE = 0x1000, ROUNDS = 400, AT_SQ = 0x20000, AT_CQ = 0x30000 };
 
+static nvmearb_slot many[NVMEARB_MAX_SLOTS + 1];
 static const nvmearb_placement placement = {PAGE, 7, 2};
 static const nvmearb_status bad_size = {NVMEARB_SCT_COMMAND_SPECIFIC, NVMEARB_SC_INVALID_QUEUE_SIZE};
 static const nvmearb_status bad_vector = {NVMEARB_SCT_COMMAND_SPECIFIC, NVMEARB_SC_INVALID_INTERRUPT_VECTOR};
@@ -112,7 +113,7 @@ static void limits(void)
 /* A command goes through queue 1, whose rings have `size` slots and are new. */
 static int serves(uint16_t size, uint16_t cid)
 {
-    uint16_t tag;
+    uint32_t tag;
     return nvmearb_ctrl_sq_tail(&ctrl, 1, 1) == NVMEARB_OK && read_fetched(0, cid) && picked(1) && taken(cid, &tag) &&
            completes(tag, success, 0, NVMEARB_OK) && posted(1, 0, 1, cid, 1, success, 0) &&
            nvmearb_ctrl_sq_tail(&ctrl, 1, size) == NVMEARB_EARG;

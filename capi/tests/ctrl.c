@@ -1,14 +1,17 @@
 /* A controller: each call with its refusals, and random calls on random states. Values are the specification's. */
 #include "ctrl.h"
+#include "every.h"
 #include "tell.h"
 
-_Static_assert(sizeof(nvmearb_slot) == 80, "nvmearb_slot");
+static nvmearb_slot many[NVMEARB_MAX_SLOTS + 1];
+
+_Static_assert(sizeof(nvmearb_slot) == 88, "nvmearb_slot");
 _Static_assert(sizeof(nvmearb_ctrl) == 6128, "nvmearb_ctrl");
 _Static_assert(sizeof(nvmearb_config) == 48 && offsetof(nvmearb_config, admin_depth) == 46, "nvmearb_config");
 _Static_assert(sizeof(nvmearb_asked) == 16 && offsetof(nvmearb_asked, interrupts) == 12, "nvmearb_asked");
 _Static_assert(sizeof(nvmearb_step) == 56 && offsetof(nvmearb_step, asked) == 40, "nvmearb_step");
 _Static_assert(sizeof(nvmearb_command) == 72 && offsetof(nvmearb_command, tag) == 68, "nvmearb_command");
-_Static_assert(sizeof(nvmearb_post) == 24 && offsetof(nvmearb_post, slot) == 22, "nvmearb_post");
+_Static_assert(sizeof(nvmearb_post) == 28 && offsetof(nvmearb_post, slot) == 24, "nvmearb_post");
 
 static uint32_t init_with(nvmearb_config with, size_t count)
 {
@@ -94,7 +97,8 @@ static int waits(uint16_t qid, uint16_t n, uint16_t cid)
 /* Three commands go through; the device answers in another order. */
 static void commands_go_through(void)
 {
-    uint16_t tags[3] = {0}, region, count;
+    uint32_t tags[3] = {0};
+    uint16_t region, count;
     nvmearb_command command;
     nvmearb_post post;
     CHECK(is_prepared(NVMEARB_ROUND_ROBIN));
@@ -129,7 +133,7 @@ static void commands_go_through(void)
 /* A full completion queue, and the phase tag of the second time round. */
 static void rings_go_round(void)
 {
-    uint16_t tag = 0;
+    uint32_t tag = 0;
     commands_go_through();
     for (uint16_t k = 0; k < 4; k++) { /* slots 3, 0, 1, 2 of both rings */
         uint16_t slot = (uint16_t)(3 + k) % 4, next = (uint16_t)k % 4;
@@ -148,7 +152,8 @@ static void abort_and_deletion(void)
 {
     static const nvmearb_status requested = {NVMEARB_SCT_GENERIC, NVMEARB_SC_ABORT_REQUESTED};
     static const nvmearb_status deleted = {NVMEARB_SCT_GENERIC, NVMEARB_SC_ABORTED_BY_DELETION};
-    uint16_t qid = 0xeeee, tag = 0;
+    uint16_t qid = 0xeeee;
+    uint32_t tag = 0;
     CHECK(is_prepared(NVMEARB_WEIGHTED));
     CHECK(nvmearb_ctrl_sq_tail(&ctrl, 1, 3) == NVMEARB_OK);
     CHECK(read_fetched(0, 40) && picked(1) && taken(40, &tag) && read_fetched(1, 41) && read_fetched(2, 42));
@@ -175,7 +180,8 @@ static void abort_and_deletion(void)
 /* Two queues are deleted at once, while the device has a command of the first. The admin queue goes on. */
 static void two_deletions(void)
 {
-    uint16_t qid = 0xeeee, tag = 0, number = 0;
+    uint16_t qid = 0xeeee, number = 0;
+    uint32_t tag = 0;
     CHECK(is_prepared(NVMEARB_ROUND_ROBIN));
     CHECK(nvmearb_ctrl_add_sq_region(&ctrl, SQ + 0x2000, 4, &number) == NVMEARB_OK && number == 2);
     CHECK(nvmearb_ctrl_sq_tail(&ctrl, 1, 1) == NVMEARB_OK && read_fetched(0, 40) && picked(1) && taken(40, &tag));
@@ -231,126 +237,6 @@ static void wrong_depths(void)
     CHECK(nvmearb_ctrl_set_depth(&ctrl, 64, SLOTS) == NVMEARB_OK && memcmp(&ctrl, &before, sizeof ctrl) == 0);
 }
 
-/* A read goes through an I/O queue of 4 slots, up to where its completion is to be posted. */
-static int is_executed(uint16_t qid, uint16_t n, uint16_t cid)
-{
-    nvmearb_step step;
-    uint16_t tag;
-    return nvmearb_ctrl_sq_tail(&ctrl, qid, (n + 1) % 4) == NVMEARB_OK &&
-           fetched(qid, n % 4, NVMEARB_OPC_READ, cid, 0, 0, 0) &&
-           nvmearb_ctrl_pick(&ctrl, slots, SLOTS, 1, &step) == NVMEARB_OK && step.pick.qid == qid && taken(cid, &tag) &&
-           completes(tag, success, 0, NVMEARB_OK);
-}
-
-/*
- * The host doesn't read what queue 1 posts: so its commands hold as many slots as its depth, and no more. Queue 2 and the
- * admin queue go on. There are as many slots as all depths have together.
- */
-static void a_host_that_reads_nothing(void)
-{
-    uint16_t number;
-    CHECK(is_prepared(NVMEARB_ROUND_ROBIN) && nvmearb_ctrl_set_depth(&ctrl, 0, 4) == NVMEARB_OK);
-    CHECK(nvmearb_ctrl_set_depth(&ctrl, 1, 6) == NVMEARB_OK && nvmearb_ctrl_set_depth(&ctrl, 2, 6) == NVMEARB_OK);
-    CHECK(nvmearb_ctrl_add_sq_region(&ctrl, 0x5000, 4, &number) == NVMEARB_OK);
-    CHECK(nvmearb_ctrl_add_cq_region(&ctrl, 0x6000, 4, &number) == NVMEARB_OK);
-    CHECK(nvmearb_ctrl_sq_tail(&ctrl, 0, 5) == NVMEARB_OK);
-    CHECK(fetched(0, 2, NVMEARB_OPC_CREATE_CQ, 12, 0x6000, 0x00030002, 1) && carried_out(NVMEARB_OPEN_CQ));
-    CHECK(fetched(0, 3, NVMEARB_OPC_CREATE_SQ, 13, 0x5000, 0x00030002, 0x00020001) && carried_out(NVMEARB_OPEN_SQ));
-    CHECK(posted(0, 2, 4, 12, 1, success, 0) && posted(0, 3, 4, 13, 1, success, 0));
-    for (uint16_t n = 0; n < 9; n++) { /* the ring has room for 3 completions, and 6 commands wait for it */
-        CHECK(is_executed(1, n, 40 + n));
-        CHECK(n < 3 ? posted(1, n, n + 1, 40 + n, 1, success, 0) : none_to_post(1));
-    }
-    CHECK(nvmearb_ctrl_sq_tail(&ctrl, 1, 2) == NVMEARB_OK && none_to_fetch(1));
-    for (uint16_t n = 0; n < 20; n++)
-        CHECK(is_executed(2, n, 60 + n) && posted(2, n % 4, (n + 1) % 4, 60 + n, n / 4 % 2 == 0, success, 0) &&
-              nvmearb_ctrl_cq_head(&ctrl, 2, (n + 1) % 4) == NVMEARB_OK);
-    CHECK(fetched(0, 4, NVMEARB_OPC_GET_FEATURES, 14, 0, NVMEARB_FID_ARBITRATION, 0) && carried_out(NVMEARB_DONE));
-    CHECK(none_to_fetch(1) && nvmearb_ctrl_cq_head(&ctrl, 1, 3) == NVMEARB_OK);
-    CHECK(posted(1, 3, 1, 43, 1, success, 0) && read_fetched(1, 49) && none_to_fetch(1));
-}
-
-/* What every call answers over a state and slots. */
-struct call {
-    nvmearb_ctrl *ctrl;
-    nvmearb_slot *slots;
-    size_t count;
-    uint16_t a, b;
-    uint32_t dw0;
-    nvmearb_status status;
-    uint8_t marks;
-    uint8_t bytes[NVMEARB_SQE_BYTES];
-    /* what it writes */
-    uint16_t number;
-    nvmearb_pick pick;
-    nvmearb_step step;
-    nvmearb_command command;
-    nvmearb_post post;
-    nvmearb_seen seen;
-    nvmearb_sqe entry;
-    uint32_t cookie;
-};
-/* The calls. Those that take no slots come first. */
-enum { ADD_SQ, ADD_CQ, OWN_OPCODE, OWN_FEATURE, SET_DEPTH, HOLD, SET_CLASS, SQ_TAIL, CQ_HEAD };
-enum { FETCH = CQ_HEAD + 1, SQ_OF, CQ_OF, WAITING, SEEN, WITHOUT_SLOTS };
-enum { FETCHED = WITHOUT_SLOTS, PEEK, PICK, TAKE, COMPLETE, COMPLETE_WITH, POST, FINISH, COMMAND, NAMED, WAITS, CALLS };
-
-static uint32_t made(struct call *it, unsigned which)
-{
-    switch (which) {
-    case ADD_SQ:
-        return nvmearb_ctrl_add_sq_region(it->ctrl, 0x1000u * (it->a % 8u), it->b, &it->number);
-    case ADD_CQ:
-        return nvmearb_ctrl_add_cq_region(it->ctrl, 0x1000u * (it->a % 8u), it->b, &it->number);
-    case OWN_OPCODE:
-        return nvmearb_ctrl_own_opcode(it->ctrl, it->bytes[0]);
-    case OWN_FEATURE:
-        return nvmearb_ctrl_own_feature(it->ctrl, it->bytes[40]); /* (Command Dword 10) */
-    case SET_DEPTH:
-        return nvmearb_ctrl_set_depth(it->ctrl, it->a, it->b);
-    case HOLD:
-        return nvmearb_ctrl_hold(it->ctrl, it->a, it->marks);
-    case SET_CLASS:
-        return nvmearb_ctrl_set_class(it->ctrl, it->a, it->b);
-    case SQ_TAIL:
-        return nvmearb_ctrl_sq_tail(it->ctrl, it->a, it->b);
-    case CQ_HEAD:
-        return nvmearb_ctrl_cq_head(it->ctrl, it->a, it->b);
-    case FETCH:
-        return nvmearb_ctrl_fetch(it->ctrl, it->a, &it->number);
-    case SQ_OF:
-        return nvmearb_ctrl_sq(it->ctrl, it->a, &it->number);
-    case CQ_OF:
-        return nvmearb_ctrl_cq(it->ctrl, it->a, &it->number);
-    case WAITING:
-        return nvmearb_ctrl_waiting(it->ctrl, it->a, &it->number);
-    case SEEN:
-        return nvmearb_ctrl_seen(it->ctrl, it->a, &it->seen);
-    case WAITS:
-        return nvmearb_ctrl_waits(it->ctrl, it->slots, it->count, it->a, it->b, &it->entry, &it->cookie);
-    case FETCHED:
-        return nvmearb_ctrl_fetched(it->ctrl, it->slots, it->count, it->a, it->bytes, it->dw0);
-    case PEEK:
-        return nvmearb_ctrl_peek(it->ctrl, it->slots, it->count, &it->pick);
-    case PICK:
-        return nvmearb_ctrl_pick(it->ctrl, it->slots, it->count, it->a, &it->step);
-    case TAKE:
-        return nvmearb_ctrl_take(it->ctrl, it->slots, it->count, &it->command);
-    case COMPLETE:
-        return nvmearb_ctrl_complete(it->ctrl, it->slots, it->count, it->b, &it->status, it->dw0);
-    case POST:
-        return nvmearb_ctrl_post(it->ctrl, it->slots, it->count, it->a, &it->post);
-    case FINISH:
-        return nvmearb_ctrl_finish(it->ctrl, it->slots, it->count, &it->number);
-    case COMMAND:
-        return nvmearb_ctrl_command(it->ctrl, it->slots, it->count, it->b, &it->command);
-    case NAMED:
-        return nvmearb_ctrl_named(it->ctrl, it->slots, it->count, it->a, it->b, &it->number);
-    default:
-        return nvmearb_ctrl_complete_with(it->ctrl, it->slots, it->count, it->b, &it->status, it->dw0, it->marks);
-    }
-}
-
 /* Without the mark each call answers NVMEARB_ESTATE, and with another number of slots NVMEARB_EARG. */
 static void refused_states(void)
 {
@@ -384,48 +270,36 @@ static void other_version(void)
     CHECK(nvmearb_ctrl_verify(&ctrl, many, SLOTS) == NVMEARB_ESTATE);
 }
 
-/* An entry that may be one of each kind. */
-static void draw_entry(uint64_t *state, uint8_t *bytes)
-{
-    static const uint8_t opcodes[] = {0, 1, 2, 4, 5, 8, 9, 10, 0x0c, 0x80}, fids[] = {1, 7, 2, EVENTS};
-    uint64_t word = drawn(state);
-    uint8_t opcode = opcodes[word % sizeof opcodes];
-    uint32_t low = (uint32_t)(word >> 8) % 4, high = opcode == NVMEARB_OPC_ABORT ? (uint32_t)(word >> 16) % 8 : 3;
-    int is_feature = opcode == NVMEARB_OPC_SET_FEATURES || opcode == NVMEARB_OPC_GET_FEATURES;
-    uint32_t select = (uint32_t)(word >> 52) % 2;
-    uint32_t cdw10 = is_feature ? select << 8 | fids[low] : high << 16 | low;
-    uint32_t cdw11 = 0x10001 + (uint32_t)(word >> 48) % 8;
-    entry_of(opcode, (uint16_t)(word >> 32) % 8, 0x1000 * (1 + (word >> 40) % 7), cdw10, cdw11, bytes);
-}
-
-/* How many commands the controller has, by what it answered. */
+/* How many commands the controller has, and the last tag of each slot, by what it answered. */
 struct tally {
     unsigned held, out, passed, done[CALLS];
+    uint32_t tags[SLOTS];
 };
+
+/* That of a slot, mostly; else one of before, or any. */
+static uint32_t draw_tag(uint64_t word, const struct tally *tally)
+{
+    uint32_t tag = tally->tags[word % SLOTS];
+    return word >> 61 ? tag : word >> 60 & 1 ? tag - 0x10000 : (uint32_t)(word >> 8);
+}
+
+/* A tag that was written is the last one of its slot. */
+static int is_last(uint32_t tag, const struct tally *tally)
+{
+    uint32_t slot = NVMEARB_SLOT_OF(tag);
+    return slot < SLOTS && tally->tags[slot] == tag;
+}
 
 /* One call with drawn arguments over the controller. What it answers and writes fits the tally. */
 static unsigned random_call(uint64_t *state, struct tally *tally)
 {
     static nvmearb_ctrl ctrl_before;
     static nvmearb_slot slots_before[SLOTS];
-    static const uint8_t often[CALLS] = {SQ_TAIL, SQ_TAIL, FETCH,    FETCHED,  FETCHED,       FETCHED, PEEK,
-                                         PICK,    PICK,    TAKE,     TAKE,     TAKE,          POST,    POST,
-                                         FINISH,  COMMAND, COMPLETE, COMPLETE, COMPLETE_WITH, NAMED,   HOLD,
-                                         HOLD,    SEEN,    WAITS,    SET_DEPTH};
-    uint64_t word = drawn(state);
     struct call it = {.ctrl = &ctrl, .slots = slots, .count = SLOTS}, before;
-    unsigned which = word & 1 ? often[(word >> 4) % CALLS] : (unsigned)(word >> 4) % CALLS, wrong = 0;
+    unsigned which = draw_call(state, &it), wrong = 0;
     uint32_t told;
     int changes;
-    it.a = word >> 60 ? (uint16_t)(word >> 16) % 3 : (uint16_t)(word >> 16);
-    it.b = word >> 60 ? (uint16_t)(word >> 32) % SLOTS : (uint16_t)(word >> 32);
-    it.count = (word >> 55 & 31) ? SLOTS : (size_t)(word >> 32); /* (where it is another, no slot is looked at) */
-    it.status.sct = (uint8_t)(word >> 40) % 9;
-    it.marks = (uint8_t)(word >> 48) % 5;
-    if (which == ADD_SQ || which == ADD_CQ) {
-        it.b = word & 8 ? 4 : it.b; /* (the rings that Creates name) */
-    }
-    draw_entry(state, it.bytes);
+    it.tag = draw_tag(drawn(state), tally);
     memcpy(&before, &it, sizeof it);
     memcpy(&ctrl_before, &ctrl, sizeof ctrl);
     memcpy(slots_before, slots, sizeof slots);
@@ -440,10 +314,13 @@ static unsigned random_call(uint64_t *state, struct tally *tally)
     tally->held += (which == FETCHED) - (which == POST);
     tally->out += (which == TAKE) - (which == COMPLETE || which == COMPLETE_WITH);
     tally->passed += which == PICK && it.step.kind == NVMEARB_PASSED;
+    if (which == TAKE && NVMEARB_SLOT_OF(it.command.tag) < SLOTS)
+        tally->tags[NVMEARB_SLOT_OF(it.command.tag)] += 0x10000;
     wrong += tally->held > SLOTS || tally->out > tally->held;
-    wrong += (which == TAKE || which == COMMAND) && it.command.tag >= SLOTS;
-    wrong += which == POST && (it.post.tag >= SLOTS || it.post.slot >= 8);
-    wrong += which == NAMED && it.number >= SLOTS;
+    wrong += (which == TAKE || which == COMMAND) && !is_last(it.command.tag, tally);
+    wrong += (which == COMPLETE || which == COMPLETE_WITH || which == COMMAND) && !is_last(it.tag, tally);
+    wrong += which == POST && (!is_last(it.post.tag, tally) || it.post.slot >= 8);
+    wrong += which == NAMED && !is_last(it.named, tally);
     wrong += (which == PEEK || (which >= FETCH && which < WITHOUT_SLOTS) || which >= COMMAND) && changes;
     return wrong;
 }
@@ -454,6 +331,9 @@ static void random_calls(void)
     uint64_t state = 5;
     unsigned wrong = 0, done = 0;
     struct tally tally = {0};
+    memset(slots, 0, sizeof slots);
+    for (uint32_t slot = 0; slot < SLOTS; slot++)
+        tally.tags[slot] = slot;
     for (int round = 0; round < 1000000; round++) {
         if (round % 500 == 0) {
             wrong += !is_prepared(round % 1000 ? NVMEARB_WEIGHTED : NVMEARB_ROUND_ROBIN);
@@ -498,7 +378,7 @@ static void marks(void)
     nvmearb_status used = {NVMEARB_SCT_COMMAND_SPECIFIC, NVMEARB_SC_INVALID_QUEUE_DELETION};
     nvmearb_status no_queue = {NVMEARB_SCT_COMMAND_SPECIFIC, NVMEARB_SC_INVALID_QUEUE_IDENTIFIER};
     nvmearb_status unknown = {NVMEARB_SCT_GENERIC, NVMEARB_SC_INVALID_OPCODE};
-    uint16_t tags[3];
+    uint32_t tags[3];
     CHECK(is_prepared(NVMEARB_ROUND_ROBIN) && nvmearb_ctrl_sq_tail(&ctrl, 1, 3) == NVMEARB_OK);
     CHECK(fetched(1, 0, NVMEARB_OPC_READ, 20, 0, 0, 0) && fetched(1, 1, NVMEARB_OPC_READ, 21, 0, 0, 0));
     CHECK(fetched(1, 2, NVMEARB_OPC_READ, 22, 0, 0, 0) && picked(3));
@@ -519,7 +399,7 @@ static void marks(void)
 }
 
 /* A command of the admin queue is passed on to the device, which takes it under the tag that is told. */
-static int passed_on(uint8_t opcode, uint16_t cid, uint16_t *tag)
+static int passed_on(uint8_t opcode, uint16_t cid, uint32_t *tag)
 {
     nvmearb_step step;
     nvmearb_command it;
@@ -536,7 +416,8 @@ static void own_opcodes(void)
     static const nvmearb_status unknown = {0, NVMEARB_SC_INVALID_OPCODE}, field = {0, NVMEARB_SC_INVALID_FIELD};
     static const nvmearb_status none = {0, NVMEARB_SC_INVALID_NAMESPACE};
     uint8_t bytes[NVMEARB_SQE_BYTES];
-    uint16_t tags[3], number;
+    uint32_t tags[3];
+    uint16_t number;
     CHECK(is_prepared(NVMEARB_ROUND_ROBIN) && nvmearb_ctrl_sq_tail(&ctrl, 0, 3) == NVMEARB_OK);
     CHECK(fetched(0, 2, IDENTIFY, 12, 0x5000, 1, 0) && carried_out(NVMEARB_DONE)); /* it isn't announced yet */
     CHECK(posted_with(0, 2, 3, 12, 1, unknown, 0, 8));
@@ -565,7 +446,7 @@ static void own_features(void)
 {
     static const nvmearb_status unknown = {0, NVMEARB_SC_INVALID_OPCODE}, field = {0, NVMEARB_SC_INVALID_FIELD};
     static const nvmearb_status sequence = {0, NVMEARB_SC_SEQUENCE_ERROR};
-    uint16_t tags[2];
+    uint32_t tags[2];
     CHECK(is_prepared(NVMEARB_ROUND_ROBIN) && nvmearb_ctrl_sq_tail(&ctrl, 0, 6) == NVMEARB_OK);
     CHECK(nvmearb_ctrl_own_feature(&ctrl, NVMEARB_FID_ARBITRATION) == NVMEARB_OK);
     CHECK(nvmearb_ctrl_own_feature(&ctrl, NVMEARB_FID_NUMBER_OF_QUEUES) == NVMEARB_OK);
@@ -599,7 +480,8 @@ static int is_next(uint16_t qid)
 static void holds(void)
 {
     static const nvmearb_status requested = {NVMEARB_SCT_GENERIC, NVMEARB_SC_ABORT_REQUESTED};
-    uint16_t tag = 0, count = 0;
+    uint32_t tag = 0;
+    uint16_t count = 0;
     CHECK(is_prepared(NVMEARB_WEIGHTED) && nvmearb_ctrl_sq_tail(&ctrl, 1, 3) == NVMEARB_OK);
     CHECK(nvmearb_ctrl_hold(&ctrl, 1, 2) == NVMEARB_EARG && nvmearb_ctrl_hold(&ctrl, 2, 255) == NVMEARB_EARG);
     CHECK(nvmearb_ctrl_hold(&ctrl, 2, 1) == NVMEARB_NONE && nvmearb_ctrl_hold(&ctrl, 65535, 0) == NVMEARB_NONE);
@@ -649,10 +531,9 @@ static void classes(void)
 }
 
 /* The tag of the command of these identifiers is told, or that the device has none. */
-static int is_named(uint16_t qid, uint16_t cid, uint16_t tag)
+static int is_named(uint16_t qid, uint16_t cid, uint32_t tag)
 {
-    uint16_t told = 0xeeee;
-    uint32_t want = tag == 0xeeee ? NVMEARB_NONE : NVMEARB_OK;
+    uint32_t told = 0xeeee, want = tag == 0xeeee ? NVMEARB_NONE : NVMEARB_OK;
     return nvmearb_ctrl_named(&ctrl, slots, SLOTS, qid, cid, &told) == want && told == tag;
 }
 
@@ -661,8 +542,8 @@ static void own_aborts(void)
 {
     static const nvmearb_status requested = {NVMEARB_SCT_GENERIC, NVMEARB_SC_ABORT_REQUESTED};
     static const nvmearb_status exceeded = {NVMEARB_SCT_COMMAND_SPECIFIC, 0x03};
-    const uint16_t none = 0xeeee;
-    uint16_t tags[2] = {0}, aborts[3] = {0};
+    const uint32_t none = 0xeeee;
+    uint32_t tags[2] = {0}, aborts[3] = {0};
     CHECK(is_prepared(NVMEARB_WEIGHTED) && nvmearb_ctrl_sq_tail(&ctrl, 1, 3) == NVMEARB_OK);
     CHECK(read_fetched(0, 40) && read_fetched(1, 41) && picked(2) && is_named(1, 40, none));
     CHECK(taken(40, &tags[0]) && taken(41, &tags[1]) && read_fetched(2, 42) && tags[0] != tags[1]);
@@ -695,7 +576,6 @@ int main(void)
     two_deletions();
     depths_and_slots();
     wrong_depths();
-    a_host_that_reads_nothing();
     marks();
     own_opcodes();
     own_features();

@@ -16,7 +16,7 @@
 enum { IDENTIFY = 0x06, EVENT_REQUEST = 0x0c, EVENTS = 0x0b };
 
 static nvmearb_ctrl ctrl;
-static nvmearb_slot slots[SLOTS], many[NVMEARB_MAX_SLOTS + 1];
+static nvmearb_slot slots[SLOTS];
 static const nvmearb_status success = {NVMEARB_SCT_GENERIC, NVMEARB_SC_SUCCESS};
 
 /* Admin queues of 8 slots, at most 4 I/O queues of a kind, no limit on the burst, depths of all slots. */
@@ -85,7 +85,7 @@ static inline int picks_none(uint32_t want)
 }
 
 /* The command with this identifier is taken, under the tag that is told. */
-static inline int taken(uint16_t cid, uint16_t *tag)
+static inline int taken(uint16_t cid, uint32_t *tag)
 {
     nvmearb_command command, again;
     int is_well = nvmearb_ctrl_take(&ctrl, slots, SLOTS, &command) == NVMEARB_OK && command.entry.cid == cid &&
@@ -95,12 +95,12 @@ static inline int taken(uint16_t cid, uint16_t *tag)
            again.tag == command.tag && again.entry.cid == cid && again.cookie == command.cookie;
 }
 
-static inline int completes(uint16_t tag, nvmearb_status status, uint32_t dw0, uint32_t want)
+static inline int completes(uint32_t tag, nvmearb_status status, uint32_t dw0, uint32_t want)
 {
     return nvmearb_ctrl_complete(&ctrl, slots, SLOTS, tag, &status, dw0) == want;
 }
 
-static inline int completes_with(uint16_t tag, nvmearb_status status, unsigned marks, uint32_t want)
+static inline int completes_with(uint32_t tag, nvmearb_status status, unsigned marks, uint32_t want)
 {
     return nvmearb_ctrl_complete_with(&ctrl, slots, SLOTS, tag, &status, 0, (uint8_t)marks) == want;
 }

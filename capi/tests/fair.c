@@ -52,8 +52,11 @@ static size_t count;
 static uint64_t seed;
 static uint16_t nqueues, nevents, capacity, largest, most;
 static int is_eager; /* the host submits all that it can at once */
-static struct { uint16_t tag, sqid, turns; } in_flight[FLYING];
-static struct { uint16_t tag; } events[8];
+static struct {
+    uint32_t tag;
+    uint16_t turns;
+} in_flight[FLYING];
+static uint32_t events[8]; /* their tags */
 static uint16_t flying, kept;
 static unsigned long full, cut, holds; /* picks that there was no room for, picks of as many as there was, and holds */
 static unsigned long outstanding, many; /* commands picked and not posted, and picks that left more than 256 of them */
@@ -162,7 +165,7 @@ static void take_all(void)
     nvmearb_command it;
     while (nvmearb_ctrl_take(&ctrl, pool, count, &it) == NVMEARB_OK) {
         if (it.entry.opcode == EVENT_REQUEST) {
-            events[kept++].tag = it.tag;
+            events[kept++] = it.tag;
             continue;
         }
         in_flight[flying].tag = it.tag;
@@ -324,7 +327,7 @@ static void end(void)
         if (cqs[cqid].slots)
             say(NVMEARB_OPC_DELETE_CQ, 0, cqid, 0);
     for (; kept; kept--)
-        MUST(nvmearb_ctrl_complete(&ctrl, pool, count, events[kept - 1].tag, &success, 0) == NVMEARB_OK);
+        MUST(nvmearb_ctrl_complete(&ctrl, pool, count, events[kept - 1], &success, 0) == NVMEARB_OK);
     for (int turn = 0; turn < TURNS && sqs[0].back < sqs[0].total; turn++) {
         device();
         host();

@@ -8,126 +8,14 @@
  *   hostile [COUNT [SEED]]
  */
 #include "account.h"
+#include "draws.h"
 #include "tell.h"
 #include <stdlib.h>
 
-enum { GUARD = 64, IDENTIFIERS = 6 };
+enum { GUARD = 64 };
 
 /* Answers as the account does where queues lie on regions. */
 static nvmearb_table table;
-
-/* ---- The draws ---- */
-
-static uint64_t seed;
-
-static uint32_t upto(uint32_t n)
-{
-    return (uint32_t)((drawn(&seed) >> 20) % n);
-}
-
-/* An identifier of a queue: mostly a small one, and some of those about the largest. */
-static uint16_t draw_identifier(void)
-{
-    return (uint16_t)(upto(10) ? upto(IDENTIFIERS) : QUEUES - 3 + upto(4));
-}
-
-/* That of an I/O queue of which `most` are allotted: mostly one that may be. */
-static uint32_t draw_allotted(uint16_t most)
-{
-    return upto(6) ? 1 + upto(most < IDENTIFIERS ? most : IDENTIFIERS) : draw_identifier();
-}
-
-/* Mostly that of a queue which is open. */
-static uint16_t draw_qid(void)
-{
-    uint16_t qid = draw_identifier();
-    if (account.stirs && upto(3) == 0)
-        return 0;
-    for (int k = 0; k < 3 && !open_sq(qid); k++)
-        qid = draw_identifier();
-    return upto(60) ? qid : (uint16_t)upto(0x10000);
-}
-
-/* An address for a queue that may lie anywhere: one of a few, that of a queue which is or was there, or any other. */
-static uint64_t draw_address(void)
-{
-    uint32_t page = account.placement.page;
-    uint64_t any = drawn(&seed);
-    switch (upto(8)) {
-    case 0:
-        return account.sqs[upto(IDENTIFIERS)].address;
-    case 1:
-        return account.cqs[upto(IDENTIFIERS)].address;
-    case 2:
-        return upto(2) ? any : any - any % page;
-    case 3:
-        return (uint64_t)page * upto(6) + upto(page);
-    }
-    return (uint64_t)page * (1 + upto(6));
-}
-
-/* QSIZE of such a queue: a small one, or one about the largest. */
-static uint32_t draw_qsize(void)
-{
-    uint32_t mqes = account.placement.mqes;
-    if (upto(6))
-        return upto(mqes < 24 ? mqes + 1 : 24);
-    return (upto(3) ? mqes - 1 + upto(3) : LARGEST_QSIZE - 1u + upto(3)) & 0xffff;
-}
-
-/* IV of a completion queue: mostly one that there is. */
-static uint32_t draw_vector(void)
-{
-    uint32_t vectors = account.placement.vectors;
-    return upto(8) && vectors ? upto(vectors) : (vectors - 1 + upto(2)) & 0xffff;
-}
-
-/* PRP1 and QSIZE of a Create, which mostly fit. */
-static void draw_place(nvmearb_sqe *it)
-{
-    const struct regions *regions = it->opcode == NVMEARB_OPC_CREATE_SQ ? &account.sq_regions : &account.cq_regions;
-    const nvmearb_region *region = &regions->at[upto(regions->n)];
-    it->prp1 = account.is_anywhere ? draw_address() : upto(20) ? region->address : drawn(&seed);
-    it->cdw10 |= (account.is_anywhere ? draw_qsize() : upto(20) ? region->slots - 1u : upto(0x10000)) << 16;
-}
-
-/* NSQR or NCQR: a small number, or the one that isn't valid. */
-static uint32_t draw_number(void)
-{
-    return upto(20) ? upto(8) : 0xffff;
-}
-
-/* An entry for the admin queue, whose fields mostly fit what is there. */
-static void draw_admin(nvmearb_sqe *it)
-{
-    static const uint8_t opcodes[] = {0, 1, 1, 1, 4, 5, 5, 8, 8, 8, 9, 10, 10, 6, 0x0c}, fids[] = {1, 7, 2, 0x0b, 1};
-    static const uint8_t of_queues[] = {0, 0, 1, 1, 1, 4, 5};
-    uint32_t sel = upto(8);
-    it->opcode = account.stirs && upto(6) ? of_queues[upto(sizeof of_queues)] : opcodes[upto(sizeof opcodes)];
-    it->flags = (uint8_t)(upto(30) ? 0 : upto(256));
-    it->cdw10 = draw_allotted(upto(2) ? account.nsq : account.ncq);
-    it->cdw11 = (upto(30) != 0) | upto(4) << 1;
-    if (it->opcode == NVMEARB_OPC_ABORT)
-        it->cdw10 |= upto(12) << 16;
-    else
-        draw_place(it);
-    it->cdw11 |= (it->opcode == NVMEARB_OPC_CREATE_CQ ? draw_vector() : draw_allotted(account.ncq)) << 16;
-    if (it->opcode == NVMEARB_OPC_SET_FEATURES || it->opcode == NVMEARB_OPC_GET_FEATURES) {
-        it->cdw10 = fids[upto(sizeof fids)] | (sel < 4 ? sel << 8 : 0) | (upto(40) ? 0 : 0x80000000u);
-        it->cdw11 = upto(2) ? (uint32_t)drawn(&seed) : draw_number() | draw_number() << 16;
-    }
-}
-
-/* What the host has in a slot when it is read: each reading finds something else. */
-static void draw_entry(uint16_t qid, uint8_t *bytes)
-{
-    nvmearb_sqe it;
-    draw_into(&seed, &it, sizeof it);
-    it.cid = (uint16_t)upto(12);
-    if (qid == 0)
-        draw_admin(&it);
-    nvmearb_sqe_encode(&it, bytes);
-}
 
 /* ---- The calls ---- */
 
@@ -143,7 +31,7 @@ static struct {
 
 static struct {
     uint64_t ok, none, busy, full, refused, passed, passed_aborts, named, deep, held, classed, deletions, together, aborts;
-    uint64_t marked, created, made, cut;
+    uint64_t marked, created, made, again, cut, stale;
     uint64_t anywhere, lies_anywhere, most, bad_sizes, bad_offsets, bad_vectors; /* where queues may lie anywhere */
 } tally;
 
@@ -184,8 +72,8 @@ static void begin(const nvmearb_config *config)
     account.slots = upto(3) ? SLOTS : 1 + upto(SLOTS);
     account.stirs = account.is_anywhere && upto(5) == 0;
     account.is_slow = !account.stirs && upto(3) == 0;
-    for (unsigned tag = 0; tag < SLOTS; tag++)
-        account.by_tag[tag] = NO_COMMAND;
+    for (unsigned slot = 0; slot < SLOTS; slot++)
+        account.by_slot[slot] = NO_COMMAND;
 }
 
 static uint16_t draw_limit(void)
@@ -193,7 +81,20 @@ static uint16_t draw_limit(void)
     return (uint16_t)(upto(4) ? 1 + upto(IDENTIFIERS) : NVMEARB_MAX_IO_QUEUES);
 }
 
-/* The controller is made, as at the end of a reset. Nothing of before is left. */
+/* Draws the memory of a controller, and that of its slots or not: then their generations go on. */
+static void draw_room(void)
+{
+    int is_again = tally.made > 0 && upto(3) > 0;
+    draw_into(&seed, &room.ctrl, sizeof room.ctrl);
+    if (!is_again) {
+        draw_into(&seed, &room.slots, sizeof room.slots);
+        memset(last_tags, 0, sizeof last_tags);
+    }
+    memset(room.before, 0xa5, GUARD), memset(room.between, 0xa5, GUARD), memset(room.after, 0xa5, GUARD);
+    tally.again += (uint64_t)is_again;
+}
+
+/* The controller is made, as at the end of a reset. Nothing of before is left but the generations. */
 static int make(void)
 {
     static const uint16_t depths[] = {1, 2, 16, 256, 300, 4095};
@@ -201,8 +102,7 @@ static int make(void)
                              (uint32_t)drawn(&seed), draw_limit(), draw_limit(), depths[upto(6)], depths[1 + upto(5)]};
     uint16_t number;
     begin(&config);
-    draw_into(&seed, &room, sizeof room);
-    memset(room.before, 0xa5, GUARD), memset(room.between, 0xa5, GUARD), memset(room.after, 0xa5, GUARD);
+    draw_room();
     tally.made++;
     tally.anywhere += (uint64_t)account.is_anywhere;
     if (nvmearb_arbiter_init(&account.arbiter, config.mechanism, config.cdw11) != NVMEARB_OK)
@@ -509,7 +409,7 @@ static int follows(const nvmearb_pick *pick, const nvmearb_step *step)
 }
 
 /* How many commands the device can take: any number, a few, or none. */
-static uint16_t draw_room(void)
+static uint16_t draw_most(void)
 {
     switch (upto(8)) {
     case 0:
@@ -529,7 +429,7 @@ static int is_refused(void)
     nvmearb_step step;
     nvmearb_pick pick;
     size_t other = account.slots + 1 + upto(3);
-    return is_right(nvmearb_ctrl_pick(CTRL, room.slots, other, draw_room(), &step), NVMEARB_EARG) &&
+    return is_right(nvmearb_ctrl_pick(CTRL, room.slots, other, draw_most(), &step), NVMEARB_EARG) &&
            is_right(nvmearb_ctrl_peek(CTRL, room.slots, other, &pick), NVMEARB_EARG);
 }
 
@@ -549,7 +449,7 @@ static int picks(void)
     nvmearb_seen seen[NVMEARB_MAX_QUEUES];
     nvmearb_pick pick = {0}, found = {0};
     nvmearb_step step;
-    uint16_t most = draw_room();
+    uint16_t most = draw_most();
     size_t n = observe(seen);
     uint32_t next = nvmearb_arbiter_peek(&account.arbiter, seen, n, &pick), want;
     if (!is_right(nvmearb_ctrl_peek(CTRL, POOL, &found), next) || memcmp(&pick, &found, sizeof pick))
@@ -575,6 +475,17 @@ static int is_given(const struct command *it, const nvmearb_command *found)
     return !memcmp(&entry, &found->entry, sizeof entry) && it->cookie == found->cookie;
 }
 
+/* The tag of a command that is taken: its slot is nobody's, and has the next generation. */
+static int is_next_tag(uint32_t tag)
+{
+    uint32_t slot = NVMEARB_SLOT_OF(tag);
+    if (slot >= account.slots || account.by_slot[slot] != NO_COMMAND)
+        return 0;
+    struct last_tag was = last_tags[slot];
+    last_tags[slot] = (struct last_tag){1, tag};
+    return !was.is_known || tag == was.tag + 0x10000;
+}
+
 static int takes(void)
 {
     nvmearb_command found;
@@ -584,32 +495,49 @@ static int takes(void)
         return 0;
     if (number == NO_COMMAND)
         return 1;
-    if (found.tag >= account.slots || account.by_tag[found.tag] != NO_COMMAND)
+    if (!is_next_tag(found.tag))
         return 0;
-    account.by_tag[found.tag] = number;
+    account.by_slot[NVMEARB_SLOT_OF(found.tag)] = number;
     it->state = OUT;
     it->has_tag = 1;
     it->tag = found.tag;
     return is_given(it, &found);
 }
 
-/* A device that answers in any order, under tags that it may not have, with any status. */
+/* A tag: mostly the last one of a slot, else one of before or after it, or any number. */
+static uint32_t draw_tag(uint32_t slot)
+{
+    uint32_t tag = slot < SLOTS && last_tags[slot].is_known ? last_tags[slot].tag : slot;
+    switch (upto(16)) {
+    case 0:
+        return tag - 0x10000 * (1 + upto(4));
+    case 1:
+        return tag + 0x10000 * (1 + upto(0xffff));
+    case 2:
+        return (uint32_t)drawn(&seed);
+    }
+    return tag;
+}
+
+/* A device that answers in any order, under tags that it may not have, or has no longer, with any status. */
 static int completes(void)
 {
-    uint16_t tag = (uint16_t)(upto(20) ? upto(account.slots) : upto(0x10000));
-    for (unsigned k = 0; k < 40 && (tag >= SLOTS || account.by_tag[tag] == NO_COMMAND); k++)
-        tag = (uint16_t)upto(account.slots);
-    uint16_t number = tag < SLOTS ? account.by_tag[tag] : NO_COMMAND;
+    uint32_t slot = upto(account.slots), tag;
+    for (unsigned k = 0; k < 40 && account.by_slot[slot] == NO_COMMAND; k++)
+        slot = upto(account.slots);
+    tag = draw_tag(slot);
+    uint16_t number = out_under(tag);
     nvmearb_status status = {(uint8_t)(upto(50) ? upto(8) : upto(256)), (uint8_t)upto(256)};
     uint32_t dw0 = (uint32_t)drawn(&seed), told, want;
     uint8_t marks = (uint8_t)(upto(50) ? upto(4) : upto(256)), is_marked = (uint8_t)upto(2);
-    int is_out = number != NO_COMMAND && account.commands[number].state == OUT;
+    int is_out = number != NO_COMMAND;
     want = status.sct > 7 || (is_marked && marks > 3) ? NVMEARB_EARG : is_out ? NVMEARB_OK : NVMEARB_NONE;
     told = is_marked ? nvmearb_ctrl_complete_with(CTRL, POOL, tag, &status, dw0, marks)
                      : nvmearb_ctrl_complete(CTRL, POOL, tag, &status, dw0);
     if (want == NVMEARB_OK)
         ready(number, status, dw0, is_marked ? marks : 0);
     tally.marked += want == NVMEARB_OK && is_marked;
+    tally.stale += want == NVMEARB_NONE && out_in(NVMEARB_SLOT_OF(tag)) != NO_COMMAND;
     return is_right(told, want);
 }
 
@@ -653,10 +581,10 @@ static int posts(void)
     completion(it, bytes);
     if (memcmp(bytes, found.bytes, sizeof bytes) || found.cookie != it->cookie || found.slot != cq->posted % cq->slots)
         return 0;
-    if (it->has_tag && found.tag != it->tag)
+    if (it->has_tag ? found.tag != it->tag : !may_be_last(found.tag))
         return 0;
     if (it->has_tag)
-        account.by_tag[it->tag] = NO_COMMAND;
+        account.by_slot[NVMEARB_SLOT_OF(it->tag)] = NO_COMMAND;
     cq->posted++;
     account.sqs[it->qid].unposted--, account.held--;
     it->state = NOT_HERE;
@@ -683,8 +611,8 @@ static int finishes(void)
 /* The tag of a command by its queue and its identifier: of two with one identifier it is either. */
 static int names(void)
 {
-    uint16_t qid = draw_identifier(), cid = (uint16_t)upto(12), tag = 0xffff;
-    uint32_t want = NVMEARB_NONE;
+    uint16_t qid = draw_identifier(), cid = (uint16_t)upto(12);
+    uint32_t want = NVMEARB_NONE, tag = 0xffff;
     int is_one = 0;
     for (unsigned number = 0; number < SLOTS; number++) {
         const struct command *it = &account.commands[number];
@@ -728,15 +656,16 @@ static int sees(void)
 /* The look-ups of a queue and of a tag. */
 static int looks(void)
 {
-    uint16_t qid = draw_qid(), tag = (uint16_t)upto(account.slots), region = 0, waiting = 0;
+    uint16_t qid = draw_qid(), region = 0, waiting = 0;
+    uint32_t tag = draw_tag(upto(account.slots));
     const struct sq *sq = open_sq(qid);
     const struct cq *cq = open_cq(qid);
-    const struct command *it = account.by_tag[tag] == NO_COMMAND ? NULL : &account.commands[account.by_tag[tag]];
+    uint16_t number = out_under(tag);
     nvmearb_command found;
-    int is_out = it && it->state == OUT;
+    int is_out = number != NO_COMMAND;
     if (!is_right(nvmearb_ctrl_command(CTRL, POOL, tag, &found), is_out ? NVMEARB_OK : NVMEARB_NONE))
         return 0;
-    if (is_out && (found.tag != tag || !is_given(it, &found)))
+    if (is_out && (found.tag != tag || !is_given(&account.commands[number], &found)))
         return 0;
     if (!is_right(nvmearb_ctrl_waiting(CTRL, qid, &waiting), sq ? NVMEARB_OK : NVMEARB_NONE))
         return 0;
@@ -790,8 +719,10 @@ int main(int count, char **words)
         holds = call();
     printf("%ju calls: %ju done, %ju none, %ju busy, %ju full, %ju refused\n", (uintmax_t)made, (uintmax_t)tally.ok,
            (uintmax_t)tally.none, (uintmax_t)tally.busy, (uintmax_t)tally.full, (uintmax_t)tally.refused);
-    printf("%ju controllers, %ju queues created, %ju deleted, %ju commands aborted\n", (uintmax_t)tally.made,
-           (uintmax_t)tally.created, (uintmax_t)tally.deletions, (uintmax_t)tally.aborts);
+    printf("%ju controllers, %ju of them over slots as they were, %ju completions under tags of others refused\n",
+           (uintmax_t)tally.made, (uintmax_t)tally.again, (uintmax_t)tally.stale);
+    printf("%ju queues created, %ju deleted, %ju commands aborted\n", (uintmax_t)tally.created,
+           (uintmax_t)tally.deletions, (uintmax_t)tally.aborts);
     printf("%ju commands passed on, %ju of them Aborts, %ju named, %ju marked\n", (uintmax_t)tally.passed,
            (uintmax_t)tally.passed_aborts, (uintmax_t)tally.named, (uintmax_t)tally.marked);
     printf("%ju queues held, %ju classes and %ju depths set, %ju picks cut to the room\n", (uintmax_t)tally.held,
@@ -804,6 +735,6 @@ int main(int count, char **words)
     CHECK(tally.busy && tally.full && tally.created && tally.deletions && tally.together && tally.aborts);
     CHECK(tally.most > NVMEARB_MAX_REGIONS && tally.bad_sizes && tally.bad_offsets && tally.bad_vectors);
     CHECK(tally.passed && tally.marked && tally.passed_aborts && tally.named && tally.held && tally.classed);
-    CHECK(tally.cut && tally.deep);
+    CHECK(tally.cut && tally.deep && tally.again && tally.stale);
     return told();
 }

@@ -1,22 +1,9 @@
 /* What nvmearb_ctrl_verify finds: one number out of range, for each kind, and any bytes. */
 #include "ctrl.h"
+#include "places.h"
 #include "tell.h"
 
-/* Where numbers lie in a controller and in a slot. Each queue has a ring of slots, head and tail, and a chain of first,
- * last and length, each of 2 bytes. */
-enum {
-    PLACING = 16, /* where queues may lie */
-    BOARD = 16 + sizeof(nvmearb_table) - 8 + PLACING,
-    SQS = BOARD + sizeof(nvmearb_board) - 8,
-    SQ_SIZE = 18,
-    CQS = SQS + NVMEARB_MAX_REGIONS * SQ_SIZE,
-    CQ_SIZE = 14,
-    FREE_SLOTS = CQS + NVMEARB_MAX_REGIONS * CQ_SIZE
-};
-enum { HEAD = 2, TAIL = 4, FIRST = 6, LAST = 8, LENGTH = 10, CQID = 14 };
-enum { DEPTHS = FREE_SLOTS + 6, OUTSTANDING = DEPTHS + 2 * NVMEARB_MAX_QUEUES, PICKED_COUNT = OUTSTANDING + 2 };
-enum { DELETION = PICKED_COUNT + 4, DELETION_SIZE = 4 };
-enum { NEXT = 72, STATUS_TYPE = 74, SQID = 76, USED = 77 };
+static nvmearb_slot many[SLOTS];
 
 /* The controller and its slots pass, and don't with another number in `bytes` of these. */
 static int finds(void *at, unsigned where, unsigned value, unsigned bytes)
@@ -47,9 +34,11 @@ static void wrong_chain(unsigned at, unsigned used)
 /* One number out of range is found, wherever the calls rely on it. */
 static void overwritten(void)
 {
-    uint16_t tag = 0, other = 0;
+    uint32_t tag = 0;
+    uint16_t slot, other = 0;
     CHECK(is_prepared(NVMEARB_WEIGHTED) && nvmearb_ctrl_sq_tail(&ctrl, 1, 3) == NVMEARB_OK);
     CHECK(read_fetched(0, 40) && picked(1) && taken(40, &tag) && read_fetched(1, 41) && read_fetched(2, 42));
+    slot = NVMEARB_SLOT_OF(tag);
     CHECK(nvmearb_ctrl_sq_tail(&ctrl, 0, 4) == NVMEARB_OK && fetched(0, 2, IDENTIFY, 12, 0, 0, 0));
     CHECK(fetched(0, 3, IDENTIFY, 13, 0, 0, 0) && carried_out(NVMEARB_DONE) && carried_out(NVMEARB_DONE));
     CHECK(finds(&ctrl, SQS + SQ_SIZE + HEAD, 4, 2) && finds(&ctrl, SQS + SQ_SIZE + TAIL, 4, 2));
@@ -59,17 +48,17 @@ static void overwritten(void)
     wrong_chain(CQS + FIRST, 1);
     wrong_chain(FREE_SLOTS, 1);
     CHECK(finds(&slots[number_at(SQS + SQ_SIZE + LAST)], USED, 7, 1));
-    CHECK(finds(&slots[number_at(SQS + SQ_SIZE + FIRST)], SQID, 65, 1) && finds(&slots[tag], SQID, 65, 1));
+    CHECK(finds(&slots[number_at(SQS + SQ_SIZE + FIRST)], SQID, 65, 1) && finds(&slots[slot], SQID, 65, 1));
     CHECK(finds(&slots[number_at(CQS + FIRST)], STATUS_TYPE, 8, 1));
     CHECK(finds(&ctrl, OUTSTANDING, 257, 2) && finds(&ctrl, PICKED_COUNT, 3, 2));
-    CHECK(finds(&ctrl, SQS - 40, 3, 2) && finds(&ctrl, SQS - 40 + 10, 2, 2)); /* the mechanism, and the last served */
+    CHECK(finds(&ctrl, ARBITER, 3, 2) && finds(&ctrl, ARBITER + 10, 2, 2)); /* the mechanism, and the last served */
     CHECK(finds(&ctrl, 0, 1, 1) && finds(&ctrl, 1, 0, 1) && finds(&ctrl, DELETION, 1, 1)); /* the mark, a deletion */
     CHECK(nvmearb_ctrl_verify(&ctrl, slots, SLOTS - 1) == NVMEARB_ESTATE);
     CHECK(nvmearb_ctrl_verify(&ctrl, many, SLOTS) == NVMEARB_ESTATE);
     CHECK(posted_with(0, 2, 4, 12, 1, (nvmearb_status){0, 1}, 0, 8) && nvmearb_ctrl_sq_tail(&ctrl, 0, 5) == NVMEARB_OK);
     CHECK(fetched(0, 4, NVMEARB_OPC_DELETE_SQ, 14, 0, 1, 0) && carried_out(NVMEARB_BEGIN_DELETE));
     other = (uint16_t)number_at(DELETION + DELETION_SIZE + 2);
-    CHECK(finds(&ctrl, DELETION + DELETION_SIZE + 2, SLOTS, 2) && finds(&ctrl, DELETION + DELETION_SIZE + 2, tag, 2));
+    CHECK(finds(&ctrl, DELETION + DELETION_SIZE + 2, SLOTS, 2) && finds(&ctrl, DELETION + DELETION_SIZE + 2, slot, 2));
     CHECK(finds(&slots[other], USED, 0, 1));
 }
 

@@ -4,7 +4,7 @@ from __future__ import annotations
 
 import ctypes
 from collections.abc import Iterator
-from ctypes import byref, c_size_t, c_uint8, c_uint16
+from ctypes import byref, c_size_t, c_uint8, c_uint16, c_uint32
 from typing import Any, NamedTuple, Optional, Union
 
 from .arbiter import NO_LIMIT, Mechanism, Pick, Priority, Seen, pick_of
@@ -80,7 +80,9 @@ Step = Union[Picked, CarriedOut, Passed, Waits]
 
 
 class Command(NamedTuple):
-    """A command that the device has, with what `fetched` was given, and its tag."""
+    """A command that the device has, with what `fetched` was given, and its tag: the slot that holds it in bits 15:0, and
+    that slot's generation in bits 31:16. A tag is used up once its command is completed, after a reset too. It comes again
+    with the 65,536th command that is taken from its slot after it."""
 
     entry: Sqe
     cookie: int
@@ -110,7 +112,8 @@ class Controller:
         self.reset(config, placement)
 
     def reset(self, config: Config = Config(), placement: Placement = Placement()) -> None:
-        """Makes the controller anew, as where CC.EN becomes 1: nothing of before is left."""
+        """Makes the controller anew, as where CC.EN becomes 1: nothing of before is left but the generations of the slots, so
+        that tags of before are refused."""
         in_range(32, cdw11=config.cdw11, page=placement.page)
         in_range(16, nsq=config.nsq, ncq=config.ncq, depth=config.depth, admin_depth=config.admin_depth)
         in_range(16, mqes=placement.mqes, vectors=placement.vectors)
@@ -195,11 +198,11 @@ class Controller:
     def complete(
         self, tag: int, status: Status = Status(), dw0: int = 0, do_not_retry: bool = False, more: bool = False
     ) -> None:
-        """The device completes a command, whose completion is ready then."""
+        """The device completes a command, whose completion is ready then. Refused where it has none under this tag."""
         marks = do_not_retry + 2 * more
         in_range(8, sct=status.sct, sc=status.sc)
         fields = StatusFields(*status)
-        checked(self._call("complete_with", u16(tag=tag), byref(fields), u32(dw0=dw0), u8(marks=marks)))
+        checked(self._call("complete_with", u32(tag=tag), byref(fields), u32(dw0=dw0), u8(marks=marks)))
 
     def post(self, cqid: int) -> Optional[Post]:
         """The completion that became ready first in a completion queue, if it has room for it."""
@@ -220,7 +223,7 @@ class Controller:
 
     def named(self, qid: int, cid: int) -> Optional[int]:
         """The tag of the command of this queue and command identifier that the device has."""
-        tag = c_uint16()
+        tag = c_uint32()
         return tag.value if self._found("named", u16(qid=qid), u16(cid=cid), byref(tag)) else None
 
     def waiting(self, qid: int) -> Optional[int]:

@@ -72,7 +72,7 @@ class AnswerFields(Structure):
 
 
 class SlotState(Structure):
-    _fields_ = [("words", c_uint64 * 10)]
+    _fields_ = [("words", c_uint64 * 11)]
 
 
 class CtrlState(Structure):
@@ -99,11 +99,11 @@ class StepFields(Structure):
 
 
 class CommandFields(Structure):
-    _fields_ = [("entry", SqeFields), ("cookie", c_uint32), ("tag", c_uint16)]
+    _fields_ = [("entry", SqeFields), ("cookie", c_uint32), ("tag", c_uint32)]
 
 
 class PostFields(Structure):
-    _fields_ = [("bytes", c_uint8 * 16), ("cookie", c_uint32), ("tag", c_uint16), ("slot", c_uint16)]
+    _fields_ = [("bytes", c_uint8 * 16), ("cookie", c_uint32), ("tag", c_uint32), ("slot", c_uint16)]
 
 
 # The states, by their numbers for nvmearb_size, that the package makes.

@@ -61,21 +61,28 @@ impl Placement {
     }
 }
 
-/// The name of a command from its fetch until its completion is posted. After a reset the same tags are those of other
-/// commands.
+/// The name of a command that the device has, until it is completed: the slot that holds it, and that slot's generation,
+/// which goes up by one, modulo 65,536, each time the device takes a command of the slot. So calls refuse a tag that is
+/// used up: where the device completes a command twice, or late, after another command was taken from its slot, or after
+/// a reset. A tag comes again with the 65,536th command that is taken from its slot after it.
 #[derive(Clone, Copy, Debug, PartialEq, Eq, PartialOrd, Ord, Hash)]
-pub struct Tag(u16);
+pub struct Tag(u32);
 
 impl Tag {
-    /// Its number: the index of the command's slot.
-    pub fn number(self) -> u16 {
+    /// Both in one number: the slot in bits 15:0, and the generation in bits 31:16.
+    pub fn number(self) -> u32 {
         self.0
+    }
+
+    /// The index of the slot, below the number of slots: for an array in which the device keeps what it has of a command.
+    pub fn slot(self) -> u16 {
+        self.0 as u16
     }
 }
 
-/// As for a device that keeps its commands by number, or saves them. Calls refuse the tag of no command.
-impl From<u16> for Tag {
-    fn from(number: u16) -> Tag {
+/// As for a device that saves the tags of its commands. Calls refuse the tag of no command.
+impl From<u32> for Tag {
+    fn from(number: u32) -> Tag {
         Tag(number)
     }
 }
@@ -87,7 +94,7 @@ pub struct Command {
     pub entry: Sqe,
     /// What the caller gave [`Controller::fetched`] with it, for example the number of its queue.
     pub cookie: u32,
-    /// Its name until its completion is posted.
+    /// Its name until it is completed.
     pub tag: Tag,
 }
 
@@ -124,7 +131,7 @@ pub struct Post {
     pub bytes: [u8; CQE_BYTES],
     /// The cookie of its command.
     pub cookie: u32,
-    /// The tag of its command, free from now on.
+    /// The tag of its command, if the device took it: its slot is free from now on.
     pub tag: Tag,
     /// The slot of the ring.
     pub slot: u16,
@@ -151,7 +158,7 @@ impl Post {
 /// 1. When the host enables the controller (CC.EN), [`Controller::anywhere`] or [`Controller::reset_anywhere`] with the
 ///    admin queues: the host chooses where its queues lie. (After [`Controller::new`] a Create names a region that was
 ///    added by [`Controller::add_sq_region`] or [`Controller::add_cq_region`].) When CC.EN becomes 0, make no call until
-///    it is 1 again, and forget all tags: after the reset they are those of other commands.
+///    it is 1 again. After the reset what the device completes late under a [`Tag`] from before is refused.
 /// 2. [`Controller::own_opcode`] and [`Controller::own_feature`] for the admin commands that the device answers itself,
 ///    such as Identify.
 /// 3. At each doorbell write [`Controller::sq_tail`] or [`Controller::cq_head`].
@@ -244,8 +251,8 @@ impl<S: Slots> Controller<S> {
         Controller { ctrl, slots, one_caller: OneCaller::default() }
     }
 
-    /// Makes the controller anew with the slots that it has, as at a controller reset: nothing of before is left.
-    /// Refused as [`Controller::new`], and then the controller is as it was.
+    /// Makes the controller anew with the slots that it has, as at a controller reset: nothing of before is left but the
+    /// generations of the slots ([`Tag`]). Refused as [`Controller::new`], and then the controller is as it was.
     pub fn reset(&mut self, config: &Config) -> Result<(), Error> {
         let (ctrl, slots, count) = self.parts();
         // SAFETY: references.
@@ -437,7 +444,7 @@ impl<S: Slots> Controller<S> {
 
     /// The device completes a command, whose completion is ready then. `dw0` is its Dword 0.
     ///
-    /// [`Error::Missing`]: the device has no command of this tag: none was taken under it, or it is completed already.
+    /// [`Error::Missing`]: the device has no command of this tag: none was taken under it, or the tag is used up.
     pub fn complete(&mut self, tag: Tag, status: Status, dw0: u32) -> Result<(), Error> {
         let (ctrl, slots, count) = self.parts();
         // SAFETY: references, and the slots are those of the state.

@@ -10,7 +10,7 @@ pub struct Slot(sys::nvmearb_slot);
 
 impl Slot {
     /// A slot to make arrays of.
-    pub const EMPTY: Slot = Slot(sys::nvmearb_slot { words: [0; 10] });
+    pub const EMPTY: Slot = Slot(sys::nvmearb_slot { words: [0; 11] });
 
     pub(crate) fn words(&self) -> &[u64] {
         &self.0.words
@@ -29,7 +29,7 @@ impl Default for Slot {
 
 /// Memory for the slots of a controller: `[Slot; N]`, which lies in the controller and moves with it, `&mut [Slot]`, as
 /// where it is static, or with the feature `alloc` `Box<[Slot]>` (`boxed_slots`). Other crates can't implement it: a
-/// controller trusts that it gets the same slots each time.
+/// controller is to get the same slots each time, with what it wrote there.
 pub trait Slots: sealed::Slots {}
 
 pub(crate) mod sealed {

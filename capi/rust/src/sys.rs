@@ -3,7 +3,7 @@
 //!
 //! Their comments are those of the header. Who calls these functions keeps the rules of its first comment: pointers
 //! aren't null, are aligned, point to as many objects as the function's comment says, and what they point to is
-//! accessed by nothing else during the call; a controller and its slots are written by the library alone.
+//! accessed by nothing else during the call.
 #![allow(non_camel_case_types, missing_docs)]
 
 use core::mem::{size_of, zeroed};
@@ -299,7 +299,7 @@ pub struct nvmearb_queue {
 #[repr(C)]
 #[derive(Clone, Copy, Debug, Default)]
 pub struct nvmearb_slot {
-    pub words: [u64; 10],
+    pub words: [u64; 11],
 }
 
 pub const NVMEARB_MAX_SLOTS: usize = 65535;
@@ -364,7 +364,7 @@ pub struct nvmearb_step {
 pub struct nvmearb_command {
     pub entry: nvmearb_sqe,
     pub cookie: u32,
-    pub tag: u16,
+    pub tag: u32,
 }
 
 #[repr(C)]
@@ -372,7 +372,7 @@ pub struct nvmearb_command {
 pub struct nvmearb_post {
     pub bytes: [u8; NVMEARB_CQE_BYTES],
     pub cookie: u32,
-    pub tag: u16,
+    pub tag: u32,
     pub slot: u16,
 }
 
@@ -404,14 +404,14 @@ const _: () = {
     assert!(size_of::<nvmearb_table>() == 2768);
     assert!(size_of::<nvmearb_answer>() == 24);
     assert!(size_of::<nvmearb_queue>() == 8);
-    assert!(size_of::<nvmearb_slot>() == 80);
+    assert!(size_of::<nvmearb_slot>() == 88);
     assert!(size_of::<nvmearb_ctrl>() == 6128);
     assert!(size_of::<nvmearb_config>() == 48);
     assert!(size_of::<nvmearb_placement>() == 8);
     assert!(size_of::<nvmearb_asked>() == 16);
     assert!(size_of::<nvmearb_step>() == 56);
     assert!(size_of::<nvmearb_command>() == 72);
-    assert!(size_of::<nvmearb_post>() == 24);
+    assert!(size_of::<nvmearb_post>() == 28);
 };
 
 type SqeBytes = [u8; NVMEARB_SQE_BYTES];
@@ -475,12 +475,12 @@ extern "C" {
     pub fn nvmearb_ctrl_peek(ctrl: *const nvmearb_ctrl, slots: *const nvmearb_slot, count: usize, pick: *mut nvmearb_pick) -> u32;
     pub fn nvmearb_ctrl_pick(ctrl: *mut nvmearb_ctrl, slots: *mut nvmearb_slot, count: usize, room: u16, step: *mut nvmearb_step) -> u32;
     pub fn nvmearb_ctrl_take(ctrl: *mut nvmearb_ctrl, slots: *mut nvmearb_slot, count: usize, command: *mut nvmearb_command) -> u32;
-    pub fn nvmearb_ctrl_complete(ctrl: *mut nvmearb_ctrl, slots: *mut nvmearb_slot, count: usize, tag: u16, status: *const nvmearb_status, dw0: u32) -> u32;
-    pub fn nvmearb_ctrl_complete_with(ctrl: *mut nvmearb_ctrl, slots: *mut nvmearb_slot, count: usize, tag: u16, status: *const nvmearb_status, dw0: u32, marks: u8) -> u32;
+    pub fn nvmearb_ctrl_complete(ctrl: *mut nvmearb_ctrl, slots: *mut nvmearb_slot, count: usize, tag: u32, status: *const nvmearb_status, dw0: u32) -> u32;
+    pub fn nvmearb_ctrl_complete_with(ctrl: *mut nvmearb_ctrl, slots: *mut nvmearb_slot, count: usize, tag: u32, status: *const nvmearb_status, dw0: u32, marks: u8) -> u32;
     pub fn nvmearb_ctrl_post(ctrl: *mut nvmearb_ctrl, slots: *mut nvmearb_slot, count: usize, cqid: u16, post: *mut nvmearb_post) -> u32;
     pub fn nvmearb_ctrl_finish(ctrl: *mut nvmearb_ctrl, slots: *mut nvmearb_slot, count: usize, qid: *mut u16) -> u32;
-    pub fn nvmearb_ctrl_command(ctrl: *const nvmearb_ctrl, slots: *const nvmearb_slot, count: usize, tag: u16, command: *mut nvmearb_command) -> u32;
-    pub fn nvmearb_ctrl_named(ctrl: *const nvmearb_ctrl, slots: *const nvmearb_slot, count: usize, qid: u16, cid: u16, tag: *mut u16) -> u32;
+    pub fn nvmearb_ctrl_command(ctrl: *const nvmearb_ctrl, slots: *const nvmearb_slot, count: usize, tag: u32, command: *mut nvmearb_command) -> u32;
+    pub fn nvmearb_ctrl_named(ctrl: *const nvmearb_ctrl, slots: *const nvmearb_slot, count: usize, qid: u16, cid: u16, tag: *mut u32) -> u32;
     pub fn nvmearb_ctrl_sq(ctrl: *const nvmearb_ctrl, qid: u16, region: *mut u16) -> u32;
     pub fn nvmearb_ctrl_cq(ctrl: *const nvmearb_ctrl, cqid: u16, region: *mut u16) -> u32;
     pub fn nvmearb_ctrl_waiting(ctrl: *const nvmearb_ctrl, qid: u16, count: *mut u16) -> u32;

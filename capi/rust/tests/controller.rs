@@ -94,19 +94,24 @@ fn posted_with(ctrl: &mut Controller, cqid: u16, want: (u16, u16, u16, bool, Sta
 /// A controller whose host created both queues 1, of 4 slots.
 fn prepared(mechanism: Mechanism) -> Controller {
     let mut ctrl = Controller::new(&config(mechanism), boxed_slots(SLOTS)).unwrap();
+    create_queues(&mut ctrl);
+    ctrl
+}
+
+/// The host of a new controller creates both.
+fn create_queues(ctrl: &mut Controller) {
     assert_eq!((ctrl.add_sq_region(SQ, 4), ctrl.add_cq_region(CQ, 4)), (Ok(1), Ok(1)));
     assert_eq!(ctrl.sq_tail(0, 2), Ok(()));
-    fetched(&mut ctrl, 0, 0, admin(CREATE_CQ, 10, CQ, 0x0003_0001, 0x0000_0001));
-    fetched(&mut ctrl, 0, 1, admin(CREATE_SQ, 11, SQ, 0x0003_0001, 0x0001_0001));
+    fetched(ctrl, 0, 0, admin(CREATE_CQ, 10, CQ, 0x0003_0001, 0x0000_0001));
+    fetched(ctrl, 0, 1, admin(CREATE_SQ, 11, SQ, 0x0003_0001, 0x0001_0001));
     assert_eq!(ctrl.fetch(0), None);
-    assert_eq!(carried_out(&mut ctrl), Verdict::OpenCq { qid: 1, region: 1 });
-    assert!(matches!(carried_out(&mut ctrl), Verdict::OpenSq { qid: 1, region: 1, cqid: 1, .. }));
+    assert_eq!(carried_out(ctrl), Verdict::OpenCq { qid: 1, region: 1 });
+    assert!(matches!(carried_out(ctrl), Verdict::OpenSq { qid: 1, region: 1, cqid: 1, .. }));
     assert_eq!((ctrl.pick(NO_LIMIT), ctrl.peek()), (Ok(Step::Idle), None));
-    posted(&mut ctrl, 0, (0, 2, 10, true, Status::SUCCESS, 0));
-    posted(&mut ctrl, 0, (1, 2, 11, true, Status::SUCCESS, 0));
+    posted(ctrl, 0, (0, 2, 10, true, Status::SUCCESS, 0));
+    posted(ctrl, 0, (1, 2, 11, true, Status::SUCCESS, 0));
     assert_eq!(ctrl.post(0), None);
     assert_eq!((ctrl.cq_head(0, 3), ctrl.cq_head(0, 2)), (Err(DoorbellError::Value), Ok(())));
-    ctrl
 }
 
 #[test]
@@ -171,7 +176,7 @@ fn commands_go_through_and_rings_go_round() {
     // the device answers in another order
     assert_eq!(ctrl.complete(tags[2], Status::SUCCESS, 0), Ok(()));
     assert_eq!(ctrl.complete(tags[2], Status::SUCCESS, 0), Err(Error::Missing));
-    assert_eq!(ctrl.complete(Tag::from(SLOTS as u16), Status::SUCCESS, 0), Err(Error::Missing));
+    assert_eq!(ctrl.complete(Tag::from(SLOTS as u32), Status::SUCCESS, 0), Err(Error::Missing));
     assert_eq!(ctrl.command(tags[2]), None);
     assert_eq!(ctrl.complete(tags[0], Status::SUCCESS, 5), Ok(()));
     let marks = Marks { more: true, do_not_retry: true };
@@ -287,6 +292,44 @@ fn reset_leaves_nothing_of_before() {
     fetched(&mut ctrl, 0, 0, admin(GET_FEATURES, 1, 0, feature::ARBITRATION.into(), 0));
     assert_eq!(carried_out(&mut ctrl), Verdict::Done);
     posted(&mut ctrl, 0, (0, 1, 1, true, Status::SUCCESS, 7));
+}
+
+/// The nth Read of queue 1 is taken.
+fn taken_as(ctrl: &mut Controller, n: u16) -> Tag {
+    assert_eq!(ctrl.sq_tail(1, (n + 1) % 4), Ok(()));
+    fetched(ctrl, 1, n % 4, read(n));
+    picked(ctrl, 1);
+    taken(ctrl, n)
+}
+
+/// Reads of queue 1 go through, until one is taken into this slot.
+fn taken_into(ctrl: &mut Controller, slot: u16) -> Tag {
+    for n in 0..=SLOTS as u16 {
+        let tag = taken_as(ctrl, n);
+        if tag.slot() == slot {
+            return tag;
+        }
+        assert_eq!(ctrl.complete(tag, Status::SUCCESS, 0), Ok(()));
+        assert_eq!(ctrl.post(1).map(|post| (post.slot, post.tag)), Some((n % 4, tag)));
+        assert_eq!(ctrl.cq_head(1, (n + 1) % 4), Ok(()));
+    }
+    panic!("slot {slot} isn't used again");
+}
+
+#[test]
+fn tags_are_used_up() {
+    let mut ctrl = prepared(Mechanism::RoundRobin);
+    let first = taken_into(&mut ctrl, 7);
+    assert_eq!((first.number(), first, ctrl.named(1, 5)), (0x1_0007, Tag::from(0x1_0007), Some(first)));
+    // a reset: its command is gone, and the next one in its slot has another tag
+    assert_eq!(ctrl.reset(&config(Mechanism::RoundRobin)), Ok(()));
+    assert_eq!((ctrl.command(first), ctrl.complete(first, Status::SUCCESS, 0)), (None, Err(Error::Missing)));
+    create_queues(&mut ctrl);
+    let second = taken_into(&mut ctrl, 7);
+    assert_eq!((second.number(), ctrl.command(first)), (0x2_0007, None));
+    assert_eq!(ctrl.complete(first, Status::SUCCESS, 0), Err(Error::Missing));
+    assert_eq!(ctrl.complete_with(first, Status::SUCCESS, 0, Marks::DO_NOT_RETRY), Err(Error::Missing));
+    assert_eq!((ctrl.complete(second, Status::SUCCESS, 0), ctrl.post(1).map(|it| it.tag)), (Ok(()), Some(second)));
 }
 
 #[test]

@@ -126,6 +126,7 @@ fn constants_are_those_of_the_header() {
         .lines()
         .filter_map(|line| line.strip_prefix("#define "))
         .filter_map(|line| line.split_once(' ').map(|(name, _)| name))
+        .filter(|name| !name.contains('(')) // (Tag::slot is that macro)
         .collect();
     assert_eq!(CONSTANTS.iter().map(|(name, _)| *name).collect::<BTreeSet<_>>(), defined);
     let statements: String = CONSTANTS

@@ -46,21 +46,25 @@ impl Drawn {
     }
 }
 
-/// A controller, with the entries that were fetched and have no completion posted, by their cookies; and how many
-/// completions of admin and of I/O commands were posted, and how many admin commands were passed on.
+/// A controller, with the entries that were fetched and have no completion posted, by their cookies, and the last tag of
+/// each slot; and how many completions of admin and of I/O commands were posted, and how many admin commands were passed
+/// on.
 struct Driven {
     ctrl: Controller,
     open: HashMap<u32, Sqe>,
+    tags: [Tag; SLOTS],
     cookie: u32,
     posts: [u32; 2],
     passed: u32,
 }
 
+const SLOTS: usize = 24;
+
 impl Driven {
     fn new(mechanism: Mechanism) -> Driven {
         let (asq, acq) = (Region { address: 0x1000, slots: 8 }, Region { address: 0x2000, slots: 8 });
         let config = Config { asq, acq, mechanism, cdw11: 2, nsq: 4, ncq: 4, depth: 16, admin_depth: 16 };
-        let mut ctrl = Controller::new(&config, boxed_slots(24)).unwrap();
+        let mut ctrl = Controller::new(&config, boxed_slots(SLOTS)).unwrap();
         for address in [0x3000, 0x4000, 0x5000] {
             ctrl.add_sq_region(address, 8).unwrap();
             ctrl.add_cq_region(address + 0x800, 8).unwrap();
@@ -72,7 +76,29 @@ impl Driven {
         while ctrl.pick(NO_LIMIT).unwrap().made().is_some() {}
         while ctrl.post(0).is_some() {}
         assert_eq!((ctrl.sq(1), ctrl.cq(1)), (Some(1), Some(1)));
-        Driven { ctrl, open: HashMap::new(), cookie: 0, posts: [0; 2], passed: 0 }
+        let tags = std::array::from_fn(|slot| Tag::from(slot as u32));
+        Driven { ctrl, open: HashMap::new(), tags, cookie: 0, posts: [0; 2], passed: 0 }
+    }
+
+    /// The last tag of a slot, or now and then one of another generation.
+    fn tag(&self, drawn: &mut Drawn) -> Tag {
+        let last = self.tags[usize::from(drawn.below(SLOTS as u16)) % SLOTS];
+        match drawn.below(8) {
+            0 => last.number().wrapping_sub(0x1_0000).into(),
+            1 => (drawn.word() as u32).into(),
+            _ => last,
+        }
+    }
+
+    fn complete(&mut self, drawn: &mut Drawn, marks: Option<Marks>) {
+        let (tag, status) = (self.tag(drawn), Status::new(drawn.below(8) as u8 % 8, drawn.below(4) as u8).unwrap());
+        let is_out = self.ctrl.command(tag).is_some();
+        let told = match marks {
+            Some(marks) => self.ctrl.complete_with(tag, status, 0, marks),
+            None => self.ctrl.complete(tag, status, 0),
+        };
+        assert_eq!(told.is_ok(), is_out);
+        assert!(!is_out || self.tags[usize::from(tag.slot())] == tag);
     }
 
     fn fetched(&mut self, qid: u16, drawn: &mut Drawn) {
@@ -113,18 +139,13 @@ impl Driven {
             6 => {
                 if let Some(command) = self.ctrl.take() {
                     assert_eq!(self.open.get(&command.cookie), Some(&command.entry));
+                    let last = &mut self.tags[usize::from(command.tag.slot())];
+                    assert_eq!(command.tag.number(), last.number() + 0x1_0000);
+                    *last = command.tag;
                 }
             }
-            7 => _ = self.ctrl.complete(drawn.below(24).into(), Status::new(b as u8 % 8, a as u8).unwrap(), 0),
-            8 => {
-                let marks = Marks { more: a % 2 == 1, do_not_retry: b % 2 == 1 };
-                _ = self.ctrl.complete_with(
-                    drawn.below(24).into(),
-                    Status::new(b as u8 % 8, a as u8).unwrap(),
-                    0,
-                    marks,
-                );
-            }
+            7 => self.complete(drawn, None),
+            8 => self.complete(drawn, Some(Marks { more: a % 2 == 1, do_not_retry: b % 2 == 1 })),
             9 | 10 => self.post(a),
             11 if a == 0 => {
                 self.ctrl.own_opcode(b as u8);
@@ -138,10 +159,11 @@ impl Driven {
             }
             _ => {
                 self.ctrl.finish();
-                let (command, queue) = (self.ctrl.command(b.into()), (self.ctrl.sq(a), self.ctrl.cq(a)));
+                let tag = self.tag(drawn);
+                let (command, queue) = (self.ctrl.command(tag), (self.ctrl.sq(a), self.ctrl.cq(a)));
                 assert_eq!(
-                    (command.map_or(Tag::from(b), |it| it.tag), queue.0.unwrap_or(0) / 4, queue.1.unwrap_or(0) / 4),
-                    (Tag::from(b), 0, 0)
+                    (command.map_or(tag, |it| it.tag), queue.0.unwrap_or(0) / 4, queue.1.unwrap_or(0) / 4),
+                    (tag, 0, 0)
                 );
                 assert_eq!(self.ctrl.waiting(a).is_some(), queue.0.is_some());
             }

@@ -83,7 +83,7 @@ fn summed(mut bytes: Vec<u8>) -> Vec<u8> {
 fn a_controller_goes_on_after_its_snapshot() {
     let (mut ctrl, first) = busy();
     let bytes = ctrl.to_vec();
-    assert_eq!((bytes.len(), ctrl.snapshot_len()), (FIRST_SLOT + 80 * SLOTS, bytes.len()));
+    assert_eq!((bytes.len(), ctrl.snapshot_len()), (FIRST_SLOT + 88 * SLOTS, bytes.len()));
     let mut other = taken(&bytes, SLOTS).unwrap();
     assert_eq!(other.to_vec(), bytes);
     ends(&mut other, first);
