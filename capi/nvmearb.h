@@ -254,32 +254,29 @@ uint32_t nvmearb_cqe_encode(const nvmearb_cqe *fields, uint8_t bytes[NVMEARB_CQE
 
 /*
  * Writes the status of an I/O command: that of the first check that it fails, or success. Flush, Write and Read are
- * supported. `sizes` has the sizes of `count` namespaces in logical blocks, that of namespace identifier 1 first. No
- * data is moved. PSDT isn't looked at: a device that moves data by PRPs calls nvmearb_check instead.
+ * supported. `sizes` has the sizes of `count` namespaces in logical blocks, that of namespace identifier 1 first. PSDT
+ * isn't looked at: a device that moves data by PRPs calls nvmearb_check instead.
  * NVMEARB_EARG if `count` is above NVMEARB_MAX_NAMESPACES or a size is 0.
  */
 uint32_t nvmearb_outcome(const nvmearb_sqe *entry, const uint64_t *sizes, size_t count, nvmearb_status *status);
 
 /*
- * Writes the status of an I/O command as nvmearb_outcome does, for a device that moves data by PRPs: it looks at PSDT
- * too, and namespaces may be inactive and any number. A size of 0 says that the namespace identifier is inactive. The
- * first of these that is so gives the status, and 0/00 where none is:
+ * Writes the status of an I/O command as nvmearb_outcome does, and looks at PSDT too. Namespaces may be any number,
+ * and inactive, which a size of 0 says. The first of these that is so gives the status, and 0/00 where none is:
  *   0/02, Invalid Field in Command: FUSE isn't 0; PSDT isn't 0, so that it asks for SGLs or is reserved
  *   0/01, Invalid Command Opcode: the command is no Flush, Write or Read
  *   0/02: NSID is FFFFFFFFh, and the command is no Flush. A Flush with this NSID succeeds
  *   0/0b, Invalid Namespace or Format: NSID is 0 or above `count`
  *   0/02: NSID is inactive
  *   0/80, LBA Out of Range: SLBA + NLB + 1 of a Write or Read is more than the size
- * With PSDT 0, over at most NVMEARB_MAX_NAMESPACES namespaces that are all active, it is the status that
- * nvmearb_outcome writes. 0/01 says that the command passed what stands above it, so a device with more opcodes goes on
- * from there.
+ * A device with more opcodes goes on from 0/01, which says that the command passed what stands above it.
  */
 void nvmearb_check(const nvmearb_sqe *entry, const uint64_t *sizes, size_t count, nvmearb_status *status);
 
 /*
  * Writes the status of a command that names logical blocks by NSID, SLBA and NLB (Command Dwords 10 to 12), as Write,
- * Read, Write Uncorrectable, Compare, Write Zeroes and Verify do: that of the last four rows above, as of a Read. The
- * opcode, FUSE and PSDT aren't looked at.
+ * Read, Write Uncorrectable, Compare, Write Zeroes and Verify do: that of the last four rows above, as of a Read.
+ * Nothing else is looked at.
  */
 void nvmearb_range(const nvmearb_sqe *entry, const uint64_t *sizes, size_t count, nvmearb_status *status);
 
@@ -314,8 +311,9 @@ void nvmearb_settings_of(uint32_t cdw11, nvmearb_settings *settings);
 
 /*
  * An arbiter. nvmearb_arbiter_init initialises it, and it may be copied. Its fields are the library's. It is valid if
- * `mechanism` is one of the two and each of `last` is at most 65536, whoever wrote them: zeros aren't, and other memory
- * that was never initialised may be. A valid arbiter picks as one that has served what its fields say.
+ * `mechanism` is one of the two and each of `last` is at most 65536, whoever wrote them: zeros aren't, and other
+ * memory that was never initialised may be. Each other call first answers NVMEARB_ESTATE if it isn't valid; a valid one
+ * picks as one that has served what its fields say.
  */
 typedef struct nvmearb_arbiter {
     uint32_t mechanism;
@@ -345,16 +343,13 @@ typedef struct nvmearb_pick {
  */
 uint32_t nvmearb_arbiter_init(nvmearb_arbiter *arbiter, uint32_t mechanism, uint32_t cdw11);
 
-/*
- * Takes new settings. They start a new round; which queues were served last is kept.
- * NVMEARB_ESTATE if `arbiter` isn't valid.
- */
+/* Takes new settings. They start a new round; which queues were served last is kept. */
 uint32_t nvmearb_arbiter_set(nvmearb_arbiter *arbiter, uint32_t cdw11);
 
 /*
  * Writes what nvmearb_arbiter_pick would pick. `seen` has `count` queues; the more there are, the longer it takes.
- * NVMEARB_ESTATE if `arbiter` isn't valid; otherwise NVMEARB_EARG if `count` is above NVMEARB_MAX_QUEUES, a queue of
- * `seen` has a field outside its range, or the identifiers don't ascend; otherwise NVMEARB_NONE if no command waits.
+ * NVMEARB_EARG if `count` is above NVMEARB_MAX_QUEUES, a queue of `seen` has a field outside its range, or the
+ * identifiers don't ascend; otherwise NVMEARB_NONE if no command waits.
  */
 uint32_t nvmearb_arbiter_peek(const nvmearb_arbiter *arbiter, const nvmearb_seen *seen, size_t count, nvmearb_pick *pick);
 
@@ -362,12 +357,10 @@ uint32_t nvmearb_arbiter_peek(const nvmearb_arbiter *arbiter, const nvmearb_seen
 uint32_t nvmearb_arbiter_pick(nvmearb_arbiter *arbiter, const nvmearb_seen *seen, size_t count, nvmearb_pick *pick);
 
 /*
- * Picks at most `limit` commands: as nvmearb_arbiter_pick, but n is the least of that n and `limit`. It is for a caller
- * that has room for so many commands: the burst is the most that may be fetched at a time (Command Arbitration), so a
- * pick may take fewer. The arbiter counts only these n as served. The rest waits until the turn of its queue comes
+ * Picks at most `limit` commands: as nvmearb_arbiter_pick, but n is the least of that n and `limit`, for a caller that
+ * has room for so many. The arbiter counts only these n as served. The rest waits until the turn of its queue comes
  * again; what they would have used of the weight of their class stays.
- * NVMEARB_ESTATE if `arbiter` isn't valid; otherwise NVMEARB_EARG if `limit` is 0 or as nvmearb_arbiter_peek; otherwise
- * NVMEARB_NONE if no command waits.
+ * NVMEARB_EARG if `limit` is 0 or as nvmearb_arbiter_peek; otherwise NVMEARB_NONE if no command waits.
  */
 uint32_t nvmearb_arbiter_pick_up_to(nvmearb_arbiter *arbiter, const nvmearb_seen *seen, size_t count, uint16_t limit,
                                     nvmearb_pick *pick);
@@ -378,10 +371,9 @@ uint32_t nvmearb_arbiter_pick_up_to(nvmearb_arbiter *arbiter, const nvmearb_seen
  */
 
 /*
- * A board: an arbiter with the open queues and the number of commands that wait in each. nvmearb_board_init initialises
- * it, and it may be copied. Its fields are the library's. It is valid if `mark` is what nvmearb_board_init writes and
- * the arbiter is valid. The other fields may have any value: a valid board answers as one with the queues that they
- * say.
+ * A board. nvmearb_board_init initialises it, and it may be copied. Its fields are the library's. It is valid if
+ * `mark` is what nvmearb_board_init writes and the arbiter is valid; the other fields may have any value. Each other
+ * call first answers NVMEARB_ESTATE if it isn't valid; a valid one answers as one with the queues that they say.
  */
 typedef struct nvmearb_board {
     uint64_t mark;
@@ -399,40 +391,35 @@ uint32_t nvmearb_board_init(nvmearb_board *board, uint32_t mechanism, uint32_t c
 
 /*
  * Opens a queue, in which no command waits.
- * NVMEARB_ESTATE if `board` isn't valid; otherwise NVMEARB_EARG if the queue is open, `qid` is above 64, or `priority`
- * isn't one that the queue can have: NVMEARB_ADMIN for queue 0, NVMEARB_URGENT .. NVMEARB_LOW for the others.
+ * NVMEARB_EARG if the queue is open, `qid` is above 64, or `priority` isn't one that the queue can have: NVMEARB_ADMIN
+ * for queue 0, NVMEARB_URGENT .. NVMEARB_LOW for the others.
  */
 uint32_t nvmearb_board_open(nvmearb_board *board, uint16_t qid, uint16_t priority);
 
 /*
  * Closes a queue. The number of its waiting commands is forgotten; what was served is kept.
- * NVMEARB_ESTATE if `board` isn't valid; otherwise NVMEARB_EARG if the queue isn't open.
+ * NVMEARB_EARG if the queue isn't open.
  */
 uint32_t nvmearb_board_close(nvmearb_board *board, uint16_t qid);
 
-/*
- * One more command waits in a queue.
- * NVMEARB_ESTATE if `board` isn't valid; otherwise NVMEARB_EARG if the queue isn't open or NVMEARB_MAX_COUNT commands
- * wait in it.
- */
+/* One more command waits in a queue: nvmearb_board_came_n with an `n` of 1. */
 uint32_t nvmearb_board_came(nvmearb_board *board, uint16_t qid);
 
 /*
  * `n` more commands wait in a queue, as after a doorbell write. An `n` of 0 changes nothing.
- * NVMEARB_ESTATE if `board` isn't valid; otherwise NVMEARB_EARG if the queue isn't open or more than NVMEARB_MAX_COUNT
- * commands would wait in it.
+ * NVMEARB_EARG if the queue isn't open or more than NVMEARB_MAX_COUNT commands would wait in it.
  */
 uint32_t nvmearb_board_came_n(nvmearb_board *board, uint16_t qid, uint16_t n);
 
 /*
  * One waiting command left a queue without being picked, for example because it was aborted.
- * NVMEARB_ESTATE if `board` isn't valid; otherwise NVMEARB_EARG if the queue isn't open or no command waits in it.
+ * NVMEARB_EARG if the queue isn't open or no command waits in it.
  */
 uint32_t nvmearb_board_went(nvmearb_board *board, uint16_t qid);
 
 /*
  * Writes what nvmearb_board_pick would pick.
- * NVMEARB_ESTATE if `board` isn't valid; otherwise NVMEARB_NONE if no command waits.
+ * NVMEARB_NONE if no command waits.
  */
 uint32_t nvmearb_board_peek(const nvmearb_board *board, nvmearb_pick *pick);
 
@@ -443,14 +430,12 @@ uint32_t nvmearb_board_peek(const nvmearb_board *board, nvmearb_pick *pick);
 uint32_t nvmearb_board_pick(nvmearb_board *board, nvmearb_pick *pick);
 
 /*
- * Picks at most `limit` commands: as nvmearb_board_pick, but n is the least of that n and `limit`, as
- * nvmearb_arbiter_pick_up_to tells. The rest of them still waits.
- * NVMEARB_ESTATE if `board` isn't valid; otherwise NVMEARB_EARG if `limit` is 0; otherwise NVMEARB_NONE if no command
- * waits.
+ * Picks at most `limit` commands, as nvmearb_arbiter_pick_up_to tells. The rest of them still waits.
+ * NVMEARB_EARG if `limit` is 0; otherwise NVMEARB_NONE if no command waits.
  */
 uint32_t nvmearb_board_pick_up_to(nvmearb_board *board, uint16_t limit, nvmearb_pick *pick);
 
-/* Takes new settings, as nvmearb_arbiter_set. The queues stay. NVMEARB_ESTATE if `board` isn't valid. */
+/* Takes new settings, as nvmearb_arbiter_set. The queues stay. */
 uint32_t nvmearb_board_set(nvmearb_board *board, uint32_t cdw11);
 
 /*
@@ -483,9 +468,9 @@ typedef struct nvmearb_region {
 } nvmearb_region;
 
 /*
- * A queue table: the regions, queues and features of a controller. nvmearb_table_init initialises it, and it may be
- * copied. Its fields are the library's. It is valid if `mark` is what nvmearb_table_init writes. The other fields may
- * have any value: a valid table answers as one with the regions, queues and features that they say.
+ * A queue table. nvmearb_table_init initialises it, and it may be copied. Its fields are the library's. It is valid if
+ * `mark` is what nvmearb_table_init writes; the other fields may have any value. Each other call first answers
+ * NVMEARB_ESTATE if it isn't valid; a valid one answers as one with the regions, queues and features that they say.
  */
 typedef struct nvmearb_table {
     uint64_t mark;
@@ -547,11 +532,11 @@ typedef struct nvmearb_queue {
 uint32_t nvmearb_table_init(nvmearb_table *table, uint16_t nsq, uint16_t ncq, uint32_t cdw11);
 
 /*
- * Adds a submission region of `slots` slots, and writes its number. Numbers count from 0. Region 0 is that of the admin
- * queue, which is open from then on. A Create command takes one of the others, which no later Create can take again.
- * NVMEARB_ESTATE if `table` isn't valid; otherwise the first of these: NVMEARB_EUSED if a region of either kind has
- * this address, NVMEARB_EMANY if NVMEARB_MAX_REGIONS submission regions are there, NVMEARB_ESIZE if `slots` isn't 2 to
- * 4096.
+ * Adds a submission region of `slots` slots, and writes its number. Numbers count from 0. Region 0 is that of the
+ * admin queue, which is open from then on. A Create command takes one of the others, which no later Create can take
+ * again.
+ * The first of these: NVMEARB_EUSED if a region of either kind has this address, NVMEARB_EMANY if NVMEARB_MAX_REGIONS
+ * submission regions are there, NVMEARB_ESIZE if `slots` isn't 2 to 4096.
  */
 uint32_t nvmearb_table_add_sq_region(nvmearb_table *table, uint64_t address, uint16_t slots, uint16_t *number);
 
@@ -567,11 +552,10 @@ uint32_t nvmearb_table_add_cq_region(nvmearb_table *table, uint64_t address, uin
  * Command Dword 0. Otherwise the Abort is answered with 1: also if its SQID is 0, if the queue isn't open or is
  * closing, or if the command was picked.
  *
- * An opcode that is none of the seven kinds (NVMEARB_ADMIN_..) is answered with 0/01, Invalid Command Opcode; Set and
- * Get Features with a feature identifier other than 01h and 07h, and an entry whose FUSE isn't 0, with 0/02, Invalid
- * Field in Command. A controller that has more commands, such as Identify, looks at `kind` and `fid` of
- * nvmearb_admin_of first and keeps those entries from the table.
- * NVMEARB_ESTATE if `table` isn't valid.
+ * Other opcodes than those of NVMEARB_ADMIN_.. are answered with 0/01, Invalid Command Opcode; Set and Get Features of
+ * other identifiers than 01h and 07h, and an entry whose FUSE isn't 0, with 0/02, Invalid Field in Command. A
+ * controller that has more commands, such as Identify, looks at `kind` and `fid` of nvmearb_admin_of first and keeps
+ * those entries from the table.
  */
 uint32_t nvmearb_table_apply(nvmearb_table *table, const uint8_t bytes[NVMEARB_SQE_BYTES], nvmearb_answer *answer);
 
@@ -582,29 +566,26 @@ uint32_t nvmearb_table_apply(nvmearb_table *table, const uint8_t bytes[NVMEARB_S
  *   - answers each command of the queue that waits with 0/08, Command Aborted due to SQ Deletion,
  *   - waits until the commands of the queue that were picked are answered too,
  *   - makes this call, and only then answers the Delete, with success.
- * NVMEARB_ESTATE if `table` isn't valid; otherwise NVMEARB_EARG if the queue isn't closing.
+ * NVMEARB_EARG if the queue isn't closing.
  */
 uint32_t nvmearb_table_finish_delete(nvmearb_table *table, uint16_t qid);
 
 /*
  * Writes what the table has of a submission queue.
- * NVMEARB_ESTATE if `table` isn't valid; otherwise NVMEARB_NONE if the queue is neither open nor closing.
+ * NVMEARB_NONE if the queue is neither open nor closing.
  */
 uint32_t nvmearb_table_sq(const nvmearb_table *table, uint16_t qid, nvmearb_queue *queue);
 
 /*
  * Writes the number of the region of a completion queue.
- * NVMEARB_ESTATE if `table` isn't valid; otherwise NVMEARB_NONE if the queue isn't open.
+ * NVMEARB_NONE if the queue isn't open.
  */
 uint32_t nvmearb_table_cq(const nvmearb_table *table, uint16_t qid, uint16_t *region);
 
-/*
- * Writes how many I/O submission queues and I/O completion queues are allotted, each 1 to NVMEARB_MAX_IO_QUEUES.
- * NVMEARB_ESTATE if `table` isn't valid.
- */
+/* Writes how many I/O submission queues and I/O completion queues are allotted, each 1 to NVMEARB_MAX_IO_QUEUES. */
 uint32_t nvmearb_table_allotted(const nvmearb_table *table, uint16_t *nsq, uint16_t *ncq);
 
-/* Writes the settings of the Arbitration feature. NVMEARB_ESTATE if `table` isn't valid. */
+/* Writes the settings of the Arbitration feature. */
 uint32_t nvmearb_table_settings(const nvmearb_table *table, nvmearb_settings *settings);
 
 /*
