@@ -221,7 +221,7 @@ fn prepared(
     step(rt, &mut ctrl, slots, true);
     post(rt, &mut ctrl, slots, 0, (0, 2, 10, true), Status::SUCCESS);
     post(rt, &mut ctrl, slots, 0, (1, 2, 11, true), Status::SUCCESS);
-    assert_eq!(rt; post_next(ctrl, slots, 0), None);
+    assert_eq!(rt; post_next(&mut ctrl, slots, 0), None);
     head(rt, &mut ctrl, slots, 0, 3, false);
     head(rt, &mut ctrl, slots, 0, 2, true);
     Ok(ctrl)

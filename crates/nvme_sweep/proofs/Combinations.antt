@@ -1,5 +1,5 @@
 -- The points of a sweep are all combinations.
-use Rattle.std.proofs.Common.{◌≡◌, ◌<◌, ◌≤◌, ℕ, zero, suc, ◌+◌, ◌*◌, ◌/◌, ◌%◌, List, [], ◌∷◌, drop, get_or, length, refl, arith}
+use Rattle.std.proofs.Common.{◌≡◌, ◌<◌, ◌≤◌, ℕ, zero, suc, ◌+◌, ◌*◌, ◌/◌, List, [], ◌∷◌, drop, get_or, length, refl, arith, ◌⊎◌, inl, inr}
 use Rattle.std.proofs.Math.Nat.{div-lt_iff_lt-mul, mod-lt, mul_assoc, mul_comm}
 use Rattle.std.proofs.lemmas.List.{drop_more}
 use Rattle.std.proofs.lemmas.Nat.{div-add-mod', div-mul-add, mod-mul-add, row_fits}
@@ -49,6 +49,21 @@ next_count lengths i c total l e =
     let split : drop i lengths ≡ get_or lengths i 0 ∷ drop (i + 1) lengths = drop_more lengths i 0 l in
     let whole : c * (count_of (drop (i + 1) lengths) * get_or lengths i 0) ≡ total = rw split at e in
     rw (next_product c (get_or lengths i 0) (count_of (drop (i + 1) lengths))) whole
+
+-- a product is at least one of its factors, unless the others are none
+times_rest : (c m : ℕ) → (c * m ≡ 0) ⊎ (c ≤ c * m)
+times_rest c zero = inl (let e : c * zero ≡ 0 = omega arith in omega (arith, e))
+times_rest c (suc m) = inr (let e : c * suc m ≡ c + c * m = omega arith in omega (arith, e))
+
+-- so where one doesn't fit, there are too many in all, or none
+pub too_many : (lengths : List ℕ) (i c total : ℕ) → i < length lengths → c * count_of (drop i lengths) ≡ total → 0x1_0000_0000_0000_0000 ≤ c * get_or lengths i 0
+    → (total ≡ 0) ⊎ (0x1_0000_0000_0000_0000 ≤ total)
+too_many lengths i c total l e above =
+    let whole : c * get_or lengths i 0 * count_of (drop (i + 1) lengths) ≡ total = next_count lengths i c total l e in
+    elim (times_rest (c * get_or lengths i 0) (count_of (drop (i + 1) lengths))) [
+      | inl none ↦ inl (omega (arith, none, whole))
+      | inr some ↦ inr (omega (arith, some, whole, above))
+    ]
 
 pub all_combinations : (ns : List ℕ) → AreAll ns
 all_combinations ns = record {

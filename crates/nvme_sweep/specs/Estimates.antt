@@ -1,7 +1,8 @@
 -- Means over seeds, and the intervals around them. (profile)
-use Rattle.std.specs.Prelude.{◌≡◌, ◌≤◌, ◌<◌, ℕ, ◌+◌, ◌-◌, ◌*◌, ◌/◌, List, get_or, length, min, sum}
+use Rattle.std.specs.Prelude.{◌≡◌, ◌≢◌, ◌≤◌, ◌<◌, ◌⊎◌, IfNone, IfSome, None, ℕ, ◌+◌, ◌-◌, ◌*◌, ◌/◌, List, get_or, length, min, sum}
 use Rattle.std.specs.Int.{abs_diff}
 use Rattle.std.specs.List.{sum_by}
+use Rattle.nvme_sweep.specs.declared.estimates.Estimate.{Estimate}
 use Rattle.nvme_sweep.specs.declared.estimates.TheConstants.{QUANTILES}
 
 -- a mean, rounded down
@@ -34,3 +35,30 @@ IsQuantile count quantile = quantile ≡ get_or QUANTILES (min (count - 2) 99) 0
 -- half the width of the interval of 95 %
 abbrev pub IsInterval : List ℕ → ℕ → Type 0
 IsInterval values half = (quantile : ℕ) × IsQuantile (length values) quantile × IsHalfWidth quantile values half
+
+-- ---- what there isn't
+-- a number of 128 bits can't be this
+abbrev pub IsTooLarge : ℕ → Type 0
+IsTooLarge n = 0x1_0000_0000_0000_0000_0000_0000_0000_0000 ≤ n
+
+-- values have no mean: there are none, or their sum is too large
+abbrev pub LacksMean : List ℕ → Type 0
+LacksMean values = (length values ≡ 0) ⊎ IsTooLarge (sum values)
+
+-- a number by which half the width of an interval is reckoned is too large
+abbrev pub IsTooWide : ℕ → List ℕ → Type 0
+IsTooWide quantile values =
+    IsTooLarge (quantile * quantile) ⊎ (IsTooLarge (pair_differences values values) ⊎ (IsTooLarge (quantile * quantile * pair_differences values values)
+    ⊎ IsTooLarge (length values * length values * (length values - 1) * 2_000_000)))
+
+-- values have no interval
+abbrev pub LacksInterval : List ℕ → Type 0
+LacksInterval values = (length values < 2) ⊎ ((quantile : ℕ) × IsQuantile (length values) quantile × IsTooWide quantile values)
+
+-- an estimate of the values that seeds gave: none where a seed gave none, and else what the values have
+pub record IsEstimate (values : List ℕ) (seeds : ℕ) (estimate : Estimate) : Type 0 where
+  pub missing : length values ≢ seeds → (estimate.mean ≡ None) × (estimate.half ≡ None)
+  pub mean : length values ≡ seeds → IfSome estimate.mean (IsMean values)
+  pub no_mean : length values ≡ seeds → IfNone estimate.mean (LacksMean values)
+  pub half : length values ≡ seeds → IfSome estimate.half (IsInterval values)
+  pub no_half : length values ≡ seeds → IfNone estimate.half (LacksInterval values)

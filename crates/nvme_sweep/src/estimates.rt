@@ -1,6 +1,6 @@
 // Means over seeds, and how far they may be off.
-ghost use Rattle.std.specs.Prelude.{◌≡◌, IfSome, length, sum};
-ghost use Rattle.nvme_sweep.specs.Estimates.{IsHalfWidth, IsInterval, IsMean, IsQuantile, differences_from, pair_differences};
+ghost use Rattle.std.specs.Prelude.{◌≡◌, ◌<◌, ◌⊎◌, IfNone, IfSome, length, sum};
+ghost use Rattle.nvme_sweep.specs.Estimates.{IsEstimate, IsHalfWidth, IsInterval, IsMean, IsQuantile, IsTooLarge, IsTooWide, LacksInterval, LacksMean, differences_from, pair_differences};
 
 // The 97.5 % quantiles of Student's t in thousandths, of 1, 2 and so on degrees of freedom.
 const QUANTILES: [u128; 100] = [
@@ -25,7 +25,8 @@ pub struct Estimate {
 
 // The sum of values. `None` where it doesn't fit.
 fn sum_of(values: &[u128]) -> Option<u128>
-    ensures { IfSome result (λ s. s ≡ sum values.now) }
+    ensures sum { IfSome result (λ s. s ≡ sum values.now) }
+    ensures none { IfNone result (IsTooLarge (sum values.now)) }
 {
     let mut sum = 0u128;
     for value in values {
@@ -36,7 +37,8 @@ fn sum_of(values: &[u128]) -> Option<u128>
 
 /// The mean of values, rounded down. `None` of no value, or where their sum doesn't fit.
 pub fn mean(values: &[u128]) -> Option<u128>
-    ensures { IfSome result (IsMean values.now) }
+    ensures mean { IfSome result (IsMean values.now) }
+    ensures none { IfNone result (LacksMean values.now) }
 {
     sum_of(values)?.checked_div(values.len() as u128)
 }
@@ -44,7 +46,8 @@ pub fn mean(values: &[u128]) -> Option<u128>
 // The sum of the squared differences between a value and values. `None` where it doesn't fit.
 #[tactic(auto, unfolding(crate::specs::Estimates::differences_from))]
 fn differences(value: u128, values: &[u128]) -> Option<u128>
-    ensures { IfSome result (λ s. s ≡ differences_from value values.now) }
+    ensures sum { IfSome result (λ s. s ≡ differences_from value values.now) }
+    ensures none { IfNone result (IsTooLarge (differences_from value values.now)) }
 {
     let mut sum = 0u128;
     for other in values {
@@ -56,7 +59,8 @@ fn differences(value: u128, values: &[u128]) -> Option<u128>
 
 // The sum of the squared differences between all pairs of values, each pair in both orders. `None` where it doesn't fit.
 fn differences_of_pairs(values: &[u128]) -> Option<u128>
-    ensures { IfSome result (λ s. s ≡ pair_differences values.now values.now) }
+    ensures sum { IfSome result (λ s. s ≡ pair_differences values.now values.now) }
+    ensures none { IfNone result (IsTooLarge (pair_differences values.now values.now)) }
 {
     let mut sum = 0u128;
     for value in values {
@@ -68,7 +72,8 @@ fn differences_of_pairs(values: &[u128]) -> Option<u128>
 // The quantile for so many values, in thousandths: one degree of freedom less. Above 100 degrees it is that of 100, which is
 // at most 1.3 % too wide. `None` of fewer than two values.
 fn quantile(count: usize) -> Option<u128>
-    ensures { IfSome result (IsQuantile count) }
+    ensures quantile { IfSome result (IsQuantile count) }
+    ensures none { IfNone result (count < 2) }
 {
     let index = count.checked_sub(2)?.min(99);
     Some(QUANTILES[index])
@@ -76,7 +81,8 @@ fn quantile(count: usize) -> Option<u128>
 
 // Half the width of the interval by a quantile in thousandths. `None` of fewer than two values, or where the numbers don't fit.
 fn half_width_by(quantile: u128, values: &[u128]) -> Option<u128>
-    ensures { IfSome result (IsHalfWidth quantile values.now) }
+    ensures half { IfSome result (IsHalfWidth quantile values.now) }
+    ensures none { IfNone result ((length values.now < 2) ⊎ IsTooWide quantile values.now) }
 {
     let count = values.len() as u128;
     let above = quantile
@@ -93,13 +99,16 @@ fn half_width_by(quantile: u128, values: &[u128]) -> Option<u128>
 /// Half the width of the interval of 95 % around the mean of values that are drawn independently, by Student's t, rounded down.
 /// `None` of fewer than two values, or where the numbers don't fit.
 pub fn half_width(values: &[u128]) -> Option<u128>
-    ensures { IfSome result (IsInterval values.now) }
+    ensures interval { IfSome result (IsInterval values.now) }
+    ensures none { IfNone result (LacksInterval values.now) }
 {
     half_width_by(quantile(values.len())?, values)
 }
 
 /// The mean of the values of seeds, of which a seed may have none, and half the width of its interval.
-pub fn estimate_of(values: &[u128], seeds: usize) -> Estimate {
+pub fn estimate_of(values: &[u128], seeds: usize) -> Estimate
+    ensures estimate { IsEstimate values.now seeds result }
+{
     if values.len() != seeds {
         return Estimate {
             mean: None,

@@ -6,7 +6,7 @@ use nvme_numbers::class_name;
 use nvme_version::VERSION;
 use std::io::{self, Write};
 
-// Writes the line of names.
+/// Writes the line of names.
 pub fn put_names<W: Write>(sweep: &Sweep, writer: &mut W) -> io::Result<()> {
     for axis in &sweep.axes {
         let key = axis.key;

@@ -1,7 +1,7 @@
-use Rattle.std.proofs.Common.{◌≡◌, take}
+use Rattle.std.proofs.Common.{◌≡◌, ◌+◌, drop}
 use Rattle.nvme_sweep.specs.Estimates.{differences_from}
 use Rattle.nvme_sweep.proofs.estimates.differences.Given as goal
 
--- the sum so far
+-- the sum so far and that of what is left are that of all
 abbrev pub invariant-loop-other : goal.invariant-loop-other
-invariant-loop-other l = l.sum ≡ differences_from l.value (take l.other-index l.values)
+invariant-loop-other l = l.sum + differences_from l.value (drop l.other-index l.values) ≡ differences_from l.value l.values
