@@ -1,5 +1,5 @@
 -- What a controller of C is, and what its calls write, in the library's terms (profile).
-use Rattle.std.specs.Prelude.{◌≡◌, ℕ, ◌/◌, ◌%◌, ◌==◌, ◌&&◌, nat_lt, nat_le, Bool, true, false, if◌then◌else◌, List, [], length, Option, None, IsSomeAnd}
+use Rattle.std.specs.Prelude.{◌≡◌, ℕ, ◌/◌, ◌%◌, ◌==◌, ◌&&◌, nat_lt, nat_le, Bool, true, false, if◌then◌else◌, List, [], length, Option, None, IsSomeAnd, is_some}
 use Rattle.std.specs.Int.{is_power_of_two}
 use Rattle.nvme_entry.specs.Bits.{bits_of, dword}
 use Rattle.nvme_entry.specs.declared.completion.Cqe.{Cqe}
@@ -14,10 +14,10 @@ use Rattle.nvme_ctrl.specs.Notes.{Notes}
 use Rattle.nvme_ctrl.specs.Standing.{Stands, IsController, has_arbiter}
 use Rattle.nvme_ctrl.specs.Tags.{is_out}
 use Rattle.nvme_ctrl.specs.Generations.{tag_at, tag_of, slot_of, number_of}
-use Rattle.nvme_ctrl.specs.Making.{first_rules, anywhere_rules}
+use Rattle.nvme_ctrl.specs.Making.{first_rules, anywhere_rules, placing_in}
 use Rattle.nvme_ctrl.specs.Calls.{HasPosted}
 use Rattle.nvme_ctrl.specs.Posts.{IsPostOf}
-use Rattle.nvme_ctrl.specs.Steps.{HasDone}
+use Rattle.nvme_ctrl.specs.Steps.{HasDone, NamesIdentifiers}
 use Rattle.nvme_admin.specs.Effects.{verdict_in}
 use Rattle.nvme_admin.specs.Placing.{vector_of, interrupts_of}
 use Rattle.nvme_admin.specs.declared.effect.Effect.{Effect}
@@ -119,12 +119,14 @@ asked_in (OpenSq qid region cqid cq_region class) entry = record { address = ent
 asked_in (OpenCq qid region) entry = record { address = entry.prp1; qsize = bits_of 31 16 entry.cdw10; vector = vector_of entry; interrupts = if interrupts_of entry then 1 else 0 }
 asked_in effect entry = nothing_asked
 
--- a command of the admin queue was picked and carried out, and what it came to is told, with what it asked for
+-- a command of the admin queue was picked and carried out, and what it came to is told, with what it asked for. Where queues may lie anywhere, the regions that
+-- are told are identifiers
 pub record HasToldWhat (rules : FrontRules) (late : Bool) (notes : Notes) (told : AnswerFields) (asked : AskedFields) (c : Controller) (slots : List Slot) : Type 0 where
   pub effect : Effect
   pub entry : Sqe
   pub told_is : told ≡ answer_of (verdict_in effect)
   pub asked_is : asked ≡ asked_in effect entry
+  pub anywhere : is_some (placing_in rules) ≡ true → NamesIdentifiers effect
   pub done : HasDone rules late notes effect entry c slots
 
 -- the pick of a step that picked nothing for the device

@@ -1,6 +1,7 @@
 // What is seen of a controller of C.
 ghost use Rattle.std.specs.Prelude.{◌≡◌, ◌≢◌, ◌≤◌, ◌⊎◌, ◌↔◌, ℕ, Bool, true, false, List, length, None, Some, IsTrue, IsFalse, IsSomeAnd, is_some};
 ghost use Rattle.nvme_ctrl.specs.Making.{placing_in};
+ghost use Rattle.nvme_ctrl.specs.Steps.{IsIdentifier};
 ghost use Rattle.nvme_log.specs.Rules.{FrontRules};
 ghost use Rattle.nvme_log.specs.Queues.{Queue, open_sq, open_cq};
 ghost use Rattle.nvme_log.specs.Places.{entry_at, waiting};
@@ -101,6 +102,7 @@ pub extern "C" fn nvmearb_ctrl_sq(state: &CtrlState, qid: u16, region: &mut u16)
     ensures nothing { (rules : FrontRules) (late : Bool) (notes : Notes) (slots : List Slot) → Stands rules late notes state.now.ctrl slots → result ≡ NOTHING → open_sq (logged notes) qid ≡ None }
     ensures found { (rules : FrontRules) (late : Bool) (notes : Notes) (slots : List Slot) → Stands rules late notes state.now.ctrl slots → result ≡ OK → is_some (open_sq (logged notes) qid) ≡ true }
     ensures on_regions { (rules : FrontRules) (late : Bool) (notes : Notes) (slots : List Slot) → Stands rules late notes state.now.ctrl slots → placing_in rules ≡ None → result ≡ OK → IsSomeAnd (open_sq (logged notes) qid) (λ queue. region.new ≡ queue.region) }
+    ensures anywhere { (rules : FrontRules) (late : Bool) (notes : Notes) (slots : List Slot) → Stands rules late notes state.now.ctrl slots → is_some (placing_in rules) ≡ true → result ≡ OK → IsIdentifier qid region.new }
     ensures unchanged { result ≢ OK → region.new ≡ region.old }
 {
     if !is_ctrl(state) {
@@ -123,6 +125,7 @@ pub extern "C" fn nvmearb_ctrl_cq(state: &CtrlState, cqid: u16, region: &mut u16
     ensures nothing { (rules : FrontRules) (late : Bool) (notes : Notes) (slots : List Slot) → Stands rules late notes state.now.ctrl slots → result ≡ NOTHING → open_cq (logged notes) cqid ≡ None }
     ensures found { (rules : FrontRules) (late : Bool) (notes : Notes) (slots : List Slot) → Stands rules late notes state.now.ctrl slots → result ≡ OK → is_some (open_cq (logged notes) cqid) ≡ true }
     ensures on_regions { (rules : FrontRules) (late : Bool) (notes : Notes) (slots : List Slot) → Stands rules late notes state.now.ctrl slots → placing_in rules ≡ None → result ≡ OK → open_cq (logged notes) cqid ≡ Some region.new }
+    ensures anywhere { (rules : FrontRules) (late : Bool) (notes : Notes) (slots : List Slot) → Stands rules late notes state.now.ctrl slots → is_some (placing_in rules) ≡ true → result ≡ OK → IsIdentifier cqid region.new }
     ensures unchanged { result ≢ OK → region.new ≡ region.old }
 {
     if !is_ctrl(state) {

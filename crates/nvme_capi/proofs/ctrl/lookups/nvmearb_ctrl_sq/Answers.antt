@@ -15,3 +15,6 @@ returns-in-Some-clause-on_regions c = λ rules late notes slots s placing _.
 pub returns-in-None-clause-nothing : goal.returns-in-None-clause-nothing
 returns-in-None-clause-nothing c = λ rules late notes slots s _.
     none_there (open_sq (logged notes) c.args.qid) (sym (c.sq_region.ensures.told rules late notes slots s) ∙ ap is_some c.in-None.is)
+
+pub returns-in-Some-clause-anywhere : goal.returns-in-Some-clause-anywhere
+returns-in-Some-clause-anywhere c = λ rules late notes slots s on _ few. c.from.ensures ∙ c.in-Some.ensures.anywhere rules late notes slots s on few
