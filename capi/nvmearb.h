@@ -646,7 +646,8 @@ typedef struct nvmearb_slot {
  *
  * A controller and its slots are numbers without a pointer, so both together may be moved, or saved as bytes and
  * restored by a library of the same major and minor version, if what is restored takes the place of the first. The mark
- * has these numbers. Neither is copied to be used beside the first.
+ * has these numbers. Neither is copied to be used beside the first. What the device took after the saving is to be
+ * dropped, since the same tags come again after the restoring.
  *
  * These calls take the longer the more there is of something, and no other one does:
  *
