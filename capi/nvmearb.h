@@ -727,7 +727,10 @@ typedef struct nvmearb_command {
     uint32_t tag;
 } nvmearb_command;
 
-/* The slot of a tag, below `count` of nvmearb_ctrl_init: for an array in which the device keeps what it has of a command. */
+/*
+ * The slot of a tag, for an array in which the device keeps what it has of a command. It is below `count` of
+ * nvmearb_ctrl_init, unless something else wrote into the controller or its slots.
+ */
 #define NVMEARB_SLOT_OF(tag) ((tag) & 0xffffu)
 
 /*
