@@ -627,7 +627,8 @@ typedef struct nvmearb_slot {
  *
  * A controller and its slots are numbers without a pointer, so both together may be moved, or saved as bytes and
  * restored by a library of the same major and minor version, if what is restored takes the place of the first. The mark
- * has these numbers. Neither is copied to be used beside the first.
+ * has these numbers. Neither is copied to be used beside the first. What the device took after the saving is to be
+ * dropped, since the same tags come again after the restoring.
  *
  * These calls take the longer the more there is of something, and no other one does:
  *
@@ -707,7 +708,10 @@ typedef struct nvmearb_command {
     uint32_t tag;
 } nvmearb_command;
 
-/* The slot of a tag, below `count` of nvmearb_ctrl_init: for an array in which the device keeps what it has of a command. */
+/*
+ * The slot of a tag, for an array in which the device keeps what it has of a command. It is below `count` of
+ * nvmearb_ctrl_init, unless something else wrote into the controller or its slots.
+ */
 #define NVMEARB_SLOT_OF(tag) ((tag) & 0xffffu)
 
 /*

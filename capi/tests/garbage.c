@@ -198,10 +198,31 @@ static void forget(struct call *it)
     }
 }
 
-/* Whether what a call that is done wrote is its own: nothing by a look-up, and mark and number of slots by none. */
+/* Whether what a call that is done told is of its kind, whatever the controller's bytes. */
+static int is_of_its_kind(const struct call *it)
+{
+    const nvmearb_step *step = &it->step;
+    const nvmearb_pick *pick = which == PEEK ? &it->pick : &step->pick;
+    int is_carried_out = which == PICK && step->kind == NVMEARB_CARRIED_OUT;
+    if (which == SEEN)
+        return it->seen.qid == it->a && it->seen.priority <= NVMEARB_LOW && it->seen.count <= NVMEARB_MAX_COUNT;
+    if (is_carried_out)
+        return step->answer.verdict <= NVMEARB_ABORT && step->answer.priority <= NVMEARB_LOW && step->answer.status.sct < 8;
+    if (which != PICK && which != PEEK)
+        return 1;
+    return (which == PEEK || step->kind == NVMEARB_PICKED || step->kind == NVMEARB_PASSED) && pick->fresh <= 1 &&
+           pick->qid < NVMEARB_MAX_QUEUES && pick->n >= 1 && pick->n <= NVMEARB_MAX_COUNT;
+}
+
+/*
+ * Whether what a call that is done wrote is its own: nothing by a look-up, and mark and number of slots by none. An
+ * arbiter stays one.
+ */
 static int is_well_done(const struct object *it)
 {
     int is_look = which == PEEK || (which >= FETCH && which < WITHOUT_SLOTS) || which >= COMMAND;
+    if (!is_of_its_kind(it->call) || (is_arbiter(before.ctrl) && !is_arbiter(it->ctrl)))
+        return 0;
     forget(it->call), forget(before.call);
     if (is_look)
         return are_same(it);

@@ -135,17 +135,13 @@ impl<S: Slots> Controller<S> {
 
     /// The controller of a snapshot, which takes the place of the one that wrote it, over memory for as many slots.
     /// What isn't a snapshot of this version, or was changed by mistake, is refused, and then
-    /// [`Controller::verify`] looks at all numbers.
-    ///
-    /// # Safety
-    ///
-    /// [`Controller::to_bytes`] wrote the bytes. It isn't proved that a controller which somebody else made up, with
-    /// a right sum and with numbers in range, reads and writes its own memory alone.
+    /// [`Controller::verify`] looks at all numbers. A controller which somebody made up, with a right sum and with numbers
+    /// in range, reads and writes its own memory alone, as any does, but what it answers is worth nothing.
     ///
     /// # Panics
     ///
     /// If the library isn't of this crate's version.
-    pub unsafe fn from_bytes(bytes: &[u8], mut slots: S) -> Result<Controller<S>, SnapshotError> {
+    pub fn from_bytes(bytes: &[u8], mut slots: S) -> Result<Controller<S>, SnapshotError> {
         crate::check_version();
         check(bytes, slots.all().len())?;
         let mut numbers = bytes[HEAD..].chunks_exact(8).map(|it| {

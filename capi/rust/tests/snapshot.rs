@@ -61,8 +61,7 @@ fn ends(ctrl: &mut Controller, first: Tag) {
 
 /// What becomes of bytes.
 fn taken(bytes: &[u8], slots: usize) -> Result<Controller, SnapshotError> {
-    // SAFETY: `to_bytes` wrote them, or they are refused.
-    unsafe { Controller::from_bytes(bytes, boxed_slots(slots)) }
+    Controller::from_bytes(bytes, boxed_slots(slots))
 }
 
 fn refused(bytes: &[u8], slots: usize) -> SnapshotError {
@@ -118,6 +117,21 @@ fn changed_snapshots_are_refused() {
     }
 }
 
+/// Calls over a controller that was made up: none panics.
+fn calls_return(mut ctrl: Controller) {
+    for qid in 0..66 {
+        _ = (ctrl.sq_tail(qid, 1), ctrl.fetch(qid), ctrl.fetched(qid, &[0x5a; 64], 0));
+        _ = (ctrl.seen(qid), ctrl.waiting(qid), ctrl.waits(qid, 0), ctrl.sq(qid), ctrl.cq(qid), ctrl.named(qid, 20));
+    }
+    for _ in 0..8 {
+        _ = (ctrl.peek(), ctrl.pick(NO_LIMIT), ctrl.finish());
+        if let Some(command) = ctrl.take() {
+            _ = (ctrl.command(command.tag), ctrl.complete(command.tag, Status::SUCCESS, 0));
+        }
+        (0..66).for_each(|cqid| _ = (ctrl.post(cqid), ctrl.cq_head(cqid, 1)));
+    }
+}
+
 #[test]
 fn numbers_out_of_range_are_refused_behind_a_right_sum() {
     let bytes = busy().0.to_vec();
@@ -127,7 +141,10 @@ fn numbers_out_of_range_are_refused_behind_a_right_sum() {
         let mut other = bytes.clone();
         other[at..at + 8].fill(0xff);
         match taken(&summed(other), SLOTS) {
-            Ok(ctrl) => assert_eq!(ctrl.verify(), Ok(())),
+            Ok(ctrl) => {
+                assert_eq!(ctrl.verify(), Ok(()));
+                calls_return(ctrl);
+            }
             Err(why) => {
                 assert_eq!(why, SnapshotError::State);
                 states += 1;
