@@ -110,7 +110,7 @@ impl<S: Slots> Controller<S> {
     }
 
     /// Writes a snapshot of the controller, as for a migration: what it knows of its queues and commands. Tags and
-    /// cookies stay, so the device saves with it what it has under them.
+    /// cookies stay, so the device saves with it what it has under them, and where its queues lie.
     ///
     /// # Panics
     ///
@@ -139,8 +139,8 @@ impl<S: Slots> Controller<S> {
     ///
     /// # Safety
     ///
-    /// [`Controller::to_bytes`] wrote the bytes. It isn't proved that a controller which somebody else made up, with
-    /// a right sum and with numbers in range, reads and writes its own memory alone.
+    /// [`Controller::to_bytes`] wrote the bytes. A controller which somebody else made up, with a right sum and with
+    /// numbers in range, reads and writes its own memory alone, but nothing more is promised of what it answers.
     ///
     /// # Panics
     ///
