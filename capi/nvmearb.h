@@ -12,8 +12,8 @@
  *
  *   1. nvmearb_is_of_this_header, which answers 0 for an unproved library too (NVMEARB_UNPROVED).
  *   2. When the host enables the controller (CC.EN), nvmearb_ctrl_init_anywhere with the admin queues (AQA, ASQ, ACQ).
- *      When CC.EN becomes 0, stop: make no call until it is 1 again, and begin again here. Nothing of before is left,
- *      and what the device completes late under a tag from before is refused (nvmearb_command).
+ *      Where it refuses what the host wrote, set CSTS.CFS. When CC.EN becomes 0, stop: make no call until it is 1 again,
+ *      and begin again here. Tags from before are used up then (nvmearb_command), and nothing else of before is left.
  *   3. nvmearb_ctrl_own_opcode and nvmearb_ctrl_own_feature for the admin commands that the device answers itself, such
  *      as Identify.
  *   4. At each doorbell write nvmearb_ctrl_sq_tail or nvmearb_ctrl_cq_head.
@@ -26,10 +26,10 @@
  *   8. For each completion queue, while nvmearb_ctrl_post gives a completion: write its bytes into the slot of the
  *      ring, Dword 3 last, since it has the phase tag, and then send the interrupt of the queue's vector, if
  *      its enable bit is set.
- *   9. After a pick that began a deletion, nvmearb_ctrl_finish at once and after each 8., while it ends one.
- *  10. Go back to 5., for every queue, until a pass does nothing: posts and the end of a deletion make room for
- *      fetches. The completion of its Delete is posted in the next pass. Go back too once the device can take more
- *      commands than at its last pick, or no longer holds a queue (nvmearb_ctrl_hold).
+ *   9. After a pick that began a deletion, nvmearb_ctrl_finish at once and after each 8., while it answers NVMEARB_OK.
+ *  10. Go back to 5., for every queue, until a pass does nothing: posts make room for fetches, and the end of a deletion
+ *      makes the completion of its Delete ready. Go back too once the device can take more commands than at its last
+ *      pick, or no longer holds a queue (nvmearb_ctrl_hold).
  *
  * What holds of all calls. Every function is proved (crates/nvme_capi), unless NVMEARB_UNPROVED says otherwise. None
  * allocates, waits, starts a thread, keeps a pointer, or reads or writes anything but what its arguments point to, and all
@@ -787,11 +787,11 @@ uint32_t nvmearb_ctrl_add_cq_region(nvmearb_ctrl *ctrl, uint64_t address, uint16
  * a feature identifier with 0/02, Invalid Field in Command.
  *
  * The controller aborts a command that waits: it is answered with 0/07, Command Abort Requested. An Abort that names
- * any other command is answered with 1 as Dword 0, not aborted, unless NVMEARB_OPC_ABORT was announced here.
- * Then it is passed on to the device, which looks up the tag of that command by nvmearb_ctrl_named (SQID and CID are in
- * nvmearb_admin_of), ends it if it can, completes it with 0/07, and completes the Abort with 0 as Dword 0, or 1 where it
- * couldn't. Where the host has more Aborts out than Identify allows (ACL), the device completes one with 1/03, Abort
- * Command Limit Exceeded. capi/examples/admin.c ends Asynchronous Event Requests so.
+ * any other command is answered with 1 as Dword 0, not aborted, unless NVMEARB_OPC_ABORT was announced here. Then it is
+ * passed on to the device, which looks up the tag of that command by nvmearb_ctrl_named (nvmearb_admin_of tells its
+ * queue and identifier), completes it with 0/07 if it can end it, and then the Abort with 0 as Dword 0, or else with 1.
+ * Where the host has more Aborts out than Identify allows (ACL), the device completes one with 1/03, Abort Command Limit
+ * Exceeded. capi/examples/admin.c ends Asynchronous Event Requests so.
  * NVMEARB_ESTATE if `ctrl` isn't valid.
  */
 uint32_t nvmearb_ctrl_own_opcode(nvmearb_ctrl *ctrl, uint8_t opcode);
@@ -819,7 +819,7 @@ uint32_t nvmearb_ctrl_set_depth(nvmearb_ctrl *ctrl, uint16_t qid, uint16_t depth
 
 /*
  * From now on no command of a submission queue is picked, if `on` is 1, or they are again, if it is 0: for a queue that
- * the device can't serve, say since a namespace of it is busy. What waits in it stays there, and up to its depth it is
+ * the device can't serve, say since a namespace is busy. What waits in it stays there, and up to its depth it is
  * fetched as before; an Abort and a deletion still end it. Commands that were picked stay picked. The queue may be the
  * admin queue. A queue that is created anew isn't held.
  * NVMEARB_ESTATE if `ctrl` isn't valid; otherwise NVMEARB_EARG if `on` is above 1; otherwise NVMEARB_NONE if the queue
@@ -850,6 +850,7 @@ uint32_t nvmearb_ctrl_sq_tail(nvmearb_ctrl *ctrl, uint16_t qid, uint16_t tail);
  * The host wrote the head doorbell of a completion queue: `head` is bits 15:00 of the value.
  * NVMEARB_ESTATE if `ctrl` isn't valid; otherwise NVMEARB_NONE if the queue isn't open; otherwise NVMEARB_EARG if the
  * ring has no such slot, or not as many completions were posted.
+ * The host has entries to read, for which a pin stays asserted, unless `head` is the slot after that of the last post.
  */
 uint32_t nvmearb_ctrl_cq_head(nvmearb_ctrl *ctrl, uint16_t cqid, uint16_t head);
 
@@ -882,8 +883,7 @@ uint32_t nvmearb_ctrl_peek(const nvmearb_ctrl *ctrl, const nvmearb_slot *slots, 
  * Makes the next pick of arbitration, and writes what it did. `room` says how many commands the device can take now; a
  * device without a bound passes NVMEARB_NO_LIMIT. The queue is the one that is picked with any room, and n the least of
  * the burst, what its class has left of its weight, what waits in the queue, and `room`: the burst is the most that may
- * be fetched at a time (Command Arbitration). The rest of the burst waits until the turn of its queue comes again, and
- * what it would have used of the weight stays.
+ * be fetched at a time (Command Arbitration). The rest waits as nvmearb_arbiter_pick_up_to tells.
  *
  * An admin command is picked alone, and wants a room of 1: where the device is full, nvmearb_ctrl_peek tells whether one
  * is next. One that isn't the device's is carried out at once: queues are created, a deletion begins and the waiting

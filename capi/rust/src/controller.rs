@@ -539,8 +539,7 @@ impl<S: Slots> Controller<S> {
     }
 
     /// Looks whether the numbers of the controller and its slots are within their ranges. They are unless something
-    /// outside of Rust's rules wrote into them, such as a device of the machine, or they were made up
-    /// ([`Controller::from_bytes`]): this finds most of that, and looks at each slot.
+    /// outside of Rust's rules wrote into them, or made them up: this finds most of that, and looks at each slot.
     ///
     /// [`Error::State`]: one is out of its range.
     pub fn verify(&self) -> Result<(), Error> {
