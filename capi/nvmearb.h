@@ -12,8 +12,8 @@
  *
  *   1. nvmearb_is_of_this_header, which answers 0 for an unproved library too (NVMEARB_UNPROVED).
  *   2. When the host enables the controller (CC.EN), nvmearb_ctrl_init_anywhere with the admin queues (AQA, ASQ, ACQ).
- *      When CC.EN becomes 0, stop: make no call until it is 1 again, and begin again here. Nothing of before is left,
- *      and what the device completes late under a tag from before is refused (nvmearb_command).
+ *      Where it refuses what the host wrote, set CSTS.CFS. When CC.EN becomes 0, stop: make no call until it is 1 again,
+ *      and begin again here. Tags from before are used up then (nvmearb_command), and nothing else of before is left.
  *   3. nvmearb_ctrl_own_opcode and nvmearb_ctrl_own_feature for the admin commands that the device answers itself, such
  *      as Identify.
  *   4. At each doorbell write nvmearb_ctrl_sq_tail or nvmearb_ctrl_cq_head.
@@ -26,10 +26,10 @@
  *   8. For each completion queue, while nvmearb_ctrl_post gives a completion: write its bytes into the slot of the
  *      ring, Dword 3 last, since it has the phase tag, and then send the interrupt of the queue's vector, if
  *      its enable bit is set.
- *   9. After a pick that began a deletion, nvmearb_ctrl_finish at once and after each 8., while it ends one.
- *  10. Go back to 5., for every queue, until a pass does nothing: posts and the end of a deletion make room for
- *      fetches. The completion of its Delete is posted in the next pass. Go back too once the device can take more
- *      commands than at its last pick.
+ *   9. After a pick that began a deletion, nvmearb_ctrl_finish at once and after each 8., while it answers NVMEARB_OK.
+ *  10. Go back to 5., for every queue, until a pass does nothing: posts make room for fetches, and the end of a deletion
+ *      makes the completion of its Delete ready. Go back too once the device can take more commands than at its last
+ *      pick, or no longer holds a queue (nvmearb_ctrl_hold).
  *
  * What holds of all calls. Every function is proved (crates/nvme_capi), unless NVMEARB_UNPROVED says otherwise. None
  * allocates, waits, starts a thread, keeps a pointer, or reads or writes anything but what its arguments point to, and all
@@ -97,7 +97,7 @@ uint32_t nvmearb_size(uint32_t state);
  * NVMEARB_OK, it has written nothing.
  */
 #define NVMEARB_OK 0u     /* done */
-#define NVMEARB_NONE 1u   /* there is nothing to pick, no such queue or no such command */
+#define NVMEARB_NONE 1u   /* there is nothing to do, no such queue or no such command */
 #define NVMEARB_EARG 2u   /* an argument isn't valid */
 #define NVMEARB_ESTATE 3u /* the state isn't valid: not initialised, overwritten, or of another version */
 #define NVMEARB_EUSED 4u  /* another region has this address */
@@ -620,15 +620,15 @@ typedef struct nvmearb_slot {
  * nvmearb_ctrl_pick look.
  *
  * The caller hands each call the array of slots that the controller was made with, and writes neither into it nor into
- * the controller. Where anything else is written there, a call still reads and writes no more than it is given, and
- * returns, but nothing else is promised of what it answers and writes. nvmearb_ctrl_verify finds most of what was written
- * there. The caller reads no slot of a ring but the one that nvmearb_ctrl_fetch tells, and posts no completion but those
- * of nvmearb_ctrl_post. A ring has 64 or 16 bytes for each slot, from its address on.
+ * the controller. Whatever bytes lie there, a call reads and writes no more than it is given, and returns. If something
+ * else wrote them, nothing more is promised of what it answers and writes; nvmearb_ctrl_verify finds most of that. The
+ * caller reads no slot of a ring but the one that nvmearb_ctrl_fetch tells, and posts no completion but those of
+ * nvmearb_ctrl_post. A ring has 64 or 16 bytes for each slot, from its address on.
  *
  * A controller and its slots are numbers without a pointer, so both together may be moved, or saved as bytes and
- * restored by a library of the same major and minor version, if what is restored takes the place of the first. The mark
- * has these numbers. Neither is copied to be used beside the first. What the device took after the saving is to be
- * dropped, since the same tags come again after the restoring.
+ * restored by a library of the same major and minor version, which the mark has. What is restored takes the place of the
+ * first: no copy is used beside it. The device saves with it where its queues lie, and what it has by tag.
+ * What the device took after the saving it drops: the same tags come again after the restoring.
  *
  * These calls take the longer the more there is of something, and no other one does:
  *
@@ -640,8 +640,8 @@ typedef struct nvmearb_slot {
  *   nvmearb_ctrl_add_sq_region, nvmearb_ctrl_add_cq_region               the regions
  *   nvmearb_ctrl_finish                                                  the identifiers up to the queue's
  *
- * PC must be 1, and a ring has at most 4096 slots. So CAP.MQES is at most 4095, and CAP.CQR is 1. Which commands have no
- * completion posted has no limit but the depths: a completion queue that its host doesn't read stops the submission
+ * PC must be 1, and a ring has at most 4096 slots. So CAP.MQES is at most 4095, and CAP.CQR is 1. Commands without a
+ * posted completion have no limit but the depths: a completion queue that its host doesn't read stops the submission
  * queues that post to it, and no other.
  */
 typedef struct nvmearb_ctrl {
@@ -697,10 +697,10 @@ typedef struct nvmearb_step {
 /*
  * A command that the device has. Its tag is its name until it is completed: bits 15:0 are the index of the slot that
  * holds it, and bits 31:16 that slot's generation, which goes up by one, modulo 65,536, each time the device takes a
- * command of the slot. So a tag is used up once its command is completed, and comes again with the 65,536th command that
- * is taken from its slot after it. A call with a tag that is used up answers NVMEARB_NONE and changes nothing: where the
- * device completes a command twice, or late, after its completion was posted and another command was taken, or after
- * another making of the controller over the same slots, which keeps their generations.
+ * command of the slot. A tag is used up once its command is completed, or the controller is made anew over the same
+ * slots, which keeps their generations. A call with a tag that is used up answers NVMEARB_NONE and changes nothing, so
+ * what the device completes twice, or late, ends no other command. A tag comes again with the 65,536th command that is
+ * taken from its slot after it.
  */
 typedef struct nvmearb_command {
     nvmearb_sqe entry;
@@ -731,7 +731,7 @@ typedef struct nvmearb_post {
      */
     uint8_t bytes[NVMEARB_CQE_BYTES];
     uint32_t cookie;                  /* that of its command */
-    uint32_t tag;                     /* that of its command, if the device took it: its slot is free from now on */
+    uint32_t tag;                     /* that of its command, or one that is used up if the device never took it */
     uint16_t slot;                    /* the slot of the ring */
 } nvmearb_post;
 
@@ -759,9 +759,8 @@ uint32_t nvmearb_ctrl_init_anywhere(nvmearb_ctrl *ctrl, nvmearb_slot *slots, siz
 
 /*
  * Initialises a controller with its admin queues alone, which are open, on region 0 of each kind. No command is
- * fetched, and all `count` slots are free; this takes the longer the more there are. What lies in the slots may be
- * anything, as zeros at first. They keep their generations, so don't clear them at a reset: then tags of before name no
- * command after it (nvmearb_command).
+ * fetched, and all `count` slots are free. Any bytes may lie in `ctrl` and the slots. The slots keep their generations:
+ * don't clear them at a reset, and hand in the same ones, so that tags of before are used up (nvmearb_command).
  *
  * The device says beforehand where rings may lie, by nvmearb_ctrl_add_sq_region and nvmearb_ctrl_add_cq_region. A
  * Create names the address of such a region that no queue has used, and has exactly QSIZE + 1 slots. There are
@@ -792,19 +791,19 @@ uint32_t nvmearb_ctrl_add_cq_region(nvmearb_ctrl *ctrl, uint64_t address, uint16
  * a feature identifier with 0/02, Invalid Field in Command.
  *
  * The controller aborts a command that waits: it is answered with 0/07, Command Abort Requested. An Abort that names
- * any other command is answered with 1 as Dword 0, not aborted, unless NVMEARB_OPC_ABORT was announced here.
- * Then it is passed on to the device, which looks up the tag of that command by nvmearb_ctrl_named, ends it if it can
- * (with 0/07), and completes the Abort with 0 as Dword 0, or 1 where it couldn't. Where the host has more
- * Aborts out than Identify allows (ACL), the device completes one with 1/03, Abort Command Limit Exceeded.
- * capi/examples/admin.c ends Asynchronous Event Requests so.
+ * any other command is answered with 1 as Dword 0, not aborted, unless NVMEARB_OPC_ABORT was announced here. Then it is
+ * passed on to the device, which looks up the tag of that command by nvmearb_ctrl_named (nvmearb_admin_of tells its
+ * queue and identifier), completes it with 0/07 if it can end it, and then the Abort with 0 as Dword 0, or else with 1.
+ * Where the host has more Aborts out than Identify allows (ACL), the device completes one with 1/03, Abort Command Limit
+ * Exceeded. capi/examples/admin.c ends Asynchronous Event Requests so.
  * NVMEARB_ESTATE if `ctrl` isn't valid.
  */
 uint32_t nvmearb_ctrl_own_opcode(nvmearb_ctrl *ctrl, uint8_t opcode);
 
 /*
  * From now on Set Features and Get Features of this feature identifier are the device's, as nvmearb_ctrl_own_opcode
- * tells. Of the controller's own features, 01h and 07h, just a Get Features is that selects (SEL) another value than
- * the current one.
+ * tells. Of the controller's own features, 01h and 07h, the device has no more than a Get Features that selects (SEL)
+ * another value than the current one.
  * NVMEARB_ESTATE if `ctrl` isn't valid.
  */
 uint32_t nvmearb_ctrl_own_feature(nvmearb_ctrl *ctrl, uint8_t fid);
@@ -824,7 +823,7 @@ uint32_t nvmearb_ctrl_set_depth(nvmearb_ctrl *ctrl, uint16_t qid, uint16_t depth
 
 /*
  * From now on no command of a submission queue is picked, if `on` is 1, or they are again, if it is 0: for a queue that
- * the device can't serve, say since a namespace of it is busy. What waits in it stays there, and up to its depth it is
+ * the device can't serve, say since a namespace is busy. What waits in it stays there, and up to its depth it is
  * fetched as before; an Abort and a deletion still end it. Commands that were picked stay picked. The queue may be the
  * admin queue. A queue that is created anew isn't held.
  * NVMEARB_ESTATE if `ctrl` isn't valid; otherwise NVMEARB_EARG if `on` is above 1; otherwise NVMEARB_NONE if the queue
@@ -847,7 +846,7 @@ uint32_t nvmearb_ctrl_set_class(nvmearb_ctrl *ctrl, uint16_t qid, uint16_t prior
  * invalid doorbell register); otherwise NVMEARB_EARG if the ring has no such slot, or hasn't as many free slots (an
  * invalid doorbell write value). A ring has one slot less of commands than it has slots.
  * A value that the doorbell has already is accepted, here and of a head, though the specification lets a controller
- * report it as an invalid doorbell write value.
+ * report it as an invalid doorbell write value. So a device with shadow doorbells hands in what it reads there.
  */
 uint32_t nvmearb_ctrl_sq_tail(nvmearb_ctrl *ctrl, uint16_t qid, uint16_t tail);
 
@@ -855,6 +854,7 @@ uint32_t nvmearb_ctrl_sq_tail(nvmearb_ctrl *ctrl, uint16_t qid, uint16_t tail);
  * The host wrote the head doorbell of a completion queue: `head` is bits 15:00 of the value.
  * NVMEARB_ESTATE if `ctrl` isn't valid; otherwise NVMEARB_NONE if the queue isn't open; otherwise NVMEARB_EARG if the
  * ring has no such slot, or not as many completions were posted.
+ * The host has entries to read, for which a pin stays asserted, unless `head` is the slot after that of the last post.
  */
 uint32_t nvmearb_ctrl_cq_head(nvmearb_ctrl *ctrl, uint16_t cqid, uint16_t head);
 
@@ -869,8 +869,8 @@ uint32_t nvmearb_ctrl_fetch(const nvmearb_ctrl *ctrl, uint16_t qid, uint16_t *sl
 /*
  * The entry in the slot that nvmearb_ctrl_fetch tells was read: its command waits to be picked. `cookie` is kept with
  * it.
- * NVMEARB_ESTATE if `ctrl` isn't valid; otherwise NVMEARB_EARG if `count` isn't that of nvmearb_ctrl_init, here and in
- * the calls below; otherwise NVMEARB_NONE if nvmearb_ctrl_fetch tells none.
+ * NVMEARB_ESTATE if `ctrl` isn't valid; otherwise NVMEARB_EARG if `count` isn't that of its making, here and in the calls
+ * below; otherwise NVMEARB_NONE if nvmearb_ctrl_fetch tells none.
  */
 uint32_t nvmearb_ctrl_fetched(nvmearb_ctrl *ctrl, nvmearb_slot *slots, size_t count, uint16_t qid,
                               const uint8_t bytes[NVMEARB_SQE_BYTES], uint32_t cookie);
@@ -887,17 +887,14 @@ uint32_t nvmearb_ctrl_peek(const nvmearb_ctrl *ctrl, const nvmearb_slot *slots, 
  * Makes the next pick of arbitration, and writes what it did. `room` says how many commands the device can take now; a
  * device without a bound passes NVMEARB_NO_LIMIT. The queue is the one that is picked with any room, and n the least of
  * the burst, what its class has left of its weight, what waits in the queue, and `room`: the burst is the most that may
- * be fetched at a time (Command Arbitration). The rest of the burst waits until the turn of its queue comes again, and
- * what it would have used of the weight stays.
+ * be fetched at a time (Command Arbitration). The rest waits as nvmearb_arbiter_pick_up_to tells.
  *
- * An admin command is picked alone, and wants a room of 1. One that isn't the device's is carried out at once: queues
- * are created, a deletion begins and the waiting commands of its queue are answered with 0/08, a waiting command is
- * aborted with 0/07, features are set and told. A Delete and an Abort take the longer the more commands of their queue
- * wait.
+ * An admin command is picked alone, and wants a room of 1: where the device is full, nvmearb_ctrl_peek tells whether one
+ * is next. One that isn't the device's is carried out at once: queues are created, a deletion begins and the waiting
+ * commands of its queue are answered with 0/08, a waiting command is aborted with 0/07, features are set and told.
  *
  * NVMEARB_ESTATE, NVMEARB_EARG as nvmearb_ctrl_peek; otherwise NVMEARB_BUSY if commands are picked and not taken;
- * otherwise NVMEARB_NONE if no command waits but in queues that are held; otherwise NVMEARB_NOROOM if `room` is 0. Then
- * everything stays as it was.
+ * otherwise NVMEARB_NONE if no command waits but in queues that are held; otherwise NVMEARB_NOROOM if `room` is 0.
  */
 uint32_t nvmearb_ctrl_pick(nvmearb_ctrl *ctrl, nvmearb_slot *slots, size_t count, uint16_t room, nvmearb_step *step);
 
@@ -951,7 +948,6 @@ uint32_t nvmearb_ctrl_command(const nvmearb_ctrl *ctrl, const nvmearb_slot *slot
 /*
  * Writes the tag of the command with the identifier `cid`, of the submission queue `qid`, that the device has, so that
  * a device finds what an Abort names. If the host gave two of them one identifier, it is the tag of either.
- * The call looks through all slots.
  * NVMEARB_ESTATE, NVMEARB_EARG as nvmearb_ctrl_fetched; otherwise NVMEARB_NONE if the device has no such command: it
  * waits, say, or is completed.
  */
@@ -999,8 +995,7 @@ uint32_t nvmearb_ctrl_seen(const nvmearb_ctrl *ctrl, uint16_t qid, nvmearb_seen 
  * as many as it says, in the pool and used for it. So it takes as long as there are slots, and is meant for tests, for
  * what was restored, and for a call that answers what it shouldn't. What the library wrote passes; not each mistake is
  * found, such as another command in a slot.
- * NVMEARB_ESTATE if `ctrl` isn't valid, `count` isn't that of nvmearb_ctrl_init, or one of these numbers is out of
- * range.
+ * NVMEARB_ESTATE if `ctrl` isn't valid, `count` isn't that of its making, or one of these numbers is out of range.
  */
 uint32_t nvmearb_ctrl_verify(const nvmearb_ctrl *ctrl, const nvmearb_slot *slots, size_t count);
 

@@ -81,8 +81,8 @@ Step = Union[Picked, CarriedOut, Passed, Waits]
 
 class Command(NamedTuple):
     """A command that the device has, with what `fetched` was given, and its tag: the slot that holds it in bits 15:0, and
-    that slot's generation in bits 31:16. A tag is used up once its command is completed, after a reset too. It comes again
-    with the 65,536th command that is taken from its slot after it."""
+    that slot's generation in bits 31:16. A tag is used up once its command is completed, or the controller is reset. It
+    comes again with the 65,536th command that is taken from its slot after it."""
 
     entry: Sqe
     cookie: int
@@ -90,7 +90,8 @@ class Command(NamedTuple):
 
 
 class Post(NamedTuple):
-    """A completion to be written into a slot of a ring (`Cqe.from_bytes`)."""
+    """A completion to be written into a slot of a ring (`Cqe.from_bytes`), with the cookie and the tag of its command. If
+    the device never took it, the tag is one that is used up."""
 
     entry: bytes
     cookie: int
@@ -113,7 +114,7 @@ class Controller:
 
     def reset(self, config: Config = Config(), placement: Placement = Placement()) -> None:
         """Makes the controller anew, as where CC.EN becomes 1: nothing of before is left but the generations of the slots, so
-        that tags of before are refused."""
+        that tags of before are used up."""
         in_range(32, cdw11=config.cdw11, page=placement.page)
         in_range(16, nsq=config.nsq, ncq=config.ncq, depth=config.depth, admin_depth=config.admin_depth)
         in_range(16, mqes=placement.mqes, vectors=placement.vectors)
@@ -239,7 +240,7 @@ class Controller:
         return found
 
     def verify(self) -> None:
-        """Looks whether something was written into the controller by mistake. Refused if so."""
+        """Looks whether something else wrote into the controller: refused where that is found, as most is."""
         checked(self._call("verify"))
 
     def _alone(self, name: str, *words: Any) -> int:

@@ -62,9 +62,9 @@ impl Placement {
 }
 
 /// The name of a command that the device has, until it is completed: the slot that holds it, and that slot's generation,
-/// which goes up by one, modulo 65,536, each time the device takes a command of the slot. So calls refuse a tag that is
-/// used up: where the device completes a command twice, or late, after another command was taken from its slot, or after
-/// a reset. A tag comes again with the 65,536th command that is taken from its slot after it.
+/// which goes up by one, modulo 65,536, each time the device takes a command of the slot. A tag is used up once its
+/// command is completed, or the controller is reset. Calls refuse it then, so what the device completes twice, or late,
+/// ends no other command. A tag comes again with the 65,536th command that is taken from its slot after it.
 #[derive(Clone, Copy, Debug, PartialEq, Eq, PartialOrd, Ord, Hash)]
 pub struct Tag(u32);
 
@@ -80,7 +80,7 @@ impl Tag {
     }
 }
 
-/// As for a device that saves the tags of its commands. Calls refuse the tag of no command.
+/// As for a device that saves the tags of its commands. Calls refuse a tag that no command has.
 impl From<u32> for Tag {
     fn from(number: u32) -> Tag {
         Tag(number)
@@ -131,7 +131,7 @@ pub struct Post {
     pub bytes: [u8; CQE_BYTES],
     /// The cookie of its command.
     pub cookie: u32,
-    /// The tag of its command, if the device took it: its slot is free from now on.
+    /// The tag of its command, or one that is used up if the device never took it.
     pub tag: Tag,
     /// The slot of the ring.
     pub slot: u16,
@@ -150,7 +150,7 @@ impl Post {
     }
 }
 
-/// The front of a whole controller, which is driven by calls. It has its state, of 6,000 bytes, and the slots that hold
+/// The front of a whole controller, which is driven by calls. It has its state, of 6,128 bytes, and the slots that hold
 /// the commands ([`Slots`]), and allocates nothing.
 ///
 /// The order of calls:
@@ -158,7 +158,7 @@ impl Post {
 /// 1. When the host enables the controller (CC.EN), [`Controller::anywhere`] or [`Controller::reset_anywhere`] with the
 ///    admin queues: the host chooses where its queues lie. (After [`Controller::new`] a Create names a region that was
 ///    added by [`Controller::add_sq_region`] or [`Controller::add_cq_region`].) When CC.EN becomes 0, make no call until
-///    it is 1 again. After the reset what the device completes late under a [`Tag`] from before is refused.
+///    it is 1 again. What the device completes late under a [`Tag`] from before the reset is refused.
 /// 2. [`Controller::own_opcode`] and [`Controller::own_feature`] for the admin commands that the device answers itself,
 ///    such as Identify.
 /// 3. At each doorbell write [`Controller::sq_tail`] or [`Controller::cq_head`].
@@ -175,15 +175,15 @@ impl Post {
 ///    ends, nothing is fetched or picked of that queue, and a Delete of its completion queue is refused with
 ///    [`Status::INVALID_QUEUE_DELETION`], also one that came with it. What the device has of the queue may still be
 ///    completed. Other queues go on, and further deletions may begin.
+/// 9. Go back to 4. until a pass does nothing, and once the device can take more commands or no longer holds a queue.
 ///
 /// An admin command that is neither the controller's own nor the device's is answered with [`Status::INVALID_OPCODE`],
 /// and Set and Get Features of such a feature identifier with [`Status::INVALID_FIELD`].
 ///
 /// After [`Controller::anywhere`] a Create names any address, and the host may use the memory of a queue again once its
 /// Delete is answered. The library doesn't know the memory: a Create at an address where none is, or over another ring,
-/// is accepted. Where an access to a ring fails, the device sets CSTS.CFS and waits for the reset. After
-/// [`Controller::new`] a Create names a region that was added before. There are at most 65 of a kind until the next
-/// reset; an address is that of one, and one queue uses it, once.
+/// is accepted. Where an access to a ring fails, the device sets CSTS.CFS and waits for the reset. Of regions there are
+/// at most 65 of a kind until the next reset; an address is that of one, and one queue uses it, once.
 ///
 /// It isn't `Clone`: two copies would post the same completions.
 ///
@@ -284,8 +284,8 @@ impl<S: Slots> Controller<S> {
         Ok(controller)
     }
 
-    /// Makes the controller anew as [`Controller::anywhere`], with the slots that it has. Refused as that, and then the
-    /// controller is as it was.
+    /// Makes the controller anew as [`Controller::anywhere`], with the slots that it has. Refused as that; otherwise as
+    /// [`Controller::reset`].
     pub fn reset_anywhere(&mut self, config: &Config, placement: &Placement) -> Result<(), Error> {
         let (ctrl, slots, count) = self.parts();
         let (config, placement) = (config.fields(), placement.fields());
@@ -316,16 +316,17 @@ impl<S: Slots> Controller<S> {
     /// controller doesn't look at.
     ///
     /// An Abort, 08h, is the device's where it was announced and names no command that waits. The device finds the tag
-    /// of that command by [`Controller::named`], ends it if it can, and completes the Abort with 0 as Dword 0,
-    /// or 1 where it couldn't. One that isn't the device's is answered with 1 where no command waits.
+    /// of that command by [`Controller::named`], ends it if it can, completes it with [`Status::ABORT_REQUESTED`], and
+    /// completes the Abort with 0 as Dword 0, or 1 where it couldn't. One that isn't the device's is answered with 1
+    /// where no command waits.
     pub fn own_opcode(&mut self, opcode: u8) {
         // SAFETY: references.
         sure(checked(unsafe { sys::nvmearb_ctrl_own_opcode(&mut self.ctrl, opcode) }));
     }
 
     /// From now on Set Features and Get Features of this feature identifier are the device's, as
-    /// [`Controller::own_opcode`] tells. Of the controller's own features, 01h and 07h, just a Get Features is that
-    /// selects (SEL) another value than the current one.
+    /// [`Controller::own_opcode`] tells. Of the controller's own features, 01h and 07h, the device has no more than a Get
+    /// Features that selects (SEL) another value than the current one.
     pub fn own_feature(&mut self, fid: u8) {
         // SAFETY: references.
         sure(checked(unsafe { sys::nvmearb_ctrl_own_feature(&mut self.ctrl, fid) }));
@@ -416,10 +417,10 @@ impl<S: Slots> Controller<S> {
     /// The queue is the one that is picked with any room, and `n` the least of the burst, what its class has left of its
     /// weight, what waits in the queue, and `room`. The rest of the burst waits until the turn of its queue comes again.
     ///
-    /// An admin command is picked alone, and wants a room of 1. One that isn't the device's is carried out at once:
-    /// queues are created, a deletion begins and the waiting commands of its queue are answered with
-    /// [`Status::ABORTED_BY_DELETION`], a waiting command is aborted with [`Status::ABORT_REQUESTED`], features are set
-    /// and told.
+    /// An admin command is picked alone, and wants a room of 1: where the device is full, [`Controller::peek`] tells
+    /// whether one is next. One that isn't the device's is carried out at once: queues are created, a deletion begins and
+    /// the waiting commands of its queue are answered with [`Status::ABORTED_BY_DELETION`], a waiting command is aborted
+    /// with [`Status::ABORT_REQUESTED`], features are set and told.
     ///
     /// [`Error::State`]: something outside of Rust's rules wrote into the controller.
     pub fn pick(&mut self, room: u16) -> Result<Step, Error> {
@@ -538,8 +539,7 @@ impl<S: Slots> Controller<S> {
     }
 
     /// Looks whether the numbers of the controller and its slots are within their ranges. They are unless something
-    /// outside of Rust's rules wrote into them, such as a device of the machine: this finds most of that, and looks at
-    /// each slot.
+    /// outside of Rust's rules wrote into them, or made them up: this finds most of that, and looks at each slot.
     ///
     /// [`Error::State`]: one is out of its range.
     pub fn verify(&self) -> Result<(), Error> {

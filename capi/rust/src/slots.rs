@@ -3,7 +3,7 @@
 use crate::sys;
 
 /// A slot of a controller: it holds one command from its fetch until its completion is posted. An array of them is memory
-/// that the caller gives a controller, which writes it anew.
+/// that the caller gives a controller, whatever lies there. Its generations are kept ([`Tag`](crate::Tag)).
 #[derive(Clone, Copy)]
 #[repr(transparent)]
 pub struct Slot(sys::nvmearb_slot);

@@ -110,7 +110,7 @@ impl<S: Slots> Controller<S> {
     }
 
     /// Writes a snapshot of the controller, as for a migration: what it knows of its queues and commands. Tags and
-    /// cookies stay, so the device saves with it what it has under them.
+    /// cookies stay, so the device saves with it what it has under them, and where its queues lie.
     ///
     /// # Panics
     ///
