@@ -538,7 +538,7 @@ impl<S: Slots> Controller<S> {
     }
 
     /// Looks whether the numbers of the controller and its slots are within their ranges. They are unless something
-    /// outside of Rust's rules wrote into them, such as a device of the machine: this finds most of that, and looks at
+    /// outside of Rust's rules wrote into them, such as a device of the machine: this finds some of that, and looks at
     /// each slot.
     ///
     /// [`Error::State`]: one is out of its range.
