@@ -621,7 +621,7 @@ typedef struct nvmearb_slot {
  *
  * The caller hands each call the array of slots that the controller was made with, and writes neither into it nor into
  * the controller. Whatever bytes lie there, a call reads and writes no more than it is given, and returns. If something
- * else wrote them, nothing more is promised of what it answers and writes; nvmearb_ctrl_verify finds most of that. The
+ * else wrote them, nothing more is promised of what it answers and writes; nvmearb_ctrl_verify finds some of that. The
  * caller reads no slot of a ring but the one that nvmearb_ctrl_fetch tells, and posts no completion but those of
  * nvmearb_ctrl_post. A ring has 64 or 16 bytes for each slot, from its address on.
  *
@@ -990,12 +990,13 @@ uint32_t nvmearb_ctrl_waits(const nvmearb_ctrl *ctrl, const nvmearb_slot *slots,
 uint32_t nvmearb_ctrl_seen(const nvmearb_ctrl *ctrl, uint16_t qid, nvmearb_seen *seen);
 
 /*
- * Tests whether something was written into a controller or its slots by mistake. It looks at each head and tail, each
- * number of a region or a slot that is used as one, each count that has a limit, and each chain of slots: that it has
- * as many as it says, in the pool and used for it. So it takes as long as there are slots, and is meant for tests, for
- * what was restored, and for a call that answers what it shouldn't. What the library wrote passes; not each mistake is
- * found, such as another command in a slot.
- * NVMEARB_ESTATE if `ctrl` isn't valid, `count` isn't that of its making, or one of these numbers is out of range.
+ * Tests whether something was written into a controller or its slots by mistake. It looks at the arbiter, each head and
+ * tail, each identifier of a queue or number of a slot that is used as one, how many commands are outstanding and picked,
+ * and each chain of slots: that it has as many as it says, in the pool and used for it. So it takes as long as there are
+ * slots, and is meant for tests, for what was restored, and for a call that answers what it shouldn't. What the library
+ * wrote passes; not each mistake is found, such as another command in a slot, or another queue in the queue table.
+ * NVMEARB_ESTATE if `ctrl` isn't valid, `count` isn't that of nvmearb_ctrl_init, or one of these numbers is out of
+ * range.
  */
 uint32_t nvmearb_ctrl_verify(const nvmearb_ctrl *ctrl, const nvmearb_slot *slots, size_t count);
 

@@ -539,7 +539,7 @@ impl<S: Slots> Controller<S> {
     }
 
     /// Looks whether the numbers of the controller and its slots are within their ranges. They are unless something
-    /// outside of Rust's rules wrote into them, or made them up: this finds most of that, and looks at each slot.
+    /// outside of Rust's rules wrote into them, or made them up: this finds some of that, and looks at each slot.
     ///
     /// [`Error::State`]: one is out of its range.
     pub fn verify(&self) -> Result<(), Error> {
