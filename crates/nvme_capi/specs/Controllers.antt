@@ -13,7 +13,7 @@ use Rattle.nvme_log.specs.Answers.{Answer}
 use Rattle.nvme_ctrl.specs.Notes.{Notes}
 use Rattle.nvme_ctrl.specs.Standing.{Stands, IsController, has_arbiter}
 use Rattle.nvme_ctrl.specs.Tags.{is_out}
-use Rattle.nvme_ctrl.specs.Generations.{tag_at, tag_of, slot_of, number_of}
+use Rattle.nvme_ctrl.specs.Generations.{tag_at, tag_of, slot_of}
 use Rattle.nvme_ctrl.specs.Making.{first_rules, anywhere_rules, placing_in}
 use Rattle.nvme_ctrl.specs.Calls.{HasPosted}
 use Rattle.nvme_ctrl.specs.Posts.{IsPostOf}

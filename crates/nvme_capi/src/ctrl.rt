@@ -1,7 +1,7 @@
 //! A controller, over a state and slots that the caller owns.
 //!
-//! Other than a board or a table, a controller isn't made by any numbers: the calls that go on with its commands ask that
-//! a state with the mark is one that these calls made with these slots (`IsKept`), and all keep it so.
+//! Other than a board or a table, a controller isn't made by any numbers. Its calls are safe over all of them, but what they
+//! do is said of a state that these calls made with these slots (`IsKept`), which all keep so.
 mod commands;
 mod holds;
 mod lookups;

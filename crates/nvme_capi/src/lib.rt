@@ -1,6 +1,6 @@
 //! The C library: an export for each call of the libraries that needs no thread and no memory. Each export is total: it
-//! states the clauses of the library's call for every state that it accepts, even one that no call made. Only those of a
-//! controller (`ctrl`) ask of their caller that nobody else wrote into a state that has its mark.
+//! states the clauses of the library's call for every state that it accepts, even one that no call made. Only of a
+//! controller (`ctrl`) more is said where nobody else wrote into a state that has its mark.
 //! `capi/nvmearb.h` declares the exports for C.
 #![tactic(auto)]
 

@@ -13,7 +13,7 @@ ghost use Rattle.nvme_ctrl.specs.Tags.{handed, is_out, holder, taken, cookie_of}
 ghost use Rattle.nvme_ctrl.specs.Generations.{SameGenerations, IsNextGeneration, tag_of};
 ghost use Rattle.nvme_ctrl.specs.declared.tag.Tag.{Tag};
 ghost use Rattle.nvme_ctrl.specs.Calls.{depths_of, HasTaken, HasAnswered};
-ghost use Rattle.nvme_ctrl.specs.Steps.{IsNextPick, HasStepped, NoneFinishable, HasFinished};
+ghost use Rattle.nvme_ctrl.specs.Steps.{IsNextPick, IsBusy, HasStepped, IsFinishableAt, NoneFinishable, HasFinished};
 ghost use Rattle.nvme_ctrl.specs.Posts.{NonePostable};
 ghost use Rattle.nvme_ctrl.specs.declared.picks.Step.TheVariants as made;
 ghost use Rattle.nvme_capi.specs.States.{pick_of_fields};
@@ -126,6 +126,8 @@ pub extern "C" fn nvmearb_ctrl_pick(
     ensures depths { depths_of state.new.ctrl ≡ depths_of state.old.ctrl }
     ensures bad_state { (result ≡ BAD_STATE) ↔ IsFalse (is_whole state.old) }
     ensures bad_argument { (result ≡ BAD_ARGUMENT) ↔ (IsTrue (is_whole state.old) × IsFalse (has_slots state.old slots.old)) }
+    ensures taken { (rules : FrontRules) (late : Bool) (notes : Notes) → Stands rules late notes state.old.ctrl slots.old → IsBusy notes → (result ≡ BUSY) ⊎ ((result ≡ BAD_ARGUMENT) ⊎ (result ≡ BAD_STATE)) }
+    ensures io { result ≡ OK → step.new.kind ≡ PICKED → step.new.pick.qid ≢ 0 }
     ensures idle { (rules : FrontRules) (late : Bool) (notes : Notes) → Stands rules late notes state.old.ctrl slots.old → result ≡ NOTHING → HasStepped rules late notes room made.Idle state.new.ctrl slots.new }
     ensures busy { (rules : FrontRules) (late : Bool) (notes : Notes) → Stands rules late notes state.old.ctrl slots.old → result ≡ BUSY → HasStepped rules late notes room made.Busy state.new.ctrl slots.new }
     ensures no_room { (rules : FrontRules) (late : Bool) (notes : Notes) → Stands rules late notes state.old.ctrl slots.old → result ≡ NOROOM → HasStepped rules late notes room made.NoRoom state.new.ctrl slots.new }
@@ -398,6 +400,7 @@ pub extern "C" fn nvmearb_ctrl_finish(
     ensures bad_argument { (result ≡ BAD_ARGUMENT) ↔ (IsTrue (is_ctrl state.old) × IsFalse (has_slots state.old slots.old)) }
     ensures answer { (result ≡ OK) ⊎ ((result ≡ NOTHING) ⊎ ((result ≡ BAD_ARGUMENT) ⊎ (result ≡ BAD_STATE))) }
     ensures nothing { (rules : FrontRules) (late : Bool) (notes : Notes) → Stands rules late notes state.old.ctrl slots.old → result ≡ NOTHING → NoneFinishable notes }
+    ensures first { (rules : FrontRules) (late : Bool) (notes : Notes) → Stands rules late notes state.old.ctrl slots.old → result ≡ OK → (q : ℕ) → q < qid.new → IsFinishableAt notes q → ⊥ }
     ensures stands { (rules : FrontRules) (late : Bool) (notes : Notes) → Stands rules late notes state.old.ctrl slots.old → result ≡ OK → HasFinished rules late notes qid.new state.new.ctrl slots.new }
     ensures generations { SameGenerations slots.old slots.new }
     ensures left { own_of state.new.ctrl ≡ own_of state.old.ctrl }

@@ -9,7 +9,8 @@ use nvme_admin::Region;
 use nvme_ctrl::{Controller, Slot};
 use nvme_entry::Sqe;
 
-/// What `nvmearb_ctrl_init` of this interface writes before a controller, and nothing else does.
+/// What `nvmearb_ctrl_init` and `nvmearb_ctrl_init_anywhere` of this interface write before a controller, and nothing else
+/// does.
 pub const MARK: u64 = 0x6e76_6d65_6300_0000 + INTERFACE;
 
 /// The highest depth of a submission queue.
@@ -73,8 +74,8 @@ pub struct AskedFields {
     pub interrupts: u16,
 }
 
-/// `nvmearb_step`: what a pick did. The kind is 1 where commands of an I/O queue were picked, and 2 where an admin command
-/// was picked and carried out. What a step of its kind doesn't have is 0.
+/// `nvmearb_step`: what a pick did. The kind is 1 where commands of an I/O queue were picked, 2 where an admin command
+/// was picked and carried out, and 3 where one was passed on to the device. What a step of its kind doesn't have is 0.
 #[repr(C)]
 #[derive(Clone, Copy, Drop)]
 pub struct StepFields {

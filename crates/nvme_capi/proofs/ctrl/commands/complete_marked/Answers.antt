@@ -1,10 +1,10 @@
-use Rattle.std.proofs.Common.{◌≡◌, ℕ, ◌∙◌, ◌<◌, true, false, Some, sym, ap, subst, arith}
+use Rattle.std.proofs.Common.{◌≡◌, ℕ, ◌∙◌, ◌<◌, true, false, sym, subst, arith}
 use Rattle.nvme_entry.specs.Status.{StatusCode}
 use Rattle.nvme_ctrl.specs.Calls.{HasAnswered}
-use Rattle.nvme_ctrl.specs.Generations.{tag_of, slot_of}
+use Rattle.nvme_ctrl.specs.Generations.{tag_of}
 use Rattle.nvme_capi.specs.Controllers.{is_ctrl, has_slots}
 use Rattle.nvme_capi.proofs.Refusals.{no_refusal}
-use Rattle.nvme_capi.proofs.SlotsOfTags.{out_under, not_out_under, not_under, slot_is, found_slot}
+use Rattle.nvme_capi.proofs.SlotsOfTags.{out_under, not_out_under, slot_is, found_slot}
 use Rattle.nvme_capi.proofs.ctrl.commands.complete_marked.Goals as goal
 
 pub returns-then-complete-clause-bad_argument : goal.returns-then-complete-clause-bad_argument

@@ -15,3 +15,6 @@ returns-in-Some-clause-kept c = λ k. record { front = λ m n. c.finish.ensures.
 
 pub returns-in-None-clause-kept : goal.returns-in-None-clause-kept
 returns-in-None-clause-kept c = λ k. record { front = λ m n. c.finish.ensures.front (k.front m (sym c.has_slots.ensures ∙ c.if-not-has_slots.false)) }
+
+pub returns-in-Some-clause-first : goal.returns-in-Some-clause-first
+returns-in-Some-clause-first c = λ rules late notes s _. c.in-Some.ensures.first rules late notes s

@@ -1,4 +1,4 @@
-use Rattle.std.proofs.Common.{◌∙◌, Option, Some, sym, subst}
+use Rattle.std.proofs.Common.{Option, Some, sym, subst}
 use Rattle.nvme_arbiter.specs.declared.pick.Pick.{Pick}
 use Rattle.nvme_ctrl.specs.Steps.{IsNextPick}
 use Rattle.nvme_capi.proofs.ctrl.commands.nvmearb_ctrl_peek.Goals as goal

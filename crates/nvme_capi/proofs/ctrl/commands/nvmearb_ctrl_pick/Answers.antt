@@ -1,4 +1,4 @@
-use Rattle.std.proofs.Common.{◌∙◌, refl, sym, ap, subst}
+use Rattle.std.proofs.Common.{◌∙◌, refl, sym, ap, subst, inl}
 use Rattle.nvme_ctrl.specs.declared.picks.Step.{Step}
 use Rattle.nvme_ctrl.specs.declared.picks.Step.TheVariants as made
 use Rattle.nvme_arbiter.specs.declared.pick.Pick.{Pick}
@@ -67,3 +67,24 @@ returns-in-Passed-clause-kept c = λ k. record { front = λ m n. c.pick.ensures.
 
 pub returns-in-Done-clause-kept : goal.returns-in-Done-clause-kept
 returns-in-Done-clause-kept c = λ k. record { front = λ m n. c.pick.ensures.front (k.front m (sym c.has_slots.ensures ∙ c.if-not-has_slots.false)) }
+
+pub returns-in-Idle-clause-taken : goal.returns-in-Idle-clause-taken
+returns-in-Idle-clause-taken c = λ rules late notes s busy. (let is = c.in-Idle.is in let told = c.pick.ensures.taken rules late notes s busy in cc (is, told))
+
+pub returns-in-NoRoom-clause-taken : goal.returns-in-NoRoom-clause-taken
+returns-in-NoRoom-clause-taken c = λ rules late notes s busy. (let is = c.in-NoRoom.is in let told = c.pick.ensures.taken rules late notes s busy in cc (is, told))
+
+pub returns-in-Picked-clause-taken : goal.returns-in-Picked-clause-taken
+returns-in-Picked-clause-taken c = λ rules late notes s busy. (let is = c.in-Picked.is in let told = c.pick.ensures.taken rules late notes s busy in cc (is, told))
+
+pub returns-in-Passed-clause-taken : goal.returns-in-Passed-clause-taken
+returns-in-Passed-clause-taken c = λ rules late notes s busy. (let is = c.in-Passed.is in let told = c.pick.ensures.taken rules late notes s busy in cc (is, told))
+
+pub returns-in-Done-clause-taken : goal.returns-in-Done-clause-taken
+returns-in-Done-clause-taken c = λ rules late notes s busy. (let is = c.in-Done.is in let told = c.pick.ensures.taken rules late notes s busy in cc (is, told))
+
+pub returns-in-Busy-clause-taken : goal.returns-in-Busy-clause-taken
+returns-in-Busy-clause-taken c = λ rules late notes s busy. inl refl
+
+pub returns-in-Picked-clause-io : goal.returns-in-Picked-clause-io
+returns-in-Picked-clause-io c = λ _ _ admin. c.pick.ensures.io c.in-Picked.pick c.in-Picked.is (ap (λ (p : Pick). p.qid) (sym c.fields_of_pick.ensures.same) ∙ admin)
