@@ -209,25 +209,30 @@ module _ (s : ArbitrationFields) where
   served_reached class qid last used can room (prior, is) =
       let seen : List Seen = one class qid ∷ [] in
       let k = kept_with last used in
-      let same : settings_after s prior ≡ s = sym is.stands.settings_are in
-      (serve class qid prior, record {
-        lawful = (observation_by_test seen (seen_one class qid can), sym (lawful Weighted s prior k seen is.stands) ∙ picked_one s (last_of last) used class qid room, is.lawful);
-        stands = subst (λ c. StandsAt Weighted s (serve class qid prior) (kept_after Weighted k c (pick_one qid))) (its_class class qid) (stands_picked Weighted s prior k seen (pick_one qid) is.stands);
-        used = let before : used ≡ round_used s prior = is.used in
-            let on : starts_round (settings_after s prior) (round_used s prior) seen (pick_one qid) ≡ false =
-                subst (λ u. starts_round (settings_after s prior) u seen (pick_one qid) ≡ false) before (subst (λ t. starts_round t used seen (pick_one qid) ≡ false) (sym same) (goes_on s used class qid room)) in
-            rw (on, its_class class qid) (ap (λ u. used_with u (Some class) 1) before);
-        quiet = quiet_more class qid prior is.quiet;
-      })
+      let same : settings_after s prior ≡ s = sym is.stands.settings_are in (
+        serve class qid prior,
+        record {
+          lawful = (observation_by_test seen (seen_one class qid can), sym (lawful Weighted s prior k seen is.stands) ∙ picked_one s (last_of last) used class qid room, is.lawful);
+          stands = subst (λ c. StandsAt Weighted s (serve class qid prior) (kept_after Weighted k c (pick_one qid))) (its_class class qid) (stands_picked Weighted s prior k seen (pick_one qid) is.stands);
+          used = let before : used ≡ round_used s prior = is.used in
+              let on : starts_round (settings_after s prior) (round_used s prior) seen (pick_one qid) ≡ false =
+              subst (λ u. starts_round (settings_after s prior) u seen (pick_one qid) ≡ false) before (subst (λ t. starts_round t used seen (pick_one qid) ≡ false) (sym same) (goes_on s used class qid room)) in
+              rw (on, its_class class qid) (ap (λ u. used_with u (Some class) 1) before);
+          quiet = quiet_more class qid prior is.quiet;
+        },
+      )
 
   changed_reached : (last : Last) (used : Used) → Reached last used → Reached last nothing_used
   unfolding kept_with Reached
-  changed_reached last used (prior, is) = (Changed s ∷ prior, record {
-    lawful = is.lawful;
-    stands = record { mechanism_is = refl; settings_are = refl; recalls = (is.stands.recalls.0, λ level l. nothing_in level) };
-    used = refl;
-    quiet = is.quiet;
-  })
+  changed_reached last used (prior, is) = (
+    Changed s ∷ prior,
+    record {
+      lawful = is.lawful;
+      stands = record { mechanism_is = refl; settings_are = refl; recalls = (is.stands.recalls.0, λ level l. nothing_in level) };
+      used = refl;
+      quiet = is.quiet;
+    },
+  )
 
   -- the queue that was served last of a class, where there is one
   class_reached : (class : Class) (o : Option ℕ) (last : Last) → can_serve class o ≡ true → last ≡ record last { by_class = with_class last.by_class class None } → Reached last nothing_used
@@ -325,13 +330,15 @@ unfolding round_kept serve one pick_one any_class
 round_reached s None can = ([], record { lawful = tt; stands = stands_first RoundRobin s; used = tt; quiet = λ class other qid. refl })
 round_reached s (Some qid) can =
     let class = any_class qid in
-    let seen : List Seen = one class qid ∷ [] in
-    (serve class qid [], record {
-      lawful = (observation_by_test seen (seen_one class qid (any_serve qid (qid == 0) refl can)), picked_round s class qid, tt);
-      stands = stands_picked RoundRobin s [] (first_kept RoundRobin s) seen (pick_one qid) (stands_first RoundRobin s);
-      used = tt;
-      quiet = quiet_more class qid [] (λ class other qid. refl);
-    })
+    let seen : List Seen = one class qid ∷ [] in (
+      serve class qid [],
+      record {
+        lawful = (observation_by_test seen (seen_one class qid (any_serve qid (qid == 0) refl can)), picked_round s class qid, tt);
+        stands = stands_picked RoundRobin s [] (first_kept RoundRobin s) seen (pick_one qid) (stands_first RoundRobin s);
+        used = tt;
+        quiet = quiet_more class qid [] (λ class other qid. refl);
+      },
+    )
 
 same_last : (x a u h m l o : Option ℕ) → x ≡ o → a ≡ None → u ≡ None → h ≡ None → m ≡ None → l ≡ None
     → ◌≡◌ {A = Last} (record { all = x; by_class = record { admin = a; urgent = u; high = h; medium = m; low = l } }) (record { all = o; by_class = same_for_all None })

@@ -1,5 +1,5 @@
 -- Which picks of a trace are taken for those that this front makes: `fresh` is no matter where a round begins by itself. (profile)
-use Rattle.std.specs.Prelude.{◌≡◌, ℕ, ◌==◌, ◌&&◌, Bool, false, not, List, [], ◌∷◌, Option, Some, None, IfSome, ◌≤◌}
+use Rattle.std.specs.Prelude.{◌≡◌, ℕ, ◌==◌, ◌&&◌, Bool, false, not, List, [], ◌∷◌, ◌++◌, Option, Some, None, IfSome, ◌≤◌}
 use Rattle.nvme_arbiter.specs.Settings.{ArbitrationFields}
 use Rattle.nvme_arbiter.specs.Observation.{IsObservation}
 use Rattle.nvme_arbiter.specs.History.{Picked, Changed, History, used_in_round}
@@ -44,6 +44,13 @@ IsTakenRun mechanism first [] rooms = Unit {0}
 IsTakenRun mechanism first (Changed settings ∷ past) rooms = IsTakenRun mechanism first past (earlier_rooms rooms)
 IsTakenRun mechanism first (Picked seen pick ∷ past) rooms =
     IsObservation seen × IsTakenPick mechanism first past (latest_room rooms) seen pick × IsTakenRun mechanism first past (earlier_rooms rooms)
+
+-- the same of events that follow a history
+abbrev pub IsTakenAfter : Mechanism → ArbitrationFields → History → History → List (Option ℕ) → Type 0
+IsTakenAfter mechanism first prior [] rooms = Unit {0}
+IsTakenAfter mechanism first prior (Changed settings ∷ past) rooms = IsTakenAfter mechanism first prior past (earlier_rooms rooms)
+IsTakenAfter mechanism first prior (Picked seen pick ∷ past) rooms =
+    IsObservation seen × IsTakenPick mechanism first (past ++ prior) (latest_room rooms) seen pick × IsTakenAfter mechanism first prior past (earlier_rooms rooms)
 
 -- no room is told, or none of 0
 abbrev pub TellNoRoom : List (Option ℕ) → Type 0

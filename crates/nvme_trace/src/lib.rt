@@ -14,6 +14,7 @@ mod names;
 mod notes;
 mod raw;
 mod records;
+mod state;
 mod survey;
 mod taken;
 mod trace;
