@@ -1,12 +1,12 @@
 // How a fault is told.
 ghost use Rattle.std.specs.Prelude.{◌≡◌, IfOk, IfSome};
-ghost use Rattle.nvme_short_form.specs.declared.error.ShortError.TheVariants.{At};
+ghost use Rattle.nvme_short.specs.Faults.{shown};
 
-use crate::looking::{Seen, count_at, other_at, seen_at, unknown_key, value_in};
+use crate::looking::{Seen, Site, count_at, other_at, seen_at, unknown_key, value_in};
 use crate::near::nearest;
 use crate::spot::{Spot, spot_of};
 use crate::texts::{expected, words_of};
-use nvme_short_form::{FILE_KEYS, Fault, Key, Place, ShortError};
+use nvme_short_form::{FILE_KEYS, Fault, Flaw, Key, Place, ShortError};
 use nvme_workload::Found;
 use std::alloc::{AllocError, Global};
 use std::fmt;
@@ -33,7 +33,7 @@ pub enum Note {
     NoQueue { number: i64, queues: usize },
 }
 
-/// The first fault of a short workload file: where it is, and what was expected there.
+/// A fault of a short workload file: where it is, and what was expected there.
 #[derive(Debug, Drop)]
 pub struct ShortFault {
     /// The fault.
@@ -98,7 +98,7 @@ fn other_size(sizes: &Value) -> &Value {
 // The value at fault.
 fn value_at<'t>(
     document: &'t Table,
-    place: Place,
+    site: Site,
     fault: Fault,
     seen: Option<Seen<'t>>,
 ) -> Option<&'t Value> {
@@ -107,17 +107,18 @@ fn value_at<'t>(
             Some(other_size(value_in(document, Key::Namespaces)?))
         }
         (Fault::Bad(key), Some(seen)) => value_in(seen.table, key),
-        (Fault::Bad(_), None) => other_at(document, place),
+        (Fault::Bad(_), None) => other_at(document, site),
         _ => None,
     }
 }
 
-// What is told in place of what was expected.
+// What is told in place of what was expected, of a fault with this unknown key.
 fn note_of(
     document: &Table,
     fault: Fault,
     found: Option<&Value>,
     seen: Option<Seen>,
+    key: &str,
 ) -> Option<Note> {
     match (fault, found, seen) {
         (Fault::Bad(Key::Number), Some(Value::Integer(number)), _) => Some(Note::NoQueue {
@@ -127,19 +128,17 @@ fn note_of(
         (Fault::Missing(Key::Op), _, Some(seen)) if value_in(seen.table, Key::Repeat).is_some() => {
             Some(Note::Nested)
         }
-        (Fault::Unknown, _, Some(seen)) if unknown_key(seen.keys, seen.table).is_none() => {
+        (Fault::Unknown, _, Some(seen)) if seen.keys.iter().any(|it| it.name() == key) => {
             Some(Note::BesideCq)
         }
         _ => None,
     }
 }
 
-// The unknown key of a table.
-fn key_of(fault: Fault, seen: Option<Seen<'_>>) -> &str {
+// The unknown key of a table with this index.
+fn key_of(fault: Fault, seen: Option<Seen<'_>>, index: usize) -> &str {
     match (fault, seen) {
-        (Fault::Unknown, Some(seen)) => {
-            unknown_key(seen.keys, seen.table).unwrap_or(Key::CqDepth.name())
-        }
+        (Fault::Unknown, Some(seen)) => unknown_key(seen.fit, seen.table, index).unwrap_or(""),
         _ => "",
     }
 }
@@ -169,26 +168,29 @@ fn meant_by(
     }
 }
 
-// A fault at a place of a short table, with what is told of it.
+// A fault at a site of a short table, with what is told of it. Of the unknown keys it is the one with this index.
 fn told_at(
     alloc: Global,
     text: &[u8],
     document: &Table,
-    place: Place,
+    site: Site,
     fault: Fault,
+    index: usize,
 ) -> Result<ShortFault, AllocError>
-    ensures { IfOk result (λ f. (f.place ≡ place) × (f.fault ≡ fault)) }
+    ensures { IfOk result (λ f. (f.place ≡ site.place) × (f.fault ≡ fault)) }
 {
-    let seen = seen_at(document, place, fault);
-    let value = value_at(document, place, fault, seen);
-    let note = note_of(document, fault, value, seen);
-    let key = start_of(alloc, key_of(fault, seen), KEY_CHARACTERS)?;
-    let spot = spot_of(alloc, text, place, fault, key_of(fault, seen), seen)?;
+    let seen = seen_at(document, site);
+    let value = value_at(document, site, fault, seen);
+    let name = key_of(fault, seen, index);
+    let note = note_of(document, fault, value, seen, name);
+    let key = start_of(alloc, name, KEY_CHARACTERS)?;
+    let spot = spot_of(alloc, text, site, fault, name, seen.is_some())?;
     let known: &'static [Key] = match (fault, seen) {
         (Fault::Unknown, Some(seen)) => seen.keys,
         _ => &[],
     };
     let found = found_in(alloc, value)?;
+    let place = site.place;
     let meant = match note {
         Some(_) => None,
         None => meant_by(alloc, fault, place, key.as_str(), known, &found)?,
@@ -205,6 +207,29 @@ fn told_at(
     })
 }
 
+/// One of the faults of a short table, which was read from the text, with what is told of it. `None` where memory was
+/// refused.
+pub(crate) fn flaw_in(
+    alloc: Global,
+    text: &[u8],
+    document: &Table,
+    flaw: Flaw,
+) -> Option<ShortFault>
+    ensures { IfSome result (λ f. flaw.error ≡ shown f) }
+{
+    let ShortError::At(place, fault) = flaw.error else {
+        return None;
+    };
+    let site = Site {
+        place,
+        inner: flaw.inner,
+    };
+    match told_at(alloc, text, document, site, fault, flaw.nth) {
+        Ok(fault) => Some(fault),
+        Err(_) => None,
+    }
+}
+
 /// A fault of a short table, which was read from the text, with what is told of it. `None` where memory was refused.
 pub fn fault_in(
     alloc: Global,
@@ -212,15 +237,14 @@ pub fn fault_in(
     document: &Table,
     error: ShortError,
 ) -> Option<ShortFault>
-    ensures { IfSome result (λ f. error ≡ At f.place f.fault) }
+    ensures { IfSome result (λ f. error ≡ shown f) }
 {
-    let ShortError::At(place, fault) = error else {
-        return None;
+    let flaw = Flaw {
+        error,
+        inner: None,
+        nth: 0,
     };
-    match told_at(alloc, text, document, place, fault) {
-        Ok(fault) => Some(fault),
-        Err(_) => None,
-    }
+    flaw_in(alloc, text, document, flaw)
 }
 
 impl fmt::Display for Note {

@@ -1,2 +1,3 @@
+mod Flaws
 pub mod Turns
 pub mod Runs

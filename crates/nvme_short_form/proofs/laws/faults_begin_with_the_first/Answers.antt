@@ -1,0 +1,5 @@
+use Rattle.nvme_short_form.proofs.Flaws.{begins}
+use Rattle.nvme_short_form.proofs.laws.faults_begin_with_the_first.Goals as goal
+
+pub returns : goal.returns
+returns c = begins
