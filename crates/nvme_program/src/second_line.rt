@@ -86,6 +86,11 @@ impl<'a> SecondLine<'a> {
         }
     }
 
+    // Whether it tells nothing.
+    fn is_empty(&self) -> bool {
+        self.file.is_none() && self.fault.is_none() && self.key.is_none() && !self.is_twice
+    }
+
     /// Writes the line, with a newline at its end.
     pub(crate) fn write<E: Write>(&self, errors: &mut E) -> Result<()> {
         let mut before = "nvmearb: ";
@@ -110,11 +115,10 @@ impl<'a> SecondLine<'a> {
                 errors,
                 "{before}several queues are written [[queue]], each with two brackets"
             )?;
-            before = "; ";
         }
-        match before {
-            "nvmearb: " => Ok(()),
-            _ => writeln!(errors),
+        if self.is_empty() {
+            return Ok(());
         }
+        writeln!(errors)
     }
 }

@@ -10,6 +10,7 @@ mod files;
 mod kept;
 mod linting;
 mod noted;
+mod running;
 mod simulating;
 mod sweeping;
 mod telling;
@@ -24,6 +25,7 @@ use nvme_program::{
     Errors, Output, Request, WordsError, asked_of, command, file_named, flushed, output_named,
     simulation_asked,
 };
+use running::ran_otherwise;
 use simulating::simulated;
 use std::alloc::{AllocError, Global};
 use std::cell::Cell;
@@ -58,6 +60,11 @@ fn is_lint(alloc: Global, words: &[String]) -> Result<bool, AllocError> {
         Err(WordsError::NoMemory(error)) => Err(error),
         _ => Ok(false),
     }
+}
+
+// Whether the words ask for the report of a run, and for no help on it.
+fn is_run(alloc: Global, words: &[String]) -> bool {
+    subcommand(words) == "run" && matches!(asked_of(alloc, words), Ok(Request::RunFile(..)))
 }
 
 // Whether the options of the words don't go together, so that no file is opened.
@@ -269,6 +276,10 @@ where
         Ok(false) => {}
         Err(_) => return Some(no_memory(errors)),
     }
+    let is_run = is_run(alloc, words);
+    if let Some(status) = ran_otherwise(rt, words, is_run, notes, output, errors) {
+        return Some(status);
+    }
     match simulation_asked(alloc, words) {
         Ok(Some(line)) => return Some(simulated(rt, &line, terminal, notes, output, errors)),
         Ok(None) => {}
@@ -340,9 +351,10 @@ where
     if is_unread.get() { UNREAD } else { status }
 }
 
-// The words, in which `--json` of `stats`, `check` and `simulate` stands for `--format=json`.
+// The words, in which `--json` of `run`, `stats`, `check` and `simulate` stands for `--format=json`.
 fn written_out(alloc: Global, mut words: Vec<String>) -> Result<Vec<String>, AllocError> {
-    let takes_format = matches!(subcommand(words.as_slice()), "stats" | "check" | "simulate");
+    let name = subcommand(words.as_slice());
+    let takes_format = matches!(name, "run" | "stats" | "check" | "simulate");
     if !takes_format {
         return Ok(words);
     }
