@@ -98,7 +98,7 @@ fn shares_of(alloc: Global, report: &str) -> Result<Vec<Share<'_>>, AllocError> 
             count_pick(&mut shares, line)?;
         }
     }
-    shares.sort_by_key(number_of);
+    shares.sort_by_key(number_of)?;
     Ok(shares)
 }
 
@@ -110,7 +110,7 @@ fn tallies_of(alloc: Global, report: &str) -> Result<Vec<Tally<'_>>, AllocError>
             count_completion(&mut tallies, line)?;
         }
     }
-    tallies.sort_by_key(|tally| codes_of(tally.status));
+    tallies.sort_by_key(|tally| codes_of(tally.status))?;
     Ok(tallies)
 }
 

@@ -1,5 +1,6 @@
 -- What a file of either form stands for. (profile)
-use Rattle.std.specs.Prelude.{◌≡◌, ℕ, if◌then◌else◌, List, Option, Some, None, Result, Ok, Err}
+use Rattle.std.specs.Prelude.{◌≡◌, ℕ, if◌then◌else◌, List, [], ◌∷◌, Option, Some, None, Result, Ok, Err}
+use Rattle.std.specs.Result.{result_err}
 use Rattle.std.specs.Str.{is_utf8}
 use Rattle.toml.specs.Data.{Members}
 use Rattle.toml.specs.Parse.{parse_document}
@@ -17,7 +18,8 @@ use Rattle.nvme_short_form.specs.declared.flaw.Flaw.{Flaw}
 use Rattle.nvme_short_form.specs.Flaws.{AreLedBy, table_flaws}
 use Rattle.nvme_short.specs.Documents.{document_of}
 use Rattle.nvme_short.specs.declared.faults.ShortFaults.{ShortFaults}
-use Rattle.nvme_short.specs.Faults.{AreTold}
+use Rattle.nvme_short.specs.declared.told.ShortFault.{ShortFault}
+use Rattle.nvme_short.specs.Faults.{AreTold, shown}
 
 -- ---- the workload of a short table
 
@@ -80,3 +82,13 @@ TellsFaultsOf table told_error.NoMemory = Unit {0}
 abbrev pub TellsShortFaults : List ℕ → ExpandError → Type 0
 TellsShortFaults bytes (told_error.Faults faults) = (table : Members) × (short_in bytes ≡ Some table) × AreFaultsIn table faults
 TellsShortFaults bytes told_error.NoMemory = Unit {0}
+
+-- ---- the law
+
+abbrev pub first_told : List ShortFault → Option ShortError
+first_told [] = None
+first_told (fault ∷ faults) = Some (shown fault)
+
+-- what is told of a short table begins with its first fault
+abbrev pub FirstFaultIsToldFirst : Type 0
+FirstFaultIsToldFirst = (table : Members) (faults : ShortFaults) → AreFaultsIn table faults → first_told faults.told.items ≡ result_err (plan_of_short table)

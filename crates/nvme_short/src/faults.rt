@@ -1,8 +1,8 @@
 // The faults of a short workload file, as they are told.
-ghost use Rattle.std.specs.Prelude.{◌≡◌, ◌++◌, IfOk, OnOk, map};
+ghost use Rattle.std.specs.Prelude.{◌≡◌, ◌++◌, ◌∷◌, [], IfOk, OnOk, map};
 ghost use Rattle.nvme_short.specs.Faults.{AreTold, error_of, shown};
 
-use crate::told::{ShortFault, flaw_in};
+use crate::told::{ShortFault, fault_in};
 use nvme_short_form::Flaw;
 use std::alloc::{AllocError, Global};
 use std::fmt;
@@ -20,8 +20,25 @@ pub struct ShortFaults {
     pub more: usize,
 }
 
+// Appends what is told of a fault of a short table, which was read from the text.
+fn push_fault(
+    alloc: Global,
+    text: &[u8],
+    document: &Table,
+    told: &mut Vec<ShortFault>,
+    flaw: Flaw,
+) -> Result<(), AllocError>
+    ensures { OnOk result (map shown told.new.items ≡ map shown told.old.items ++ flaw.error ∷ []) }
+{
+    let Some(fault) = fault_in(alloc, text, document, flaw) else {
+        return Err(AllocError);
+    };
+    told.push(fault)?;
+    Ok(())
+}
+
 // Appends what is told of faults of a short table, which was read from the text.
-fn push_told(
+fn push_faults(
     alloc: Global,
     text: &[u8],
     document: &Table,
@@ -31,10 +48,7 @@ fn push_told(
     ensures { OnOk result (map shown told.new.items ≡ map shown told.old.items ++ map error_of flaws.now) }
 {
     for flaw in flaws {
-        match flaw_in(alloc, text, document, *flaw) {
-            Some(fault) => told.push(fault)?,
-            None => return Err(AllocError),
-        }
+        push_fault(alloc, text, document, told, *flaw)?;
     }
     Ok(())
 }
@@ -50,7 +64,7 @@ pub(crate) fn told_of(
 {
     let count = flaws.len().min(MOST_TOLD);
     let mut told = Vec::new(alloc);
-    push_told(alloc, text, document, &mut told, &flaws[..count])?;
+    push_faults(alloc, text, document, &mut told, &flaws[..count])?;
     Ok(ShortFaults {
         told,
         more: flaws.len() - count,

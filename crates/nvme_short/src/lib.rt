@@ -5,6 +5,7 @@ mod creates;
 mod document;
 mod expansion;
 mod faults;
+pub mod laws;
 mod looking;
 mod names;
 mod near;

@@ -28,14 +28,6 @@ pub(crate) fn value_in(table: &Table, key: Key) -> Option<&Value> {
     table.get(key.name())
 }
 
-/// How many items the array at a key has.
-pub(crate) fn count_at(table: &Table, key: Key) -> usize {
-    match value_in(table, key) {
-        Some(Value::Array(items)) => items.len(),
-        _ => 0,
-    }
-}
-
 /// An item of the array at a key.
 pub(crate) fn item_at(table: &Table, key: Key, index: usize) -> Option<&Value> {
     match value_in(table, key) {
@@ -87,19 +79,6 @@ fn seen_with<'t>(table: &'t Table, keys: &'static [Key]) -> Seen<'t> {
     }
 }
 
-// The table of a queue.
-fn seen_queue(table: &Table) -> Seen<'_> {
-    let fit: &'static [Key] = match value_in(table, Key::Cq) {
-        Some(_) => &SHARED_KEYS,
-        None => &QUEUE_KEYS,
-    };
-    Seen {
-        table,
-        keys: &QUEUE_KEYS,
-        fit,
-    }
-}
-
 // The table at fault of an item of a script.
 fn seen_in_entry(entry: &Table, inner: Option<usize>) -> Option<Seen<'_>> {
     if let Some(index) = inner {
@@ -130,7 +109,15 @@ pub(crate) fn seen_at(document: &Table, site: Site) -> Option<Seen<'_>> {
         Place::Top => Some(seen_with(document, &FILE_KEYS)),
         Place::Queue(number) => {
             let table = table_at(document, Key::Queue, number.saturating_sub(1))?;
-            Some(seen_queue(table))
+            let fit: &'static [Key] = match value_in(table, Key::Cq) {
+                Some(_) => &SHARED_KEYS,
+                None => &QUEUE_KEYS,
+            };
+            Some(Seen {
+                table,
+                keys: &QUEUE_KEYS,
+                fit,
+            })
         }
         Place::Item { queue, item } => {
             seen_in_entry(entry_at(document, queue, item)?.as_table()?, site.inner)

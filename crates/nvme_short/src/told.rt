@@ -2,7 +2,7 @@
 ghost use Rattle.std.specs.Prelude.{◌≡◌, IfOk, IfSome};
 ghost use Rattle.nvme_short.specs.Faults.{shown};
 
-use crate::looking::{Seen, Site, count_at, other_at, seen_at, unknown_key, value_in};
+use crate::looking::{Seen, Site, other_at, seen_at, unknown_key, value_in};
 use crate::near::nearest;
 use crate::spot::{Spot, spot_of};
 use crate::texts::{expected, words_of};
@@ -79,18 +79,13 @@ pub fn found_in(alloc: Global, value: Option<&Value>) -> Result<Found, AllocErro
     Ok(found)
 }
 
-// Whether a value is the size of a namespace.
-fn is_size(value: &Value) -> bool {
-    match value {
-        Value::Integer(size) => 0 < *size,
-        _ => false,
-    }
-}
-
 // The first item of the sizes that is none, or what stands in their place.
 fn other_size(sizes: &Value) -> &Value {
     match sizes {
-        Value::Array(items) => items.iter().find(|item| !is_size(item)).unwrap_or(sizes),
+        Value::Array(items) => items
+            .iter()
+            .find(|item| !matches!(item, Value::Integer(size) if 0 < *size))
+            .unwrap_or(sizes),
         _ => sizes,
     }
 }
@@ -123,7 +118,10 @@ fn note_of(
     match (fault, found, seen) {
         (Fault::Bad(Key::Number), Some(Value::Integer(number)), _) => Some(Note::NoQueue {
             number: *number,
-            queues: count_at(document, Key::Queue),
+            queues: match value_in(document, Key::Queue) {
+                Some(Value::Array(items)) => items.len(),
+                _ => 0,
+            },
         }),
         (Fault::Missing(Key::Op), _, Some(seen)) if value_in(seen.table, Key::Repeat).is_some() => {
             Some(Note::Nested)
@@ -132,14 +130,6 @@ fn note_of(
             Some(Note::BesideCq)
         }
         _ => None,
-    }
-}
-
-// The unknown key of a table with this index.
-fn key_of(fault: Fault, seen: Option<Seen<'_>>, index: usize) -> &str {
-    match (fault, seen) {
-        (Fault::Unknown, Some(seen)) => unknown_key(seen.fit, seen.table, index).unwrap_or(""),
-        _ => "",
     }
 }
 
@@ -181,7 +171,10 @@ fn told_at(
 {
     let seen = seen_at(document, site);
     let value = value_at(document, site, fault, seen);
-    let name = key_of(fault, seen, index);
+    let name = match (fault, seen) {
+        (Fault::Unknown, Some(seen)) => unknown_key(seen.fit, seen.table, index).unwrap_or(""),
+        _ => "",
+    };
     let note = note_of(document, fault, value, seen, name);
     let key = start_of(alloc, name, KEY_CHARACTERS)?;
     let spot = spot_of(alloc, text, site, fault, name, seen.is_some())?;
@@ -209,12 +202,7 @@ fn told_at(
 
 /// One of the faults of a short table, which was read from the text, with what is told of it. `None` where memory was
 /// refused.
-pub(crate) fn flaw_in(
-    alloc: Global,
-    text: &[u8],
-    document: &Table,
-    flaw: Flaw,
-) -> Option<ShortFault>
+pub fn fault_in(alloc: Global, text: &[u8], document: &Table, flaw: Flaw) -> Option<ShortFault>
     ensures { IfSome result (λ f. flaw.error ≡ shown f) }
 {
     let ShortError::At(place, fault) = flaw.error else {
@@ -228,23 +216,6 @@ pub(crate) fn flaw_in(
         Ok(fault) => Some(fault),
         Err(_) => None,
     }
-}
-
-/// A fault of a short table, which was read from the text, with what is told of it. `None` where memory was refused.
-pub fn fault_in(
-    alloc: Global,
-    text: &[u8],
-    document: &Table,
-    error: ShortError,
-) -> Option<ShortFault>
-    ensures { IfSome result (λ f. error ≡ shown f) }
-{
-    let flaw = Flaw {
-        error,
-        inner: None,
-        nth: 0,
-    };
-    flaw_in(alloc, text, document, flaw)
 }
 
 impl fmt::Display for Note {
@@ -307,18 +278,17 @@ impl fmt::Display for ShortDetails<'_> {
         match (told.note, told.fault) {
             (Some(note), _) => write!(f, "{note}"),
             (None, Fault::Unknown) => told.write_known(f),
-            (None, Fault::Missing(Key::Mechanism)) => f.write_str(without_mechanism(told.place)),
+            (None, Fault::Missing(Key::Mechanism)) => {
+                let what = match told.place {
+                    Place::Queue(_) => "classes",
+                    _ => "weights",
+                };
+                write!(
+                    f,
+                    "{what} have no effect under round robin: mechanism = \"weighted\" is missing"
+                )
+            }
             (None, _) => told.write_expected(f),
         }
-    }
-}
-
-// Why a file has to say its mechanism.
-fn without_mechanism(place: Place) -> &'static str {
-    match place {
-        Place::Queue(_) => {
-            "classes have no effect under round robin: mechanism = \"weighted\" is missing"
-        }
-        _ => "weights have no effect under round robin: mechanism = \"weighted\" is missing",
     }
 }

@@ -1,3 +1,3 @@
-mod Flaws
+pub mod Flaws
 pub mod Turns
 pub mod Runs

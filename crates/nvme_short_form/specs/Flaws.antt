@@ -19,7 +19,7 @@ use Rattle.nvme_short_form.specs.Readings.{◌>>=◌, item_count, is_known, valu
 use Rattle.nvme_short_form.specs.Commands.{is_named, spread_in}
 use Rattle.nvme_short_form.specs.Queues.{slots_in, qprio_in}
 use Rattle.nvme_short_form.specs.Admin.{optional_burst, weights_place, optional_feature}
-use Rattle.nvme_short_form.specs.Form.{optional_mechanism, sizes_in}
+use Rattle.nvme_short_form.specs.Form.{form_of, optional_mechanism, sizes_in}
 
 -- ---- faults of readings
 
@@ -295,5 +295,5 @@ first_of [] = None
 first_of (flaw ∷ flaws) = Some flaw.error
 
 -- The first of all faults of a table is the one that reading it gives, and there is none exactly where it gives none.
-abbrev pub FaultsBeginWithTheFirst : Type 1
-FaultsBeginWithTheFirst = (A : Type 0) (reading : Result A ShortError) (table : Members) (flaws : List Flaw) → AreFlawsBy table reading flaws → first_of flaws ≡ result_err reading
+abbrev pub FaultsBeginWithTheFirst : Type 0
+FaultsBeginWithTheFirst = (table : Members) (flaws : List Flaw) → AreFlawsBy table (form_of table) flaws → first_of flaws ≡ result_err (form_of table)

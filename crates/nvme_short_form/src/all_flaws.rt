@@ -7,7 +7,6 @@ ghost use Rattle.nvme_short_form.specs.Form.{sizes_in};
 ghost use Rattle.nvme_short_form.specs.Readings.{value_in};
 ghost use Rattle.nvme_short_form.specs.Flaws.{AreLedBy, all_queue_flaws, alone, cq_among, cq_flaws, queue_count, queue_flaws, queue_table_flaws, queues_from, settings_flaws, shared_among, table_flaws};
 ghost use Rattle.nvme_short_form.specs.declared.key.Key.TheVariants as key;
-ghost use Rattle.nvme_short_form.specs.declared.place.Place.TheVariants as place;
 
 use crate::admin_flaws::{push_admin, push_arbitration};
 use crate::error::{Fault, ShortError};
@@ -36,15 +35,11 @@ fn shared_among(place: Place, cqs: &[u16], value: &Value) -> Result<u16, ShortEr
 }
 
 // Appends the faults of the keys of a queue and of its completion queue, behind queues with these.
-fn push_cq(
-    flaws: &mut Vec<Flaw>,
-    cqs: &[u16],
-    place: Place,
-    table: &Table,
-) -> Result<(), AllocError>
-    requires { place ≡ place.Queue (length cqs.now + 1) }
+fn push_cq(flaws: &mut Vec<Flaw>, cqs: &[u16], table: &Table) -> Result<(), AllocError>
+    requires { length cqs.now < MAX_IO_QUEUES }
     ensures { OnOk result (flaws.new.items ≡ flaws.old.items ++ cq_flaws cqs.now (table_view table.now) (value_in key.Cq (table_view table.now))) }
 {
+    let place = Place::Queue(cqs.len() + 1);
     match value_in(Key::Cq, table) {
         Some(value) => {
             let cq = shared_among(place, cqs, value).err();
@@ -68,7 +63,7 @@ fn push_queue_keys(flaws: &mut Vec<Flaw>, cqs: &[u16], table: &Table) -> Result<
         slots_in(place, Key::Depth, table).err(),
         slots_in(place, Key::CqDepth, table).err(),
     ];
-    push_cq(flaws, cqs, place, table)?;
+    push_cq(flaws, cqs, table)?;
     push_given(flaws, None, &errors)?;
     push_script(flaws, number, table)
 }

@@ -50,21 +50,17 @@ fn words_of(rt: &HostRuntime) -> io::Result<Vec<String>> {
     Ok(env::args(rt)?.collect(rt.alloc())?)
 }
 
-// Whether the words ask for a lint, and for no help on it.
-fn is_lint(alloc: Global, words: &[String]) -> Result<bool, AllocError> {
-    if subcommand(words) != "lint" {
+// Whether the words ask for a lint, or for the report of a run, as the subcommand of this name does, and for no help on
+// it.
+fn is_asked(alloc: Global, words: &[String], name: &str) -> Result<bool, AllocError> {
+    if subcommand(words) != name {
         return Ok(false);
     }
     match asked_of(alloc, words) {
-        Ok(Request::Lint) => Ok(true),
+        Ok(Request::Lint | Request::RunFile(..)) => Ok(true),
         Err(WordsError::NoMemory(error)) => Err(error),
         _ => Ok(false),
     }
-}
-
-// Whether the words ask for the report of a run, and for no help on it.
-fn is_run(alloc: Global, words: &[String]) -> bool {
-    subcommand(words) == "run" && matches!(asked_of(alloc, words), Ok(Request::RunFile(..)))
 }
 
 // Whether the options of the words don't go together, so that no file is opened.
@@ -271,14 +267,15 @@ where
     ensures { IfSome result (λ status. status ≤ 4) }
 {
     let alloc = rt.alloc();
-    match is_lint(alloc, words) {
+    match is_asked(alloc, words, "lint") {
         Ok(true) => return Some(linted(rt, words, notes, output, errors)),
         Ok(false) => {}
         Err(_) => return Some(no_memory(errors)),
     }
-    let is_run = is_run(alloc, words);
-    if let Some(status) = ran_otherwise(rt, words, is_run, notes, output, errors) {
-        return Some(status);
+    match is_asked(alloc, words, "run") {
+        Ok(true) => return ran_otherwise(rt, words, notes, output, errors),
+        Ok(false) => {}
+        Err(_) => return Some(no_memory(errors)),
     }
     match simulation_asked(alloc, words) {
         Ok(Some(line)) => return Some(simulated(rt, &line, terminal, notes, output, errors)),

@@ -135,12 +135,11 @@ where
 }
 
 /// Does what a line of `run` asks for whose report is summarised, or written as JSON. The answer is the exit status.
-/// `None` where it is another line.
+/// `None` where the report is written as it stands.
 #[inline(never)]
 pub(crate) fn ran_otherwise<R, W: Write, E: Write>(
     rt: &R,
     words: &[String],
-    is_run: bool,
     notes: &Notes,
     output: &mut W,
     errors: &mut E,
@@ -149,9 +148,6 @@ where
     R: AllocGlobal + Files + Input + Threads + Wait + Sync,
     ensures { IfSome result (λ status. status ≤ 4) }
 {
-    if !is_run {
-        return None;
-    }
     match form_of(&said(words), errors) {
         Ok(Some(form)) => Some(reported(rt, words, form, notes, output, errors)),
         Ok(None) => None,
