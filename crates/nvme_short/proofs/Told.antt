@@ -4,7 +4,7 @@ use Rattle.std.specs.Result.{result_err}
 use Rattle.toml.specs.Data.{Members}
 use Rattle.nvme_short_form.specs.declared.error.ShortError.{ShortError}
 use Rattle.nvme_short_form.specs.declared.flaw.Flaw.{Flaw}
-use Rattle.nvme_short_form.specs.Flaws.{first_of, table_flaws}
+use Rattle.nvme_short_form.specs.Flaws.{first_of, led_by, table_flaws}
 use Rattle.nvme_short_form.proofs.Flaws.{led}
 use Rattle.nvme_short.specs.declared.told.ShortFault.{ShortFault}
 use Rattle.nvme_short.specs.declared.faults.ShortFaults.{ShortFaults}
@@ -26,4 +26,4 @@ of_flaws (f ∷ fs) = refl
 
 pub first_is_first : (table : Members) (faults : ShortFaults) → AreFaultsIn table faults → first_told faults.told.items ≡ result_err (plan_of_short table)
 first_is_first table faults are =
-    of_told faults.told.items ∙ ap first_error are.told.told ∙ of_flaws are.flaws ∙ led are.first (table_flaws table) are.flaws are.all ∙ sym (ap result_err are.is_first)
+    of_told faults.told.items ∙ ap first_error are.told.told ∙ of_flaws (led_by are.first (table_flaws table)) ∙ led are.first (table_flaws table) ∙ sym (ap result_err are.is_first)

@@ -14,8 +14,7 @@ use Rattle.nvme_short.specs.declared.expansion.ExpandError.{ExpandError}
 use Rattle.nvme_short.specs.declared.expansion.ExpandError.TheVariants as told_error
 use Rattle.nvme_short_form.specs.Readings.{◌>>=◌}
 use Rattle.nvme_short_form.specs.Form.{is_short, form_of}
-use Rattle.nvme_short_form.specs.declared.flaw.Flaw.{Flaw}
-use Rattle.nvme_short_form.specs.Flaws.{AreLedBy, table_flaws}
+use Rattle.nvme_short_form.specs.Flaws.{led_by, table_flaws}
 use Rattle.nvme_short.specs.Documents.{document_of}
 use Rattle.nvme_short.specs.declared.faults.ShortFaults.{ShortFaults}
 use Rattle.nvme_short.specs.declared.told.ShortFault.{ShortFault}
@@ -65,13 +64,11 @@ StandsFor bytes text = StandsBy (short_in bytes) bytes text
 
 -- ---- faults. Out of memory is told as such
 
--- the table has faults, and these are told: all, or so many that the others are counted, beginning with its first
+-- the table has faults, and these are told: all, or so many that the others are counted
 pub record AreFaultsIn (table : Members) (faults : ShortFaults) : Type 0 where
   pub first : ShortError
   pub is_first : plan_of_short table ≡ Err first
-  pub flaws : List Flaw
-  pub all : AreLedBy first (table_flaws table) flaws
-  pub told : AreTold flaws faults
+  pub told : AreTold (led_by first (table_flaws table)) faults
 
 -- what is told is the faults of a short table
 abbrev pub TellsFaultsOf : Members → ExpandError → Type 0

@@ -118,9 +118,9 @@ fn untold(alloc: Global, bytes: &[u8], table: &Table, error: ShortError) -> Expa
     requires { Fails error (plan_of_short (table_view table.now)) }
     ensures { TellsFaultsOf (table_view table.now) result }
 {
-    if error == ShortError::NoMemory {
+    let ShortError::At(..) = error else {
         return ExpandError::NoMemory;
-    }
+    };
     match faults_in(alloc, bytes, table, error) {
         Ok(faults) => ExpandError::Faults(faults),
         Err(_) => ExpandError::NoMemory,

@@ -1,17 +1,22 @@
--- All faults of a file.
-use Rattle.std.proofs.Common.{◌≡◌, List, [], ◌∷◌, Option, Some, Result, Ok, Err, inl, inr, refl, ap}
+-- All faults of a file begin with the one at which reading ends.
+use Rattle.std.proofs.Common.{◌≡◌, Bool, true, false, List, [], ◌∷◌, Some, Result, Ok, Err, if◌then◌else◌, refl}
 use Rattle.std.specs.Result.{result_err}
 use Rattle.toml.specs.Data.{Members}
 use Rattle.nvme_short_form.specs.declared.error.ShortError.{ShortError}
 use Rattle.nvme_short_form.specs.declared.flaw.Flaw.{Flaw}
-use Rattle.nvme_short_form.specs.Flaws.{AreFlawsBy, AreLedBy, alone, first_of, table_flaws}
+use Rattle.nvme_short_form.specs.Flaws.{all_flaws, alone, behind, first_of, is_of_count, leading, led_by, table_flaws}
 
-pub led : (e : ShortError) (others flaws : List Flaw) → AreLedBy e others flaws → first_of flaws ≡ Some e
-led e [] flaws is = rw is refl
-led e (other ∷ others) flaws (inl is) = rw is.1 (ap Some is.0)
-led e (other ∷ others) flaws (inr is) = rw is.1 refl
+leads : (e : ShortError) (flaws : List Flaw) → first_of (leading e flaws ∷ behind flaws) ≡ Some e
+leads e [] = refl
+leads e (flaw ∷ flaws) = refl
 
--- they begin with the fault of the reading
-pub begins : {A : Type 0} (reading : Result A ShortError) (table : Members) (flaws : List Flaw) → AreFlawsBy table reading flaws → first_of flaws ≡ result_err reading
-begins (Ok x) table flaws is = rw is refl
-begins (Err e) table flaws is = led e (table_flaws table) flaws is
+by_count : (of_count : Bool) (e : ShortError) (flaws : List Flaw) → first_of (if of_count then alone e ∷ flaws else leading e flaws ∷ behind flaws) ≡ Some e
+by_count true e flaws = refl
+by_count false e flaws = leads e flaws
+
+pub led : (e : ShortError) (flaws : List Flaw) → first_of (led_by e flaws) ≡ Some e
+led e flaws = by_count (is_of_count e) e flaws
+
+pub begins : {A : Type 0} (table : Members) (reading : Result A ShortError) → first_of (all_flaws table reading) ≡ result_err reading
+begins table (Ok x) = refl
+begins table (Err e) = led e (table_flaws table)

@@ -1,13 +1,15 @@
 -- Faults that are gathered one table after another.
-use Rattle.std.proofs.Common.{◌≡◌, ℕ, ◌+◌, ◌<◌, ◌≤◌, List, [], ◌∷◌, ◌++◌, length, get_or, drop, Option, sym, ap, ◌∙◌, append_assoc, append-nil}
+use Rattle.std.proofs.Common.{◌≡◌, ℕ, ◌+◌, ◌<◌, ◌≤◌, List, [], ◌∷◌, ◌++◌, length, get_or, drop, Option, sym, ap, ◌∙◌, append_assoc, append-nil, ◌-◌, arith, length-append}
 use Rattle.std.proofs.Math.ListN.{drop_of_length-le}
 use Rattle.std.proofs.lemmas.List.{drop_more}
-use Rattle.toml.specs.Data.{Data, as_table}
+use Rattle.toml.specs.Data.{Data, Members, member, as_table}
 use Rattle.toml.specs.View.{view, items_view}
 use Rattle.toml.specs.declared.value.Value.{Value}
 use Rattle.nvme_short_form.specs.declared.error.ShortError.{ShortError}
 use Rattle.nvme_short_form.specs.declared.flaw.Flaw.{Flaw}
-use Rattle.nvme_short_form.specs.Flaws.{cq_among, each_from, given, one_given, queue_flaws, queues_from}
+use Rattle.nvme_short_form.specs.declared.key.Key.{Key}
+use Rattle.nvme_short_form.specs.declared.place.Place.{Place}
+use Rattle.nvme_short_form.specs.Flaws.{cq_among, each_from, given, one_given, one_unknown, queue_flaws, queues_from, unknown_from}
 use Rattle.nvme_short_form.proofs.Turns.{item_at}
 
 -- one reading more
@@ -43,3 +45,12 @@ queues_more vs i v cqs before after total lt at step so =
 -- after the last queue
 pub queues_done : (vs : List Value) (i : ℕ) (cqs : List ℕ) (before total : List Flaw) → length vs ≤ i → before ++ queues_from cqs (items_view (drop i vs)) ≡ total → before ≡ total
 queues_done vs i cqs before total le so = sym (append-nil before) ∙ ap (λ ys. before ++ queues_from cqs (items_view ys)) (sym (drop_of_length-le vs le)) ∙ so
+
+-- one key more
+pub unknown_more : (at : Place) (inner : Option ℕ) (keys : List Key) (name : List ℕ) (d : Data) (ms : Members) (before : ℕ) (flaws after total : List Flaw) → before ≤ length flaws
+    → after ≡ flaws ++ one_unknown at inner keys (length flaws - before) name → flaws ++ unknown_from at inner keys (length flaws - before) (member name d ms) ≡ total
+    → after ++ unknown_from at inner keys (length after - before) ms ≡ total
+unknown_more at inner keys name d ms before flaws after total le step so =
+    let one = one_unknown at inner keys (length flaws - before) name in
+    let counted : length after - before ≡ (length flaws - before) + length one = omega (arith, le, ap length step ∙ length-append flaws one) in
+    rw counted (rw step (append_assoc flaws one (unknown_from at inner keys ((length flaws - before) + length one) ms))) ∙ so

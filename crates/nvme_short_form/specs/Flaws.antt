@@ -1,7 +1,7 @@
 -- All faults of a short workload file. Each table is looked at key by key, in the order in which it is read, and no fault keeps the
 -- others from being told. How many commands there are is no matter of one table: that they are too many is told where it is the
 -- first fault. (profile)
-use Rattle.std.specs.Prelude.{◌≡◌, ◌⊎◌, ℕ, ◌+◌, ◌==◌, nat_lt, if◌then◌else◌, codes, List, [], ◌∷◌, ◌++◌, length, Option, Some, None, Result, Ok, Err}
+use Rattle.std.specs.Prelude.{◌≡◌, ℕ, ◌+◌, ◌==◌, Bool, true, false, nat_lt, if◌then◌else◌, codes, List, [], ◌∷◌, ◌++◌, length, Option, Some, None, Result, Ok, Err}
 use Rattle.std.specs.Result.{result_err}
 use Rattle.std.specs.List.{list_any}
 use Rattle.toml.specs.Data.{Data, Items, no_items, item, Members, no_members, member, as_str, as_array, as_table}
@@ -10,7 +10,7 @@ use Rattle.nvme_short_form.specs.declared.key.Key.{Key}
 use Rattle.nvme_short_form.specs.declared.key.Key.TheVariants as key
 use Rattle.nvme_short_form.specs.declared.place.Place.{Place}
 use Rattle.nvme_short_form.specs.declared.place.Place.TheVariants as place
-use Rattle.nvme_short_form.specs.declared.error.Fault.TheVariants.{Missing, Bad, Unknown, Limit}
+use Rattle.nvme_short_form.specs.declared.error.Fault.TheVariants.{Missing, Bad, Unknown, Limit, Written}
 use Rattle.nvme_short_form.specs.declared.error.ShortError.{ShortError}
 use Rattle.nvme_short_form.specs.declared.error.ShortError.TheVariants.{At}
 use Rattle.nvme_short_form.specs.declared.flaw.Flaw.{Flaw}
@@ -274,19 +274,32 @@ unfoldable pub table_flaws : Members → List Flaw
 table_flaws table =
     settings_flaws table ++ all_queue_flaws (value_in key.Queue table) ++ admin_flaws (queue_count (value_in key.Queue table)) (value_in key.Admin table)
 
--- a fault of the file as a whole
+-- the fault is one of no table alone: there are too many commands
+abbrev pub is_of_count : ShortError → Bool
+is_of_count (At at (Limit key.Script)) = true
+is_of_count (At at (Written error)) = true
+is_of_count error = false
+
 abbrev pub alone : ShortError → Flaw
 alone e = record { error = e; inner = None; nth = 0 }
 
--- The faults begin with this one. That there are too many commands is the only one that no table tells.
-abbrev pub AreLedBy : ShortError → List Flaw → List Flaw → Type 0
-AreLedBy e [] flaws = flaws ≡ alone e ∷ []
-AreLedBy e (other ∷ others) flaws = ((other.error ≡ e) × (flaws ≡ other ∷ others)) ⊎ ((other.error ≡ e → ⊥) × (flaws ≡ alone e ∷ other ∷ others))
+-- the first of the faults of tables, as the one at which reading ends
+abbrev pub leading : ShortError → List Flaw → Flaw
+leading e [] = alone e
+leading e (flaw ∷ flaws) = record flaw { error = e }
 
--- all faults of a table: none where it is taken, and otherwise those that begin with its first
-abbrev pub AreFlawsBy : {A : Type 0} → Members → Result A ShortError → List Flaw → Type 0
-AreFlawsBy table (Ok x) flaws = flaws ≡ []
-AreFlawsBy table (Err e) flaws = AreLedBy e (table_flaws table) flaws
+abbrev pub behind : List Flaw → List Flaw
+behind [] = []
+behind (flaw ∷ flaws) = flaws
+
+-- the faults of tables, led by the one at which reading ends: it is the first of them, or else one of no table
+abbrev pub led_by : ShortError → List Flaw → List Flaw
+led_by e flaws = if is_of_count e then alone e ∷ flaws else leading e flaws ∷ behind flaws
+
+-- all faults of a table: none where reading takes it, and otherwise those that its first one leads
+abbrev pub all_flaws : {A : Type 0} → Members → Result A ShortError → List Flaw
+all_flaws table (Ok x) = []
+all_flaws table (Err e) = led_by e (table_flaws table)
 
 -- ---- the law
 
@@ -296,4 +309,4 @@ first_of (flaw ∷ flaws) = Some flaw.error
 
 -- The first of all faults of a table is the one that reading it gives, and there is none exactly where it gives none.
 abbrev pub FaultsBeginWithTheFirst : Type 0
-FaultsBeginWithTheFirst = (table : Members) (flaws : List Flaw) → AreFlawsBy table (form_of table) flaws → first_of flaws ≡ result_err (form_of table)
+FaultsBeginWithTheFirst = (table : Members) → first_of (all_flaws table (form_of table)) ≡ result_err (form_of table)

@@ -117,7 +117,8 @@ fn push_step_keys(
         return push_fault(flaws, Site::of(place), Fault::Missing(Key::Op));
     };
     match op.as_str() {
-        Some("create" | "delete") => push_queue_op(flaws, place, queues, table),
+        Some("create") => push_queue_op(flaws, place, queues, table),
+        Some("delete") => push_queue_op(flaws, place, queues, table),
         Some("abort") => push_abort(flaws, place, table),
         Some("set-arbitration") => push_set(flaws, place, table),
         Some("get-features") => push_get(flaws, place, table),

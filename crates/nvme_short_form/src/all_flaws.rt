@@ -5,7 +5,7 @@ ghost use Rattle.toml.specs.Data.{as_table};
 ghost use Rattle.toml.specs.View.{view, items_view, table_view};
 ghost use Rattle.nvme_short_form.specs.Form.{sizes_in};
 ghost use Rattle.nvme_short_form.specs.Readings.{value_in};
-ghost use Rattle.nvme_short_form.specs.Flaws.{AreLedBy, all_queue_flaws, alone, cq_among, cq_flaws, queue_count, queue_flaws, queue_table_flaws, queues_from, settings_flaws, shared_among, table_flaws};
+ghost use Rattle.nvme_short_form.specs.Flaws.{all_queue_flaws, alone, behind, cq_among, cq_flaws, is_of_count, leading, led_by, queue_count, queue_flaws, queue_table_flaws, queues_from, settings_flaws, shared_among, table_flaws};
 ghost use Rattle.nvme_short_form.specs.declared.key.Key.TheVariants as key;
 
 use crate::admin_flaws::{push_admin, push_arbitration};
@@ -149,8 +149,9 @@ fn sizes_error(alloc: Global, table: &Table) -> Result<Option<ShortError>, Alloc
     ensures { IfOk result (λ error. error ≡ result_err (sizes_in (table_view table.now))) }
 {
     match sizes_in(alloc, table) {
+        Ok(_) => Ok(None),
+        Err(ShortError::At(place, fault)) => Ok(Some(ShortError::At(place, fault))),
         Err(ShortError::NoMemory) => Err(AllocError),
-        sizes => Ok(sizes.err()),
     }
 }
 
@@ -188,28 +189,61 @@ fn table_flaws(alloc: Global, table: &Table) -> Result<Vec<Flaw>, AllocError>
     Ok(flaws)
 }
 
-// These faults behind another one.
-fn behind(alloc: Global, error: ShortError, others: &[Flaw]) -> Result<Vec<Flaw>, AllocError>
-    ensures { IfOk result (λ flaws. flaws.items ≡ alone error ∷ others.now) }
+// Whether a fault is one of no table alone: there are too many commands.
+fn is_of_count(error: ShortError) -> bool
+    ensures { result ≡ is_of_count error }
 {
-    let mut flaws = Vec::new(alloc);
-    flaws.push(Flaw {
+    match error {
+        ShortError::At(_, Fault::Limit(Key::Script)) => true,
+        ShortError::At(_, Fault::Written(_)) => true,
+        _ => false,
+    }
+}
+
+// The first of the faults of tables, as the one at which reading ends.
+fn leading(error: ShortError, flaws: &[Flaw]) -> Flaw
+    ensures { result ≡ leading error flaws.now }
+{
+    match flaws {
+        [flaw, ..] => Flaw { error, ..*flaw },
+        [] => alone(error),
+    }
+}
+
+// A fault of no table.
+fn alone(error: ShortError) -> Flaw
+    ensures { result ≡ alone error }
+{
+    Flaw {
         error,
         inner: None,
         nth: 0,
-    })?;
-    flaws.extend_from_slice(others)?;
-    Ok(flaws)
+    }
 }
 
-/// All faults of the table of a short workload file, of which this is the first. They come in the order in which keys are
-/// read. That the commands are too many is told where it is the first.
-pub fn flaws_of(alloc: Global, table: &Table, first: ShortError) -> Result<Vec<Flaw>, AllocError>
-    ensures { IfOk result (λ flaws. AreLedBy first (table_flaws (table_view table.now)) flaws.items) }
+// The faults behind the first.
+fn behind(flaws: &[Flaw]) -> &[Flaw]
+    ensures { result.now ≡ behind flaws.now }
+{
+    match flaws {
+        [_, others @ ..] => others,
+        [] => flaws,
+    }
+}
+
+/// All faults of the table of a short workload file, of which this is the one at which reading ends: it is the first of
+/// them. They come in the order in which keys are read. That there are too many commands is told where it is that one.
+pub fn flaws_of(alloc: Global, table: &Table, error: ShortError) -> Result<Vec<Flaw>, AllocError>
+    ensures { IfOk result (λ flaws. flaws.items ≡ led_by error (table_flaws (table_view table.now))) }
 {
     let flaws = table_flaws(alloc, table)?;
-    match flaws.first() {
-        Some(flaw) if flaw.error == first => Ok(flaws),
-        _ => behind(alloc, first, &flaws),
+    let mut led = Vec::new(alloc);
+    if is_of_count(error) {
+        led.push(alone(error))?;
+        led.extend_from_slice(&flaws)?;
+    } else {
+        led.push(leading(error, &flaws))?;
+        led.extend_from_slice(behind(&flaws))?;
     }
+    Ok(led)
 }

@@ -84,7 +84,8 @@ fn push_command(flaws: &mut Vec<Flaw>, site: Site, table: &Table) -> Result<(), 
         return push_fault(flaws, site, Fault::Missing(Key::Op));
     };
     match op.as_str() {
-        Some("read" | "write") => push_access(flaws, site, table),
+        Some("read") => push_access(flaws, site, table),
+        Some("write") => push_access(flaws, site, table),
         Some("flush") => push_flush(flaws, site, table),
         Some(_) => push_fault(flaws, site, Fault::Bad(Key::Op)),
         None => push_raw(flaws, site, table),

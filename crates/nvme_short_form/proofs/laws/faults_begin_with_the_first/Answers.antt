@@ -3,4 +3,4 @@ use Rattle.nvme_short_form.proofs.Flaws.{begins}
 use Rattle.nvme_short_form.proofs.laws.faults_begin_with_the_first.Goals as goal
 
 pub returns : goal.returns
-returns c = λ table flaws. begins (form_of table) table flaws
+returns c = λ table. begins table (form_of table)
