@@ -1,5 +1,5 @@
 // The report of a run in other forms: its summary, and as an object of JSON.
-use nvme_arbiter::{Mechanism, Settings};
+use nvme_arbiter::Mechanism;
 use nvme_lint::status_name;
 use nvme_short::stood_for;
 use nvme_trace::SettingsInWords;
