@@ -1,0 +1,4 @@
+use Rattle.nvme_bench.proofs.loops.calls.post.Goals as goal
+
+pub returns : goal.returns
+returns c = record { front = c.post.ensures.front c.requires.front }
