@@ -549,7 +549,7 @@ uint32_t nvmearb_table_add_cq_region(nvmearb_table *table, uint64_t address, uin
  *
  * At NVMEARB_ABORT the caller looks for the oldest waiting command with this identifier in this queue. If one waits,
  * the caller takes it out (nvmearb_board_went), answers it with 0/07, Command Abort Requested, and the Abort with 0 as
- * Command Dword 0. Otherwise the Abort is answered with 1: also if its SQID is 0, if the queue isn't open or is
+ * Dword 0. Otherwise the Abort is answered with 1: also if its SQID is 0, if the queue isn't open or is
  * closing, or if the command was picked.
  *
  * Other opcodes than those of NVMEARB_ADMIN_.. are answered with 0/01, Invalid Command Opcode; Set and Get Features of

@@ -43,7 +43,7 @@ picked-else past r i = by (is_aborted past r i) (nat_lt (unaborted_below past r 
   by false true e h = refl
   by false false e h = cc h
 
--- the status and Command Dword 0 of a place are by the answer only where it is an I/O place that isn't aborted
+-- the status and Dword 0 of a place are by the answer only where it is an I/O place that isn't aborted
 record OwnAlike (rules : FrontRules) (one other : Answer) (past : Past) (r i : ℕ) (entry : Sqe) : Type 0 where
   pub status : own_status_by rules one past r i entry ≡ own_status_by rules other past r i entry
   pub dw0 : own_dw0_by rules one past r i entry ≡ own_dw0_by rules other past r i entry

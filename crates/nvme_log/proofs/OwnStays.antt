@@ -158,7 +158,7 @@ module _ (rules : FrontRules) where
       record { waits_not = stays e (later ++ past) 0 i it.waits_not; not_just = refl; table = it.table; found = it.found }
 
   -- ---- the completion of a place
-  -- its status and Command Dword 0 at its post are those of any later moment
+  -- its status and Dword 0 at its post are those of any later moment
   pub record StaysOwnBy (answer : Answer) (before now : Past) (r i : ℕ) (entry : Sqe) : Type 0 where
     pub status : own_status_by rules answer now r i entry ≡ own_status_by rules answer before r i entry
     pub dw0 : own_dw0_by rules answer now r i entry ≡ own_dw0_by rules answer before r i entry

@@ -99,7 +99,7 @@ own_status_by-posts rules answer past r i entry = λ t.
     if aborted-posts past r i t then (if is_abort_requested-posts past r i t then abort_requested else aborted_by_deletion)
     else (if r == 0 then status_of rules.start (table_before-posts rules past i t) entry else answer.status)
 
--- and its Command Dword 0
+-- and its Dword 0
 pub own_dw0_by-posts : (rules : FrontRules) (answer : Answer) (past : Past) (r i : ℕ) (entry : Sqe) → Each (EffectsAtOnce rules) past
     → own_dw0_by rules answer (without_posts past) r i entry ≡ own_dw0_by rules answer past r i entry
 own_dw0_by-posts rules answer past r i entry h = λ t.

@@ -54,7 +54,7 @@ AdminIsNotAborted = (rules : FrontRules) (sent : ℕ → List Sqe) (past : Past)
 
 -- ---- what an aborted command is told
 -- an aborted place was aborted by an Abort command, or with its queue by the command that began the deletion. The status of its completion
--- tells which, and Command Dword 0 is 0
+-- tells which, and Dword 0 is 0
 pub record TellsAbort (rules : FrontRules) (past : Past) (r i : ℕ) : Type 0 where
   pub aborted_by : ((sqid : ℕ) × (cid : ℕ) × IsAbortedBy rules past (verdict.Abort sqid cid) r i) ⊎ ((qid : ℕ) × IsAbortedBy rules past (verdict.BeginDelete qid) r i)
   pub by_command : (sqid cid : ℕ) → IsAbortedBy rules past (verdict.Abort sqid cid) r i
@@ -94,7 +94,7 @@ AbortsTakeTheOldest = (rules : FrontRules) (sent : ℕ → List Sqe) (past : Pas
     → TakesCommand rules before pick i (verdict.Abort sqid cid) → TakesOldest later before sqid cid
 
 -- ---- what an Abort command is told
--- the completion of an Abort command says success, and by Command Dword 0 whether an abort followed its pick at once
+-- the completion of an Abort command says success, and by Dword 0 whether an abort followed its pick at once
 pub record TellsFound (later : Past) (cqe : Cqe) : Type 0 where
   pub status : cqe.status ≡ success
   pub found : (rest : Past) (r i : ℕ) → later ≡ rest ++ event.Abort r i ∷ [] → cqe.dw0 ≡ 0

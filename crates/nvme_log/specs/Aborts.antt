@@ -52,7 +52,7 @@ has_aborted (event.Abort region index ∷ past) i = is_index i (just_picked past
 has_aborted (event.Pick seen pick ∷ past) i = if is_index i (taken_by past pick) then false else has_aborted past i
 has_aborted (e ∷ past) i = has_aborted past i
 
--- Command Dword 0 of an admin command: for an Abort 0 where it aborted a command and 1 otherwise, for any other that of the queue table
+-- Dword 0 of an admin command: for an Abort 0 where it aborted a command and 1 otherwise, for any other that of the queue table
 abbrev pub told_dw0 : Bool → Verdict → ℕ → ℕ
 told_dw0 aborted (verdict.Abort sqid cid) dw0 = if aborted then 0 else 1
 told_dw0 aborted v dw0 = dw0

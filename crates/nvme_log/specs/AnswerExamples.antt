@@ -7,7 +7,7 @@ use Rattle.nvme_log.specs.Rules.{Past}
 use Rattle.nvme_log.specs.Answers.{Answer, Answers}
 use Rattle.nvme_log.specs.Examples.{done, read_done, one_picked}
 
--- Unrecovered Read Error (Media and Data Integrity Errors), with a Command Dword 0
+-- Unrecovered Read Error (Media and Data Integrity Errors), with a Dword 0
 abbrev pub read_error : Answer
 read_error = record { status = code 2 0x81; dw0 = 7 }
 

@@ -8,7 +8,7 @@ use Rattle.nvme_log.specs.Rules.{Past, FrontRules}
 use Rattle.nvme_log.specs.Places.{entry_at}
 use Rattle.nvme_log.specs.declared.place.Place.{Place}
 
--- the answer to an I/O command: its status and Command Dword 0
+-- the answer to an I/O command: its status and Dword 0
 pub record Answer : Type 0 where
   pub status : StatusCode
   pub dw0 : ℕ
@@ -17,7 +17,7 @@ pub record Answer : Type 0 where
 abbrev pub Executor : Type 0
 Executor = Place → Sqe → Answer
 
--- the outcome of a command as its answer. Command Dword 0 is 0
+-- the outcome of a command as its answer. Dword 0 is 0
 abbrev pub outcome_answer : FrontRules → Sqe → Answer
 outcome_answer rules entry = record { status = outcome_of entry rules.sizes; dw0 = 0 }
 

@@ -61,18 +61,18 @@ own_status_by rules answer past r i entry =
 abbrev pub own_status : FrontRules → Past → ℕ → ℕ → Sqe → StatusCode
 own_status rules past r i entry = own_status_by rules (outcome_answer rules entry) past r i entry
 
--- Command Dword 0 of the command of an admin place
+-- Dword 0 of the command of an admin place
 abbrev pub admin_dw0 : FrontRules → Past → ℕ → Sqe → ℕ
 admin_dw0 rules past i entry =
     told_dw0 (has_aborted past i) (verdict_of rules.start (table_before rules past i) entry) (dw0_of rules.start (table_before rules past i) entry)
 
--- Command Dword 0 of a place: 0 of an aborted one, else that of an admin command, else that of the answer to an I/O command
+-- Dword 0 of a place: 0 of an aborted one, else that of an admin command, else that of the answer to an I/O command
 abbrev pub own_dw0_by : FrontRules → Answer → Past → ℕ → ℕ → Sqe → ℕ
 own_dw0_by rules answer past r i entry =
     if is_aborted past r i then 0
     else (if r == 0 then admin_dw0 rules past i entry else answer.dw0)
 
--- where the answer is the outcome of the command, with Command Dword 0 as 0
+-- where the answer is the outcome of the command, with Dword 0 as 0
 abbrev pub own_dw0 : FrontRules → Past → ℕ → ℕ → Sqe → ℕ
 own_dw0 rules past r i entry = own_dw0_by rules (outcome_answer rules entry) past r i entry
 

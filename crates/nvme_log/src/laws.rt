@@ -132,8 +132,8 @@ pub fn laws_hold_whatever_executes()
     ensures served { PromisesServeOnceBy }
 {}
 
-/// Worked: a device answers the Read that is picked with an error and a Command Dword 0. The log is accounted by its
-/// answers, and isn't the account of a front that executes by itself. Another status and another Command Dword 0 than
+/// Worked: a device answers the Read that is picked with an error and a Dword 0. The log is accounted by its
+/// answers, and isn't the account of a front that executes by itself. Another status and another Dword 0 than
 /// the device's are refused. An admin command is told what its checks say, and an aborted one who aborted it, whatever
 /// the device has for their places.
 pub fn devices_answer_otherwise()
@@ -194,7 +194,7 @@ pub fn changed_logs_are_refused()
     ensures collected_in_another_order { IsPrefix (done 1 0 success ∷ done 1 1 aborted_by_deletion ∷ []) (posted_to deleted 1) → ⊥ }
 {}
 
-/// The own completion of a place has its queue, its command's identifier, its status, its Command Dword 0, the number
+/// The own completion of a place has its queue, its command's identifier, its status, its Dword 0, the number
 /// of commands fetched so far and the phase tag of its turn. One that differs in a field is refused. (Base
 /// Specification, Completion Queue Entry)
 pub fn each_field_of_a_completion_is_its_own()
@@ -375,7 +375,7 @@ pub fn aborted_places_are_not_served()
 {}
 
 /// A place is aborted by an Abort command or with its queue. The status of its completion tells which: Command Abort
-/// Requested, or Command Aborted due to SQ Deletion. Its Command Dword 0 is 0.
+/// Requested, or Command Aborted due to SQ Deletion. Its Dword 0 is 0.
 pub fn aborted_places_are_told()
     ensures { AbortedAreTold }
 {}
@@ -386,7 +386,7 @@ pub fn aborts_take_the_oldest()
     ensures { AbortsTakeTheOldest }
 {}
 
-/// The completion of an Abort command says success. Its Command Dword 0 is 0 where an abort followed its pick at once,
+/// The completion of an Abort command says success. Its Dword 0 is 0 where an abort followed its pick at once,
 /// and 1 otherwise.
 pub fn aborts_say_what_they_found()
     ensures { AbortsAreTold }

@@ -87,7 +87,7 @@ pub fn take(ctrl: &mut Controller, slots: &mut [Slot]) -> Option<Command>
     })
 }
 
-/// The device answers a command, with this status and Command Dword 0.
+/// The device answers a command, with this status and Dword 0.
 #[inline(never)]
 pub fn complete(
     ctrl: &mut Controller,
