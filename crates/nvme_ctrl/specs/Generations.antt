@@ -38,7 +38,7 @@ pub record IsNextGeneration (old new : List Slot) (x : ℕ) : Type 0 where
   pub next : generation_at new x ≡ (generation_at old x + 1) % generations
   pub others : (y : ℕ) → y ≢ x → generation_at new y ≡ generation_at old y
 
--- the commands of these slots are taken, one after the other, and others calls are made between
+-- the commands of these slots are taken, one after the other, with other calls between them
 abbrev pub AreTaken : (old new : List Slot) → List ℕ → Type 0
 AreTaken old new [] = SameGenerations old new
 AreTaken old new (x ∷ xs) = (mid : List Slot) × IsNextGeneration old mid x × AreTaken mid new xs

@@ -20,7 +20,7 @@ steps (note ∷ notes) = steps notes
 abbrev pub steps_each : ℕ
 steps_each = 6
 
--- so at most six calls do something for each command that was fetched, and only fetched commands are those that the host submitted (SlotsAreFetchedInOrder):
+-- so at most six calls do something for each command that was fetched, and only commands that the host submitted are fetched (SlotsAreFetchedInOrder):
 -- with no doorbell more, calls come to an end that do something
 abbrev pub StepsAreFew : Type 0
 StepsAreFew = (rules : FrontRules) (notes : Notes) → IsAccount rules notes → steps notes ≤ steps_each * all_fetches (logged notes)

@@ -140,6 +140,13 @@ pub record LacksRoom (rules : FrontRules) (notes : Notes) (room : ℕ) : Type 0 
   pub next : IsNextPick rules notes (Some pick)
   pub none : room ≡ 0
 
+-- a step picked no command
+abbrev pub PicksNone : Step → Type 0
+PicksNone (Picked pick) = ⊥
+PicksNone (PassedOn pick) = ⊥
+PicksNone (Done effect entry) = ⊥
+PicksNone step = Unit {0}
+
 -- a step of arbitration, with room for so many commands. Where it did nothing, it leaves the controller as it was
 abbrev pub HasStepped : FrontRules → Bool → Notes → (room : ℕ) → Step → Controller → List Slot → Type 0
 HasStepped rules late notes room Idle c slots = Stands rules late notes c slots × IsNextPick rules notes None

@@ -27,8 +27,7 @@ impl Controller {
     ghost use Rattle.nvme_ctrl.specs.declared.slot.Slot.{Slot};
 
     /// The device takes the next picked command, whose slot has the next generation from then on (`Tag`). The slot holds the
-    /// command until its completion is posted. None, which changes
-    /// nothing, exactly where all that was picked is taken.
+    /// command until its completion is posted. None, which changes nothing, exactly where all that was picked is taken.
     pub fn take(&mut self, slots: &mut [Slot]) -> Option<u16>
         ensures front { IsController self.old slots.old → IsController self.new slots.new }
         ensures none { result ≡ None → (self.new ≡ self.old) × (slots.new ≡ slots.old) }

@@ -127,6 +127,7 @@ pub extern "C" fn nvmearb_ctrl_pick(
     ensures bad_state { (result ≡ BAD_STATE) ↔ IsFalse (is_whole state.old) }
     ensures bad_argument { (result ≡ BAD_ARGUMENT) ↔ (IsTrue (is_whole state.old) × IsFalse (has_slots state.old slots.old)) }
     ensures taken { (rules : FrontRules) (late : Bool) (notes : Notes) → Stands rules late notes state.old.ctrl slots.old → IsBusy notes → (result ≡ BUSY) ⊎ ((result ≡ BAD_ARGUMENT) ⊎ (result ≡ BAD_STATE)) }
+    ensures needs_room { room ≡ 0 → result ≢ OK }
     ensures io { result ≡ OK → step.new.kind ≡ PICKED → step.new.pick.qid ≢ 0 }
     ensures idle { (rules : FrontRules) (late : Bool) (notes : Notes) → Stands rules late notes state.old.ctrl slots.old → result ≡ NOTHING → HasStepped rules late notes room made.Idle state.new.ctrl slots.new }
     ensures busy { (rules : FrontRules) (late : Bool) (notes : Notes) → Stands rules late notes state.old.ctrl slots.old → result ≡ BUSY → HasStepped rules late notes room made.Busy state.new.ctrl slots.new }

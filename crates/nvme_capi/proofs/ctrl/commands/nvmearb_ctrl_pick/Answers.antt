@@ -2,7 +2,7 @@ use Rattle.std.proofs.Common.{◌∙◌, refl, sym, ap, subst, inl}
 use Rattle.nvme_ctrl.specs.declared.picks.Step.{Step}
 use Rattle.nvme_ctrl.specs.declared.picks.Step.TheVariants as made
 use Rattle.nvme_arbiter.specs.declared.pick.Pick.{Pick}
-use Rattle.nvme_ctrl.specs.Steps.{HasStepped}
+use Rattle.nvme_ctrl.specs.Steps.{HasStepped, PicksNone}
 use Rattle.nvme_capi.specs.Tables.{answer_of}
 use Rattle.nvme_capi.proofs.ctrl.commands.nvmearb_ctrl_pick.Goals as goal
 
@@ -88,3 +88,12 @@ returns-in-Busy-clause-taken c = λ rules late notes s busy. inl refl
 
 pub returns-in-Picked-clause-io : goal.returns-in-Picked-clause-io
 returns-in-Picked-clause-io c = λ _ _ admin. c.pick.ensures.io c.in-Picked.pick c.in-Picked.is (ap (λ (p : Pick). p.qid) (sym c.fields_of_pick.ensures.same) ∙ admin)
+
+pub returns-in-Picked-clause-needs_room : goal.returns-in-Picked-clause-needs_room
+returns-in-Picked-clause-needs_room c = λ none _. subst (λ (it : Step). PicksNone it) c.in-Picked.is (c.pick.ensures.needs_room none)
+
+pub returns-in-Passed-clause-needs_room : goal.returns-in-Passed-clause-needs_room
+returns-in-Passed-clause-needs_room c = λ none _. subst (λ (it : Step). PicksNone it) c.in-Passed.is (c.pick.ensures.needs_room none)
+
+pub returns-in-Done-clause-needs_room : goal.returns-in-Done-clause-needs_room
+returns-in-Done-clause-needs_room c = λ none _. subst (λ (it : Step). PicksNone it) c.in-Done.is (c.pick.ensures.needs_room none)

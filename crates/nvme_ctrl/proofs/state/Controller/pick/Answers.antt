@@ -102,3 +102,12 @@ returns-else-is_own-clause-taken c rules late notes s busy = absurd (isnt_busy r
 pub returns-else-is_own-clause-anywhere : goal.returns-else-is_own-clause-anywhere
 returns-else-is_own-clause-anywhere c rules late notes s on effect entry is =
     subst (λ (z : Step). IdentifiesIn z) is (c.pick_admin-effect.ensures.anywhere rules late notes s on)
+
+pub returns-then-pick-ne0-clause-needs_room : goal.returns-then-pick-ne0-clause-needs_room
+returns-then-pick-ne0-clause-needs_room c none = absurd (c.if-room-eq0.false none)
+
+pub returns-then-is_own-clause-needs_room : goal.returns-then-is_own-clause-needs_room
+returns-then-is_own-clause-needs_room c none = absurd (c.if-room-eq0.false none)
+
+pub returns-else-is_own-clause-needs_room : goal.returns-else-is_own-clause-needs_room
+returns-else-is_own-clause-needs_room c none = absurd (c.if-room-eq0.false none)
