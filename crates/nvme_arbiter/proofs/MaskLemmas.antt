@@ -1,6 +1,6 @@
 -- The open queues of a board as they are seen, place by place, and what is found of them by the masks.
 use Rattle.std.proofs.Common.{◌≡◌, ◌∙◌, ℕ, zero, suc, ◌+◌, ◌-◌, ◌*◌, ◌/◌, ◌%◌, ◌^◌, ◌<◌, ◌≤◌, ◌==◌, inl, inr, ◌&&◌, min, Bool, true, false, cond, nat_lt, bit_or, List, [], ◌∷◌, ◌++◌, length, set, take, find, refl, sym, ap, subst, arith}
-use Rattle.std.specs.Prelude.{◌↔◌, if◌then◌else◌, Option, Some, None, All, MatchOption, option_map, replicate, slice_index_or}
+use Rattle.std.specs.Prelude.{◌↔◌, if◌then◌else◌, filter, Option, Some, None, All, MatchOption, is_some, option_map, replicate, slice_index_or}
 use Rattle.std.specs.Int.{bit_at, w64, trailing_zeros}
 use Rattle.std.proofs.lemmas.Bool.{lt-ltb, le-ltb, cases_eq, cases_lt, cond-true, cond-false, and_from, and_right, eq-eqb, ne_eqb}
 use Rattle.std.proofs.lemmas.List.{append-nil, take_all, get_or-set_same, get_or-set_other, get_or_past, length-set, get_or-replicate, length-replicate, ext_get_or}
@@ -21,7 +21,7 @@ use Rattle.nvme_arbiter.specs.declared.queues.QueuesFields.{QueuesFields}
 use Rattle.nvme_arbiter.specs.Observation.{is_class, is_wanted, IsSeen, IsObservation, class_in}
 use Rattle.nvme_arbiter.specs.Queues.{seen_as, seen_from, seen_of, queue_at, FitsUnder, shown}
 use Rattle.nvme_arbiter.specs.Layout.{class_under, mask_in, is_marked, waiting_in, open_in, closed, slot_in, slot_at, slots_in}
-use Rattle.nvme_arbiter.specs.inside.Masks.{IsLowest, IsFirstFrom, IsWantedAt, KeepsFrom, NoneFrom, with_bit, with_mask, marked_with, mask_for, passes}
+use Rattle.nvme_arbiter.specs.inside.Masks.{IsLowest, IsFirstFrom, IsWantedAt, KeepsFrom, NoneFrom, with_bit, with_mask, marked_with, mask_for, is_io, passes}
 use Rattle.nvme_arbiter.proofs.NextLemmas.{Below}
 use Rattle.nvme_arbiter.proofs.Observations.{IsFromOn}
 
@@ -542,3 +542,56 @@ first-above queues wanted last (Some s) h =
       | inl a ↦ above-not queues wanted last j (h.none_before j (omega (arith, a)) l)
       | inr g ↦ not-above queues wanted last j g
     ]))
+
+-- ---- what isn't ready at a glance
+filter-nothing : (p : Seen → Bool) (i : ℕ) (queues : List (Option OpenQueue)) → ((j m : ℕ) → m ≡ i + j → passes p m (queue_at queues j) ≡ false) → filter p (seen_from i queues) ≡ []
+filter-nothing p i [] f = refl
+filter-nothing p i (None ∷ rest) f = filter-nothing p (i + 1) rest (λ j m b. f (suc j) m (omega arith))
+filter-nothing p i (Some y ∷ rest) f = cond-false (p (seen_as i y)) _ _ (f 0 i (omega arith)) ∙ filter-nothing p (i + 1) rest (λ j m b. f (suc j) m (omega arith))
+
+-- no I/O queue is ready without a bit
+none-without-bits : (b : QueuesFields) (wanted : Option Class) → ((i : ℕ) → bit_at (mask_for b wanted) i ≡ 0) → passes (is_wanted wanted) 0 (queue_at (slots_in b) 0) ≡ false
+    → filter (is_wanted wanted) (seen_of (slots_in b)) ≡ []
+none-without-bits b wanted none admin = filter-nothing (is_wanted wanted) 0 (slots_in b) (λ j m e. subst (λ n. passes (is_wanted wanted) n (queue_at (slots_in b) j) ≡ false) (omega (arith, e)) (at j))
+  where
+    at : (j : ℕ) → passes (is_wanted wanted) j (queue_at (slots_in b) j) ≡ false
+    at zero = admin
+    at (suc j) = elim (cases_lt (suc j) queue_limit) [
+      | inl l ↦ not-ready b wanted (suc j) (omega arith) (omega (arith, l)) (none (suc j - 1))
+      | inr g ↦ past-wanted b wanted (suc j) g
+    ]
+
+-- the admin queue is of no class of I/O queues
+pub admin-other : (b : QueuesFields) (wanted : Option Class) → is_io wanted ≡ true → passes (is_wanted wanted) 0 (queue_at (slots_in b) 0) ≡ false
+admin-other b wanted io = ap (passes (is_wanted wanted) 0) (slot-at b 0 (omega arith)) ∙ by_class wanted ((slice_index_or b.places 0 closed).class == 1) io
+  where
+    by_class : (w : Option Class) (z : Bool) → is_io w ≡ true → passes (is_wanted w) 0 (open_in b 0 (slice_index_or b.places 0 closed).count (if z then Some Admin else None)) ≡ false
+    by_class None z io = absurd (cc)
+    by_class (Some Admin) z io = absurd (cc)
+    by_class (Some Urgent) true io = refl
+    by_class (Some High) true io = refl
+    by_class (Some Medium) true io = refl
+    by_class (Some Low) true io = refl
+    by_class (Some Urgent) false io = refl
+    by_class (Some High) false io = refl
+    by_class (Some Medium) false io = refl
+    by_class (Some Low) false io = refl
+
+pub none-of-io : (b : QueuesFields) (wanted : Option Class) → is_io wanted ≡ true → mask_for b wanted ≡ 0 → filter (is_wanted wanted) (seen_of (slots_in b)) ≡ []
+none-of-io b wanted io is = none-without-bits b wanted (λ i. ap (λ m. bit_at m i) is ∙ bit_at-zero i) (admin-other b wanted io)
+
+pub none-of-admin : (b : QueuesFields) (wanted : Option Class) → is_io wanted ≡ false → is_some wanted ≡ true → (slice_index_or b.places 0 closed).count ≡ 0
+    → filter (is_wanted wanted) (seen_of (slots_in b)) ≡ []
+none-of-admin b None io some is = absurd (cc)
+none-of-admin b (Some Admin) io some is =
+    none-without-bits b (Some Admin) bit_at-zero (ap (passes (is_wanted (Some Admin)) 0) (slot-at b 0 (omega arith)) ∙ (ap (λ n. passes (is_wanted (Some Admin)) 0 (open_in b 0 n under)) is ∙ by_class ((slice_index_or b.places 0 closed).class == 1)))
+  where
+    under : Option Class
+    under = class_under 0 (slice_index_or b.places 0 closed).class
+    by_class : (z : Bool) → passes (is_wanted (Some Admin)) 0 (open_in b 0 0 (if z then Some Admin else None)) ≡ false
+    by_class true = refl
+    by_class false = refl
+none-of-admin b (Some Urgent) io some is = absurd (cc)
+none-of-admin b (Some High) io some is = absurd (cc)
+none-of-admin b (Some Medium) io some is = absurd (cc)
+none-of-admin b (Some Low) io some is = absurd (cc)

@@ -1,5 +1,6 @@
 // The arbiter: it looks through the queues that it is shown.
-use crate::kept::Kept;
+use crate::arbiter_fields::ArbiterFields;
+use crate::kept::{Kept, Used};
 use crate::pick::{Pick, Seen};
 use crate::settings::{Mechanism, Settings};
 use std::marker::Model;
@@ -62,7 +63,7 @@ impl Arbiter {
         ensures lawful { (mechanism : Mechanism) (first : ArbitrationFields) (past : History) → StandsAt mechanism first past self.now → result ≡ lawful_pick mechanism first past seen.now }
         ensures none_where_idle { IsNone result ↔ IsIdle seen.now }
     {
-        self.kept.peek(&seen)
+        ArbiterFields::of(self.kept).peek(&seen)
     }
 
     /// The lawful pick after the picks and settings so far: the next queue, and how many of its commands are taken
@@ -93,7 +94,9 @@ impl Arbiter {
         ensures stands { (mechanism : Mechanism) (first : ArbitrationFields) (past : History) → StandsAt mechanism first past self.old → MatchOption result (self.new ≡ self.old) (λ pick. StandsAt mechanism first (Picked seen.now pick ∷ past) self.new) }
         ensures kept { MatchOption result (self.new ≡ self.old) (λ pick. self.new ≡ kept_after self.old.mechanism self.old (class_in seen.now pick.qid) pick) }
     {
-        self.kept.pick_up_to(&seen, limit)
+        let pick = self.peek(seen)?.up_to(limit);
+        self.keep(seen, pick);
+        Some(pick)
     }
 
     /// Keeps the pick that `peek` answers, or one of fewer of its commands.
@@ -103,7 +106,9 @@ impl Arbiter {
         ensures stands { (mechanism : Mechanism) (first : ArbitrationFields) (past : History) → StandsAt mechanism first past self.old → StandsAt mechanism first (Picked seen.now pick ∷ past) self.new }
         ensures kept { self.new ≡ kept_after self.old.mechanism self.old (class_in seen.now pick.qid) pick }
     {
-        self.kept.keep(&seen, pick);
+        let mut fields = ArbiterFields::of(self.kept);
+        fields.keep(&seen, pick);
+        self.kept = fields.kept();
     }
 
     /// Takes new settings, which start a new round. The identifiers served last stay.
@@ -111,6 +116,7 @@ impl Arbiter {
         ensures stands { (mechanism : Mechanism) (first : ArbitrationFields) (past : History) → StandsAt mechanism first past self.old → StandsAt mechanism first (Changed settings ∷ past) self.new }
         ensures kept { self.new ≡ record self.old { settings = settings; used = nothing_used } }
     {
-        self.kept.set(settings);
+        self.kept.settings = settings;
+        self.kept.used = Used::none();
     }
 }

@@ -1,7 +1,7 @@
 // What an arbiter keeps, as it lies in memory. A state is accepted where its mechanism is one of the two and each
 // identifier is in range. An arbiter can keep every such state, so nothing else has to hold of it.
 ghost use Rattle.std.specs.Prelude.{◌≡◌, IsTrue};
-ghost use Rattle.nvme_arbiter.specs.Standing.{last_with, used_with, nothing_used, StaysWithin};
+ghost use Rattle.nvme_arbiter.specs.Standing.{last_with, used_of, used_with, nothing_used, StaysWithin};
 ghost use Rattle.nvme_arbiter.specs.Layout.{last_of_place, is_place, are_places, mechanism_of, is_mechanism, last_in, used_in};
 
 use crate::by_class::ByClass;
@@ -50,7 +50,7 @@ fn is_place(place: u32) -> bool
 }
 
 // The identifier with this number, 0 for none.
-fn last_of_place(place: u32) -> Option<u16>
+pub fn last_of_place(place: u32) -> Option<u16>
     requires { IsTrue (is_place place) }
     ensures { result ≡ last_of_place place }
 {
@@ -73,7 +73,7 @@ fn place_of_last(last: Option<u16>) -> u32
 }
 
 // The mechanism of a number: 1 is round robin, any other is weighted.
-fn mechanism_of(number: u32) -> Mechanism
+pub fn mechanism_of(number: u32) -> Mechanism
     ensures { result ≡ mechanism_of number }
 {
     if number == 1 {
@@ -205,6 +205,18 @@ impl UsedFields {
         }
     }
 
+    // How many commands of a level were picked in this round.
+    pub fn of_level(&self, level: Class) -> u16
+        ensures { result ≡ used_of (used_in self.now) level }
+    {
+        match level {
+            Class::High => self.high,
+            Class::Medium => self.medium,
+            Class::Low => self.low,
+            Class::Admin | Class::Urgent => 0,
+        }
+    }
+
     // What was picked in this round.
     fn used(&self) -> Used
         ensures { result ≡ used_in self.now }
@@ -236,8 +248,8 @@ impl ArbiterFields {
         ArbiterFields::of(Kept::new(mechanism, settings))
     }
 
-    // The fields of what is kept.
-    fn of(kept: Kept) -> ArbiterFields
+    /// The fields of what is kept.
+    pub fn of(kept: Kept) -> ArbiterFields
         ensures kept { kept_of result ≡ kept }
         ensures is_arbiter { IsTrue (is_arbiter result) }
     {
@@ -267,17 +279,6 @@ impl ArbiterFields {
             last: self.last.last(),
             used: self.used.used(),
         }
-    }
-
-    /// The lawful pick of these queues after the picks and settings so far. `None` exactly where no command waits.
-    pub fn peek<Q: ReadyQueues>(&self, queues: &Q) -> Option<Pick>
-        requires observed { IsObservation (Q.seen queues.now) }
-        requires is_arbiter { IsTrue (is_arbiter self.now) }
-        ensures by_what_is_kept { result ≡ pick_of (kept_of self.now) (Q.seen queues.now) }
-        ensures lawful { (mechanism : Mechanism) (first : ArbitrationFields) (past : History) → StandsAt mechanism first past (kept_of self.now) → result ≡ lawful_pick mechanism first past (Q.seen queues.now) }
-        ensures none_where_idle { IsNone result ↔ IsIdle (Q.seen queues.now) }
-    {
-        self.kept().peek(queues)
     }
 
     /// The lawful pick of these queues, of at most so many commands, which is kept. `None` exactly where no command waits;

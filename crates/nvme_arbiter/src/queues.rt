@@ -1,6 +1,7 @@
 // The open queues as they lie in memory, with the masks in which the next ready one is found: queue q is at place q.
 ghost use Rattle.std.specs.Prelude.{◌≡◌};
 ghost use Rattle.nvme_arbiter.specs.Layout.{class_under};
+ghost use Rattle.nvme_arbiter.specs.inside.Masks.{is_io};
 
 use crate::bits::{from_bit, has_bit, lowest, with_bit};
 use crate::limits::{HIGHEST_COUNT, HIGHEST_QID, QUEUE_LIMIT};
@@ -48,6 +49,16 @@ fn class_under(qid: u16, number: u16) -> Option<Class>
         4 => Some(Class::Medium),
         5 => Some(Class::Low),
         _ => None,
+    }
+}
+
+// Whether this is the class of I/O queues.
+fn is_io(class: Option<Class>) -> bool
+    ensures { result ≡ is_io class }
+{
+    match class {
+        Some(Class::Urgent | Class::High | Class::Medium | Class::Low) => true,
+        Some(Class::Admin) | None => false,
     }
 }
 
@@ -279,9 +290,21 @@ impl ReadyQueues for QueuesFields {
     ghost seen = { λ b. seen_of (slots_in b) };
 
     fn first(&self, class: Option<Class>) -> Option<Seen> {
+        if is_io(class) {
+            return self.first_from(class, 1);
+        }
         match self.wanted_at(0, class) {
             Some(seen) => Some(seen),
             None => self.first_from(class, 1),
+        }
+    }
+
+    // No class has a ready queue whose mask has no bit, nor has the admin queue's where nothing waits in it.
+    fn has_none(&self, class: Option<Class>) -> bool {
+        if is_io(class) {
+            self.mask_for(class) == 0
+        } else {
+            class.is_some() && self.places[0].count == 0
         }
     }
 

@@ -5,7 +5,7 @@ use crate::settings::Class;
 /// Submission queues in the form in which a caller keeps them, among which the next ready one is found. Contracts see
 /// what they show, by ascending identifier. A queue is ready where a command of it waits.
 pub trait ReadyQueues {
-    ghost use Rattle.std.specs.Prelude.{◌≡◌, ◌&&◌, nat_lt, List, find};
+    ghost use Rattle.std.specs.Prelude.{◌≡◌, ◌&&◌, nat_lt, true, List, [], find};
     ghost use Rattle.std.specs.List.{filter};
     ghost use Rattle.nvme_arbiter.specs.declared.pick.Seen.{Seen};
     ghost use Rattle.nvme_arbiter.specs.Observation.{IsObservation, is_wanted, class_in};
@@ -25,11 +25,21 @@ pub trait ReadyQueues {
     fn class_of(&self, qid: u16) -> Option<Class>
         ensures { result ≡ class_in (seen self.now) qid };
 
+    /// Whether it is seen without a search that no queue is ready, in a class where one is given.
+    fn has_none(&self, _class: Option<Class>) -> bool
+        ensures { result ≡ true → filter (is_wanted _class) (seen self.now) ≡ [] }
+    {
+        false
+    }
+
     /// The next ready queue after the one that was served last, in a class where one is given.
     fn next_ready(&self, class: Option<Class>, last: Option<u16>) -> Option<Seen>
         requires { IsObservation (seen self.now) }
         ensures { result ≡ next last (filter (is_wanted class) (seen self.now)) }
     {
+        if self.has_none(class) {
+            return None;
+        }
         match last {
             Some(last) => match self.first_above(class, last) {
                 Some(queue) => Some(queue),

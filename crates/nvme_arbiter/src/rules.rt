@@ -1,68 +1,67 @@
 // The rules of one pick, by what is kept (Base Specification, Command Arbitration).
-use crate::kept::Kept;
+use crate::arbiter_fields::{ArbiterFields, last_of_place, mechanism_of};
 use crate::pick::Pick;
 use crate::ready::ReadyQueues;
-use crate::settings::{Class, Mechanism};
+use crate::settings::{Class, Mechanism, Settings};
 
-impl Kept {
-    ghost use Rattle.std.specs.Prelude.{◌≡◌, ◌↔◌, ◌≤◌, ◌∷◌, Some, IsNone, IsSomeAnd, MatchOption, option_map};
-    ghost use Rattle.nvme_arbiter.specs.Settings.{ArbitrationFields, IsLevel};
-    ghost use Rattle.nvme_arbiter.specs.Observation.{IsObservation, IsIdle, class_in};
-    ghost use Rattle.nvme_arbiter.specs.History.{History, Picked};
-    ghost use Rattle.nvme_arbiter.specs.Rules.{round_robin_pick, weighted_pick, admin_pick, urgent_pick, level_pick, levels_pick};
-    ghost use Rattle.nvme_arbiter.specs.Lawful.{lawful_pick, limited_pick, cut, IsCutOf};
-    ghost use Rattle.nvme_arbiter.specs.Standing.{StandsAt, pick_of, last_of, used_of, kept_after};
+impl ArbiterFields {
+    ghost use Rattle.std.specs.Prelude.{◌≡◌, ◌↔◌, IsNone, IsTrue};
+    ghost use Rattle.nvme_arbiter.specs.Settings.{ArbitrationFields, IsLevel, burst_of};
+    ghost use Rattle.nvme_arbiter.specs.Observation.{IsObservation, IsIdle};
+    ghost use Rattle.nvme_arbiter.specs.History.{History};
+    ghost use Rattle.nvme_arbiter.specs.Rules.{credit, within_burst, round_robin_pick, weighted_pick, admin_pick, urgent_pick, level_pick, levels_pick};
+    ghost use Rattle.nvme_arbiter.specs.Lawful.{lawful_pick};
+    ghost use Rattle.nvme_arbiter.specs.Standing.{StandsAt, pick_of, last_of, used_of};
+    ghost use Rattle.nvme_arbiter.specs.Layout.{is_arbiter, kept_of};
     ghost use Rattle.nvme_arbiter.specs.declared.settings.Mechanism.{Mechanism};
 
-    /// The lawful pick of these queues after the picks and settings so far (Base Specification, Command
-    /// Arbitration), which is kept. `None` exactly where no command waits; it changes nothing.
-    pub fn pick<Q: ReadyQueues>(&mut self, queues: &Q) -> Option<Pick>
-        requires { IsObservation (Q.seen queues.now) }
-        ensures by_what_is_kept { result ≡ pick_of self.old (Q.seen queues.now) }
-        ensures lawful { (mechanism : Mechanism) (first : ArbitrationFields) (past : History) → StandsAt mechanism first past self.old → result ≡ lawful_pick mechanism first past (Q.seen queues.now) }
-        ensures none_where_idle { IsNone result ↔ IsIdle (Q.seen queues.now) }
-        ensures stands { (mechanism : Mechanism) (first : ArbitrationFields) (past : History) → StandsAt mechanism first past self.old → MatchOption result (self.new ≡ self.old) (λ pick. StandsAt mechanism first (Picked (Q.seen queues.now) pick ∷ past) self.new) }
-        ensures kept { MatchOption result (self.new ≡ self.old) (λ pick. self.new ≡ kept_after self.old.mechanism self.old (class_in (Q.seen queues.now) pick.qid) pick) }
+    // The identifier that was served last of a class.
+    fn last_of(&self, class: Class) -> Option<u16>
+        requires { IsTrue (is_arbiter self.now) }
+        ensures { result ≡ last_of (kept_of self.now).last class }
     {
-        let pick = self.peek(queues)?;
-        self.keep(queues, pick);
-        Some(pick)
+        match class {
+            Class::Admin => last_of_place(self.last.admin),
+            Class::Urgent => last_of_place(self.last.urgent),
+            Class::High => last_of_place(self.last.high),
+            Class::Medium => last_of_place(self.last.medium),
+            Class::Low => last_of_place(self.last.low),
+        }
     }
 
-    /// The lawful pick, of at most so many commands, which is kept: the burst is the most that may be taken. `None` exactly
-    /// where no command waits; it changes nothing.
-    pub fn pick_up_to<Q: ReadyQueues>(&mut self, queues: &Q, limit: u16) -> Option<Pick>
-        requires observed { IsObservation (Q.seen queues.now) }
-        requires some { 1 ≤ limit }
-        ensures by_what_is_kept { result ≡ option_map (cut limit) (pick_of self.old (Q.seen queues.now)) }
-        ensures lawful { (mechanism : Mechanism) (first : ArbitrationFields) (past : History) → StandsAt mechanism first past self.old → result ≡ limited_pick limit mechanism first past (Q.seen queues.now) }
-        ensures none_where_idle { IsNone result ↔ IsIdle (Q.seen queues.now) }
-        ensures stands { (mechanism : Mechanism) (first : ArbitrationFields) (past : History) → StandsAt mechanism first past self.old → MatchOption result (self.new ≡ self.old) (λ pick. StandsAt mechanism first (Picked (Q.seen queues.now) pick ∷ past) self.new) }
-        ensures kept { MatchOption result (self.new ≡ self.old) (λ pick. self.new ≡ kept_after self.old.mechanism self.old (class_in (Q.seen queues.now) pick.qid) pick) }
+    // How many commands of a level may be picked, in this round or in a new one.
+    fn credit(&self, level: Class, fresh: bool) -> u16
+        requires { IsLevel level }
+        ensures { result ≡ credit (kept_of self.now).settings (used_of (kept_of self.now).used) fresh level }
     {
-        let pick = self.peek(queues)?.up_to(limit);
-        self.keep(queues, pick);
-        Some(pick)
+        let weight = Settings::from_cdw11(self.cdw11).weight(level);
+        if fresh {
+            weight
+        } else {
+            weight.saturating_sub(self.used.of_level(level))
+        }
     }
 
-    /// Keeps the pick that `peek` answers, or one of fewer of its commands.
-    pub fn keep<Q: ReadyQueues>(&mut self, queues: &Q, pick: Pick)
-        requires observed { IsObservation (Q.seen queues.now) }
-        requires peeked { IsSomeAnd (pick_of self.old (Q.seen queues.now)) (λ whole. IsCutOf whole pick) }
-        ensures stands { (mechanism : Mechanism) (first : ArbitrationFields) (past : History) → StandsAt mechanism first past self.old → StandsAt mechanism first (Picked (Q.seen queues.now) pick ∷ past) self.new }
-        ensures kept { self.new ≡ kept_after self.old.mechanism self.old (class_in (Q.seen queues.now) pick.qid) pick }
+    // The smaller of burst and count.
+    fn within_burst(&self, count: u16) -> u16
+        ensures { result ≡ within_burst (burst_of (kept_of self.now).settings) count }
     {
-        self.note(queues.class_of(pick.qid), pick);
+        match Settings::from_cdw11(self.cdw11).burst() {
+            Some(burst) => burst.min(count),
+            None => count,
+        }
     }
 
-    /// What `pick` would answer.
+    /// The lawful pick of these queues after the picks and settings so far. `None` exactly where no command waits. (Base
+    /// Specification, Command Arbitration)
     pub fn peek<Q: ReadyQueues>(&self, queues: &Q) -> Option<Pick>
-        requires { IsObservation (Q.seen queues.now) }
-        ensures by_what_is_kept { result ≡ pick_of self.now (Q.seen queues.now) }
-        ensures lawful { (mechanism : Mechanism) (first : ArbitrationFields) (past : History) → StandsAt mechanism first past self.now → result ≡ lawful_pick mechanism first past (Q.seen queues.now) }
+        requires observed { IsObservation (Q.seen queues.now) }
+        requires is_arbiter { IsTrue (is_arbiter self.now) }
+        ensures by_what_is_kept { result ≡ pick_of (kept_of self.now) (Q.seen queues.now) }
+        ensures lawful { (mechanism : Mechanism) (first : ArbitrationFields) (past : History) → StandsAt mechanism first past (kept_of self.now) → result ≡ lawful_pick mechanism first past (Q.seen queues.now) }
         ensures none_where_idle { IsNone result ↔ IsIdle (Q.seen queues.now) }
     {
-        match self.mechanism {
+        match mechanism_of(self.mechanism) {
             Mechanism::RoundRobin => self.round_robin(queues),
             Mechanism::Weighted => self.weighted(queues),
         }
@@ -70,10 +69,11 @@ impl Kept {
 
     // The pick of round robin: one command of the admin queue, or as many as burst and count allow.
     fn round_robin<Q: ReadyQueues>(&self, queues: &Q) -> Option<Pick>
-        requires { IsObservation (Q.seen queues.now) }
-        ensures { result ≡ round_robin_pick self.now.settings self.now.last.all (Q.seen queues.now) }
+        requires observed { IsObservation (Q.seen queues.now) }
+        requires is_arbiter { IsTrue (is_arbiter self.now) }
+        ensures { result ≡ round_robin_pick (kept_of self.now).settings (kept_of self.now).last.all (Q.seen queues.now) }
     {
-        let queue = queues.next_ready(None, self.last.all)?;
+        let queue = queues.next_ready(None, last_of_place(self.last.all))?;
         let n = if queue.qid == 0 {
             1
         } else {
@@ -88,8 +88,9 @@ impl Kept {
 
     // The pick of weighted round robin with urgent priority class.
     fn weighted<Q: ReadyQueues>(&self, queues: &Q) -> Option<Pick>
-        requires { IsObservation (Q.seen queues.now) }
-        ensures { result ≡ weighted_pick self.now.settings (last_of self.now.last) (used_of self.now.used) (Q.seen queues.now) }
+        requires observed { IsObservation (Q.seen queues.now) }
+        requires is_arbiter { IsTrue (is_arbiter self.now) }
+        ensures { result ≡ weighted_pick (kept_of self.now).settings (last_of (kept_of self.now).last) (used_of (kept_of self.now).used) (Q.seen queues.now) }
     {
         if let Some(pick) = self.admin(queues) {
             return Some(pick);
@@ -105,8 +106,9 @@ impl Kept {
 
     // The pick of the admin queue: one command.
     fn admin<Q: ReadyQueues>(&self, queues: &Q) -> Option<Pick>
-        requires { IsObservation (Q.seen queues.now) }
-        ensures { result ≡ admin_pick self.now.settings (last_of self.now.last) (used_of self.now.used) (Q.seen queues.now) }
+        requires observed { IsObservation (Q.seen queues.now) }
+        requires is_arbiter { IsTrue (is_arbiter self.now) }
+        ensures { result ≡ admin_pick (kept_of self.now).settings (last_of (kept_of self.now).last) (used_of (kept_of self.now).used) (Q.seen queues.now) }
     {
         let queue = queues.next_ready(Some(Class::Admin), self.last_of(Class::Admin))?;
         Some(Pick {
@@ -118,8 +120,9 @@ impl Kept {
 
     // The pick of an urgent queue: the smaller of burst and count.
     fn urgent<Q: ReadyQueues>(&self, queues: &Q) -> Option<Pick>
-        requires { IsObservation (Q.seen queues.now) }
-        ensures { result ≡ urgent_pick self.now.settings (last_of self.now.last) (used_of self.now.used) (Q.seen queues.now) }
+        requires observed { IsObservation (Q.seen queues.now) }
+        requires is_arbiter { IsTrue (is_arbiter self.now) }
+        ensures { result ≡ urgent_pick (kept_of self.now).settings (last_of (kept_of self.now).last) (used_of (kept_of self.now).used) (Q.seen queues.now) }
     {
         let queue = queues.next_ready(Some(Class::Urgent), self.last_of(Class::Urgent))?;
         Some(Pick {
@@ -131,8 +134,9 @@ impl Kept {
 
     // The pick of the first level that has a ready queue and credit, in this round or in a new one.
     fn levels<Q: ReadyQueues>(&self, queues: &Q, fresh: bool) -> Option<Pick>
-        requires { IsObservation (Q.seen queues.now) }
-        ensures { result ≡ levels_pick self.now.settings (last_of self.now.last) (used_of self.now.used) (Q.seen queues.now) fresh }
+        requires observed { IsObservation (Q.seen queues.now) }
+        requires is_arbiter { IsTrue (is_arbiter self.now) }
+        ensures { result ≡ levels_pick (kept_of self.now).settings (last_of (kept_of self.now).last) (used_of (kept_of self.now).used) (Q.seen queues.now) fresh }
     {
         if let Some(pick) = self.level(queues, Class::High, fresh) {
             return Some(pick);
@@ -146,8 +150,9 @@ impl Kept {
     // The pick of a level: the least of burst, credit and count, and none without credit.
     fn level<Q: ReadyQueues>(&self, queues: &Q, level: Class, fresh: bool) -> Option<Pick>
         requires observed { IsObservation (Q.seen queues.now) }
+        requires is_arbiter { IsTrue (is_arbiter self.now) }
         requires of_a_level { IsLevel level }
-        ensures { result ≡ level_pick self.now.settings (last_of self.now.last) (used_of self.now.used) (Q.seen queues.now) fresh level }
+        ensures { result ≡ level_pick (kept_of self.now).settings (last_of (kept_of self.now).last) (used_of (kept_of self.now).used) (Q.seen queues.now) fresh level }
     {
         let credit = self.credit(level, fresh);
         if credit == 0 {

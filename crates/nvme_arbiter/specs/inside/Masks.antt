@@ -46,6 +46,12 @@ abbrev pub mask_for : QueuesFields → Option Class → ℕ
 mask_for b (Some class) = mask_in b class
 mask_for b None = bit_or (bit_or (bit_or b.urgent b.high) b.medium) b.low
 
+-- whether this is the class of I/O queues
+abbrev pub is_io : Option Class → Bool
+is_io None = false
+is_io (Some Admin) = false
+is_io (Some class) = true
+
 -- whether an open queue passes a test
 abbrev pub passes : (Seen → Bool) → ℕ → Option OpenQueue → Bool
 passes test qid None = false
