@@ -120,6 +120,7 @@ impl QueuesFields {
     }
 
     // The mask of a class, or of all.
+    #[inline(always)]
     fn mask_for(&self, class: Option<Class>) -> u64
         ensures { result ≡ mask_for self.now class }
     {
@@ -154,6 +155,7 @@ impl QueuesFields {
     }
 
     // Whether a command may wait in an open queue.
+    #[inline(always)]
     fn is_marked(&self, qid: u16, class: Class) -> bool
         requires { qid ≤ highest_qid }
         ensures { result ≡ is_marked self.now qid class }
@@ -167,6 +169,7 @@ impl QueuesFields {
     }
 
     // The queue at a place, where it is open with a class of its identifier.
+    #[inline(always)]
     fn slot(&self, qid: u16, place: &QueueFields) -> Option<OpenQueue>
         requires { qid ≤ highest_qid }
         ensures { result ≡ slot_in self.now qid place.now }

@@ -33,13 +33,23 @@ pub trait ReadyQueues {
     }
 
     /// The next ready queue after the one that was served last, in a class where one is given.
+    #[inline(always)]
     fn next_ready(&self, class: Option<Class>, last: Option<u16>) -> Option<Seen>
         requires { IsObservation (seen self.now) }
         ensures { result ≡ next last (filter (is_wanted class) (seen self.now)) }
     {
         if self.has_none(class) {
-            return None;
+            None
+        } else {
+            self.search(class, last)
         }
+    }
+
+    /// So by a search.
+    fn search(&self, class: Option<Class>, last: Option<u16>) -> Option<Seen>
+        requires { IsObservation (seen self.now) }
+        ensures { result ≡ next last (filter (is_wanted class) (seen self.now)) }
+    {
         match last {
             Some(last) => match self.first_above(class, last) {
                 Some(queue) => Some(queue),

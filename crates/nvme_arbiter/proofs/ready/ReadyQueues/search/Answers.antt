@@ -2,7 +2,7 @@ use Rattle.std.proofs.Common.{◌∙◌, sym, ap, find}
 use Rattle.std.specs.Option.{option_or}
 use Rattle.nvme_arbiter.specs.Observation.{is_wanted}
 use Rattle.nvme_arbiter.proofs.NextLemmas.{least-filter, next-filter}
-use Rattle.nvme_arbiter.proofs.ready.ReadyQueues.next_ready.Goals as goal
+use Rattle.nvme_arbiter.proofs.ready.ReadyQueues.search.Goals as goal
 
 pub returns-in-Some-first_above : goal.returns-in-Some-first_above
 returns-in-Some-first_above g c =
