@@ -1,6 +1,6 @@
 // The arbiter: it looks through the queues that it is shown.
 use crate::arbiter_fields::ArbiterFields;
-use crate::kept::{Kept, Used};
+use crate::kept::Kept;
 use crate::pick::{Pick, Seen};
 use crate::settings::{Mechanism, Settings};
 use std::marker::Model;
@@ -94,8 +94,9 @@ impl Arbiter {
         ensures stands { (mechanism : Mechanism) (first : ArbitrationFields) (past : History) → StandsAt mechanism first past self.old → MatchOption result (self.new ≡ self.old) (λ pick. StandsAt mechanism first (Picked seen.now pick ∷ past) self.new) }
         ensures kept { MatchOption result (self.new ≡ self.old) (λ pick. self.new ≡ kept_after self.old.mechanism self.old (class_in seen.now pick.qid) pick) }
     {
-        let pick = self.peek(seen)?.up_to(limit);
-        self.keep(seen, pick);
+        let mut fields = ArbiterFields::of(self.kept);
+        let pick = fields.pick_up_to(&seen, limit)?;
+        self.kept = fields.kept();
         Some(pick)
     }
 
@@ -116,7 +117,6 @@ impl Arbiter {
         ensures stands { (mechanism : Mechanism) (first : ArbitrationFields) (past : History) → StandsAt mechanism first past self.old → StandsAt mechanism first (Changed settings ∷ past) self.new }
         ensures kept { self.new ≡ record self.old { settings = settings; used = nothing_used } }
     {
-        self.kept.settings = settings;
-        self.kept.used = Used::none();
+        self.kept.set(settings);
     }
 }

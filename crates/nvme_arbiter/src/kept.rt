@@ -1,6 +1,8 @@
 // What arbitration keeps between two picks.
+ghost use Rattle.std.specs.Prelude.{◌≡◌, ◌-◌, if◌then◌else◌};
+
 use crate::by_class::ByClass;
-use crate::settings::{Mechanism, Settings};
+use crate::settings::{Class, Mechanism, Settings};
 
 /// The identifiers that were served last: of all queues, and of each class.
 #[derive(Clone, Copy, Debug, Default, PartialEq, Eq)]
@@ -22,7 +24,7 @@ impl Used {
     ghost use Rattle.nvme_arbiter.specs.Standing.{nothing_used};
 
     /// Nothing is used in a new round.
-    pub const fn none() -> Used
+    const fn none() -> Used
         ensures { result ≡ nothing_used }
     {
         Used {
@@ -30,6 +32,17 @@ impl Used {
             medium: 0,
             low: 0,
         }
+    }
+}
+
+/// What is left of a weight of which so much is used: in a new round all.
+pub fn left_of(weight: u16, used: u16, fresh: bool) -> u16
+    ensures { result ≡ (if fresh then weight else weight - used) }
+{
+    if fresh {
+        weight
+    } else {
+        weight.saturating_sub(used)
     }
 }
 
@@ -45,7 +58,9 @@ pub struct Kept {
 
 impl Kept {
     ghost use Rattle.std.specs.Prelude.{◌≡◌};
-    ghost use Rattle.nvme_arbiter.specs.Standing.{first_kept};
+    ghost use Rattle.nvme_arbiter.specs.Settings.{IsLevel};
+    ghost use Rattle.nvme_arbiter.specs.Rules.{credit};
+    ghost use Rattle.nvme_arbiter.specs.Standing.{used_of, first_kept, nothing_used};
 
     /// Nothing was served yet.
     pub fn new(mechanism: Mechanism, settings: Settings) -> Kept
@@ -60,5 +75,27 @@ impl Kept {
             },
             used: Used::none(),
         }
+    }
+
+    /// How many commands of a level may be picked, in this round or in a new one.
+    pub fn credit(&self, level: Class, fresh: bool) -> u16
+        requires { IsLevel level }
+        ensures { result ≡ credit self.now.settings (used_of self.now.used) fresh level }
+    {
+        let used = match level {
+            Class::High => self.used.high,
+            Class::Medium => self.used.medium,
+            Class::Low => self.used.low,
+            Class::Admin | Class::Urgent => 0,
+        };
+        left_of(self.settings.weight(level), used, fresh)
+    }
+
+    /// Takes new settings, which start a new round. The identifiers served last stay.
+    pub fn set(&mut self, settings: Settings)
+        ensures { self.new ≡ record self.old { settings = settings; used = nothing_used } }
+    {
+        self.settings = settings;
+        self.used = Used::none();
     }
 }

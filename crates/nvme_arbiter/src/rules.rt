@@ -1,5 +1,6 @@
 // The rules of one pick, by what is kept (Base Specification, Command Arbitration).
 use crate::arbiter_fields::{ArbiterFields, last_of_place, mechanism_of};
+use crate::kept::left_of;
 use crate::pick::Pick;
 use crate::ready::ReadyQueues;
 use crate::settings::{Class, Mechanism, Settings};
@@ -35,11 +36,7 @@ impl ArbiterFields {
         ensures { result ≡ credit (kept_of self.now).settings (used_of (kept_of self.now).used) fresh level }
     {
         let weight = Settings::from_cdw11(self.cdw11).weight(level);
-        if fresh {
-            weight
-        } else {
-            weight.saturating_sub(self.used.of_level(level))
-        }
+        left_of(weight, self.used.of_level(level), fresh)
     }
 
     // The smaller of burst and count.
