@@ -49,7 +49,7 @@ fn is_place(place: u32) -> bool
     place <= 0x1_0000
 }
 
-// The identifier with this number, 0 for none.
+/// The identifier with this number, 0 for none.
 pub fn last_of_place(place: u32) -> Option<u16>
     requires { IsTrue (is_place place) }
     ensures { result ≡ last_of_place place }
@@ -72,7 +72,7 @@ fn place_of_last(last: Option<u16>) -> u32
     }
 }
 
-// The mechanism of a number: 1 is round robin, any other is weighted.
+/// The mechanism of a number: 1 is round robin, any other is weighted.
 pub fn mechanism_of(number: u32) -> Mechanism
     ensures { result ≡ mechanism_of number }
 {
@@ -205,7 +205,7 @@ impl UsedFields {
         }
     }
 
-    // How many commands of a level were picked in this round.
+    /// How many commands of a level were picked in this round.
     pub fn of_level(&self, level: Class) -> u16
         ensures { result ≡ used_of (used_in self.now) level }
     {

@@ -25,10 +25,11 @@ pub trait ReadyQueues {
     fn class_of(&self, qid: u16) -> Option<Class>
         ensures { result ≡ class_in (seen self.now) qid };
 
-    /// Whether it is seen without a search that no queue is ready, in a class where one is given.
-    fn has_none(&self, _class: Option<Class>) -> bool
-        ensures { result ≡ true → filter (is_wanted _class) (seen self.now) ≡ [] }
+    /// Whether it is known without a search that no queue is ready, in a class where one is given. `false` says nothing.
+    fn has_none(&self, class: Option<Class>) -> bool
+        ensures { result ≡ true → filter (is_wanted class) (seen self.now) ≡ [] }
     {
+        let _ = class;
         false
     }
 
@@ -45,7 +46,7 @@ pub trait ReadyQueues {
         }
     }
 
-    /// So by a search.
+    /// What `next_ready` answers, by a search.
     fn search(&self, class: Option<Class>, last: Option<u16>) -> Option<Seen>
         requires { IsObservation (seen self.now) }
         ensures { result ≡ next last (filter (is_wanted class) (seen self.now)) }
