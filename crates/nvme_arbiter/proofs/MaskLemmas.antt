@@ -588,6 +588,7 @@ none-of-admin b (Some Admin) io some is =
   where
     under : Option Class
     under = class_under 0 (slice_index_or b.places 0 closed).class
+
     by_class : (z : Bool) → passes (is_wanted (Some Admin)) 0 (open_in b 0 0 (if z then Some Admin else None)) ≡ false
     by_class true = refl
     by_class false = refl
