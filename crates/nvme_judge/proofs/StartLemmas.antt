@@ -1,19 +1,19 @@
 -- A state that a head tells is that of some history: each queue that was served last is served alone, and then the commands used are picked one by one.
-use Rattle.std.proofs.Common.{◌≡◌, ◌≢◌, ℕ, suc, zero, ◌+◌, ◌-◌, ◌<◌, ◌≤◌, ◌^◌, ◌==◌, ◌&&◌, ◌||◌, not, min, Bool, true, false, List, [], ◌∷◌, inl, inr, refl, sym, ap, subst, ◌∙◌, arith}
-use Rattle.std.specs.Prelude.{Option, Some, None, is_some, is_none, nat_le, nat_lt, if◌then◌else◌, IsFalse}
+use Rattle.std.proofs.Common.{◌≡◌, ℕ, suc, zero, ◌+◌, ◌-◌, ◌<◌, ◌≤◌, ◌^◌, ◌==◌, ◌&&◌, ◌||◌, not, min, Bool, true, false, List, [], ◌∷◌, inl, inr, refl, sym, ap, subst, ◌∙◌, arith}
+use Rattle.std.specs.Prelude.{Option, Some, None, is_none, nat_le, nat_lt, if◌then◌else◌}
 use Rattle.std.specs.List.{list_any}
 use Rattle.std.proofs.lemmas.Bool.{cases_Bool, eqb-true, eqb-false, eq-eqb, ne_eqb, leb-true, le-leb, lt-ltb, and_parts}
 use Rattle.nvme_arbiter.specs.Limits.{highest_qid}
 use Rattle.nvme_arbiter.specs.Settings.{ArbitrationFields, burst_of, weight_of, IsLevel}
-use Rattle.nvme_arbiter.specs.Observation.{is_class, ready_of, class_in, is_wanted, is_observation_from}
+use Rattle.nvme_arbiter.specs.Observation.{is_class, class_in, is_wanted, is_observation_from}
 use Rattle.nvme_arbiter.specs.ByClass.{with_class, same_for_all}
 use Rattle.nvme_arbiter.proofs.Observations.{observation_by_test}
 use Rattle.nvme_arbiter.proofs.Stands.{lawful, stands_first, stands_picked}
 use Rattle.nvme_arbiter.specs.Next.{next}
 use Rattle.nvme_arbiter.specs.Rules.{within_burst, weighted_pick, round_robin_pick}
-use Rattle.nvme_arbiter.specs.History.{Picked, Changed, History, settings_after, last_served, last_served_of, used_in_round, is_in_class}
-use Rattle.nvme_arbiter.specs.Lawful.{lawful_pick, IsLawfulRun}
-use Rattle.nvme_arbiter.specs.Specified.{has_waited, is_pick_in, ready_in, round_used, starts_round, has_credit}
+use Rattle.nvme_arbiter.specs.History.{Picked, Changed, History, settings_after}
+use Rattle.nvme_arbiter.specs.Lawful.{IsLawfulRun}
+use Rattle.nvme_arbiter.specs.Specified.{has_waited, is_pick_in, ready_in, round_used, starts_round}
 use Rattle.nvme_arbiter.specs.Standing.{StandsAt, last_of, used_of, used_with, last_with, kept_after, first_kept, nothing_used}
 use Rattle.nvme_arbiter.specs.declared.settings.Class.{Class}
 use Rattle.nvme_arbiter.specs.declared.settings.Class.TheVariants.{Admin, Urgent, High, Medium, Low}
@@ -25,7 +25,7 @@ use Rattle.nvme_arbiter.specs.declared.kept.Used.{Used}
 use Rattle.nvme_arbiter.specs.declared.pick.Seen.{Seen}
 use Rattle.nvme_arbiter.specs.declared.pick.Pick.{Pick}
 use Rattle.nvme_judge.specs.Standing.{UsedIs, IsQuiet}
-use Rattle.nvme_judge.specs.Starts.{can_serve, can_be_last, last_fits, can_use, used_fits, IsPrior, StartsHavePriors}
+use Rattle.nvme_judge.specs.Starts.{can_serve, can_be_last, last_fits, can_use, used_fits, StartsHavePriors}
 
 -- what is built here
 record IsBuilt (kept : Kept) (prior : History) : Type 0 where

@@ -1,10 +1,10 @@
 -- Where a trace begins: with what its arbiter kept then, which some history left. (Base Specification, Command Arbitration; what a head tells: profile)
-use Rattle.std.specs.Prelude.{◌≡◌, ℕ, ◌==◌, ◌&&◌, ◌||◌, Bool, true, nat_le, List, [], ◌∷◌, Option, Some, None, is_some, is_none, Ok, Err, Result}
+use Rattle.std.specs.Prelude.{◌≡◌, ℕ, ◌==◌, ◌&&◌, ◌||◌, Bool, true, nat_le, Option, Some, None, is_some, is_none}
 use Rattle.nvme_arbiter.specs.Limits.{highest_qid}
 use Rattle.nvme_arbiter.specs.Settings.{ArbitrationFields, weight_of}
 use Rattle.nvme_arbiter.specs.History.{History}
 use Rattle.nvme_arbiter.specs.Lawful.{IsLawfulRun}
-use Rattle.nvme_arbiter.specs.Standing.{StandsAt, nothing_used}
+use Rattle.nvme_arbiter.specs.Standing.{StandsAt}
 use Rattle.nvme_arbiter.specs.declared.settings.Class.{Class}
 use Rattle.nvme_arbiter.specs.declared.settings.Class.TheVariants.{Admin, Urgent, High, Medium, Low}
 use Rattle.nvme_arbiter.specs.declared.settings.Mechanism.{Mechanism}
