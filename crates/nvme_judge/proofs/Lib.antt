@@ -1,3 +1,4 @@
 pub mod TurnLemmas
 pub mod RoundLemmas
 pub mod JudgeLemmas
+pub mod StartLemmas

@@ -1,5 +1,5 @@
 -- What is used with the commands of a pick.
-use Rattle.std.proofs.Common.{◌≡◌, ℕ, ◌+◌, ◌<◌, ◌≤◌, List, ◌∷◌, refl, sym, ap, subst, ◌∙◌, arith}
+use Rattle.std.proofs.Common.{◌≡◌, ℕ, ◌+◌, ◌<◌, ◌≤◌, List, ◌∷◌, ◌++◌, refl, sym, ap, subst, ◌∙◌, arith}
 use Rattle.std.specs.Prelude.{Option, Some, None, MatchOption}
 use Rattle.nvme_arbiter.specs.Settings.{ArbitrationFields, weight_of, IsLevel}
 use Rattle.nvme_arbiter.specs.History.{Picked, History, settings_after}
@@ -13,8 +13,8 @@ use Rattle.nvme_arbiter.specs.declared.settings.Mechanism.TheVariants.{RoundRobi
 use Rattle.nvme_arbiter.specs.declared.kept.Used.{Used}
 use Rattle.nvme_arbiter.specs.declared.pick.Seen.{Seen}
 use Rattle.nvme_arbiter.specs.declared.pick.Pick.{Pick}
-use Rattle.nvme_judge.specs.Standing.{JudgeView, JudgeStandsAt, left_of, weight_left}
-use Rattle.nvme_judge.specs.inside.Steps.{taken_of, used_after, IsWithinWeights, UsedIs}
+use Rattle.nvme_judge.specs.Standing.{JudgeView, JudgeStandsAt, UsedIs, left_of, weight_left}
+use Rattle.nvme_judge.specs.inside.Steps.{taken_of, used_after, IsWithinWeights}
 
 -- ---- by level
 added : (used : Used) (class : Option Class) (n : ℕ) (level : Class) → IsLevel level → used_of (used_with used class n) level ≡ used_of used level + taken_of level class n
@@ -62,19 +62,19 @@ unfolding AsUsed
 by_weights first past seen pick None h = h
 by_weights first past seen pick (Some used) (is, within) = (subst (IsWithinWeights (settings_after first past)) is within, is)
 
-pub credit_by : (mechanism : Mechanism) (first : ArbitrationFields) (past : History) (seen : List Seen) (pick : Pick) (judge : JudgeView) (r : Option Used) → JudgeStandsAt mechanism first past judge → judge.mechanism ≡ Weighted
+pub credit_by : (mechanism : Mechanism) (first : ArbitrationFields) (prior past : History) (seen : List Seen) (pick : Pick) (judge : JudgeView) (r : Option Used) → JudgeStandsAt mechanism first prior past judge → judge.mechanism ≡ Weighted
     → MatchOption r (IsWithinWeights judge.settings (used_after judge.settings judge.used seen pick) → ⊥) (λ used. (used ≡ used_after judge.settings judge.used seen pick) × IsWithinWeights judge.settings used)
-    → MatchOption r (IsWithinCredit mechanism first past seen pick → ⊥) (λ used. IsWithinCredit mechanism first past seen pick × UsedIs mechanism first (Picked seen pick ∷ past) used)
+    → MatchOption r (IsWithinCredit mechanism first (past ++ prior) seen pick → ⊥) (λ used. IsWithinCredit mechanism first (past ++ prior) seen pick × UsedIs mechanism first (Picked seen pick ∷ past ++ prior) used)
 unfolding AsUsed
-credit_by RoundRobin first past seen pick judge r stands is h = let other : RoundRobin ≡ Weighted = sym stands.mechanism_is ∙ is in absurd (cc)
-credit_by Weighted first past seen pick judge r stands is h =
-    let settings : AsUsed (settings_after first past) (used_after (settings_after first past) judge.used seen pick) r = subst (λ s. AsUsed s (used_after s judge.used seen pick) r) stands.settings_are h in
-    by_weights first past seen pick r (subst (λ u. AsUsed (settings_after first past) (used_after (settings_after first past) u seen pick) r) stands.tells.0 settings)
+credit_by RoundRobin first prior past seen pick judge r stands is h = let other : RoundRobin ≡ Weighted = sym stands.mechanism_is ∙ is in absurd (cc)
+credit_by Weighted first prior past seen pick judge r stands is h =
+    let settings : AsUsed (settings_after first (past ++ prior)) (used_after (settings_after first (past ++ prior)) judge.used seen pick) r = subst (λ s. AsUsed s (used_after s judge.used seen pick) r) stands.settings_are h in
+    by_weights first (past ++ prior) seen pick r (subst (λ u. AsUsed (settings_after first (past ++ prior)) (used_after (settings_after first (past ++ prior)) u seen pick) r) stands.tells.0 settings)
 
 -- ---- what is left of the weight of a pick's level
-pub left_by : (mechanism : Mechanism) (first : ArbitrationFields) (past : History) (seen : List Seen) (pick : Pick) (judge : JudgeView) (r : Option ℕ) → JudgeStandsAt mechanism first past judge → judge.mechanism ≡ Weighted
-    → r ≡ left_of judge.settings (used_before (starts_round judge.settings judge.used seen pick) judge.used) (class_in seen pick.qid) → r ≡ weight_left mechanism first past seen pick
-left_by RoundRobin first past seen pick judge r stands is h = let other : RoundRobin ≡ Weighted = sym stands.mechanism_is ∙ is in absurd (cc)
-left_by Weighted first past seen pick judge r stands is h =
+pub left_by : (mechanism : Mechanism) (first : ArbitrationFields) (prior past : History) (seen : List Seen) (pick : Pick) (judge : JudgeView) (r : Option ℕ) → JudgeStandsAt mechanism first prior past judge → judge.mechanism ≡ Weighted
+    → r ≡ left_of judge.settings (used_before (starts_round judge.settings judge.used seen pick) judge.used) (class_in seen pick.qid) → r ≡ weight_left mechanism first (past ++ prior) seen pick
+left_by RoundRobin first prior past seen pick judge r stands is h = let other : RoundRobin ≡ Weighted = sym stands.mechanism_is ∙ is in absurd (cc)
+left_by Weighted first prior past seen pick judge r stands is h =
     h ∙ (ap (λ (s : ArbitrationFields). left_of s (used_before (starts_round s judge.used seen pick) judge.used) (class_in seen pick.qid)) stands.settings_are
-    ∙ ap (λ (u : Used). left_of (settings_after first past) (used_before (starts_round (settings_after first past) u seen pick) u) (class_in seen pick.qid)) stands.tells.0)
+    ∙ ap (λ (u : Used). left_of (settings_after first (past ++ prior)) (used_before (starts_round (settings_after first (past ++ prior)) u seen pick) u) (class_in seen pick.qid)) stands.tells.0)

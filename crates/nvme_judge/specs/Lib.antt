@@ -1,3 +1,4 @@
 pub mod Turns
 pub mod Standing
+pub mod Starts
 pub mod inside

@@ -1,11 +1,11 @@
 -- What a judge of the rules keeps, and what it says of a pick. (Base Specification, Command Arbitration; what is kept: profile)
-use Rattle.std.specs.Prelude.{◌≡◌, ℕ, ◌<◌, ◌-◌, List, [], ◌∷◌, Option, Some, None, All}
+use Rattle.std.specs.Prelude.{◌≡◌, ℕ, ◌<◌, ◌-◌, List, [], ◌∷◌, ◌++◌, Option, Some, None, All, IsFalse}
 use Rattle.nvme_arbiter.specs.Limits.{queue_limit}
 use Rattle.nvme_arbiter.specs.Settings.{ArbitrationFields, weight_of}
 use Rattle.nvme_arbiter.specs.Observation.{class_in}
 use Rattle.nvme_arbiter.specs.History.{History, settings_after}
 use Rattle.nvme_arbiter.specs.Standing.{used_before}
-use Rattle.nvme_arbiter.specs.Specified.{starts_round, round_used, Keeps}
+use Rattle.nvme_arbiter.specs.Specified.{starts_round, round_used, has_waited, Keeps}
 use Rattle.nvme_arbiter.specs.declared.settings.Class.{Class}
 use Rattle.nvme_arbiter.specs.declared.settings.Class.TheVariants.{Admin, Urgent, High, Medium, Low}
 use Rattle.nvme_arbiter.specs.declared.settings.Mechanism.{Mechanism}
@@ -31,18 +31,28 @@ pub record JudgeView : Type 0 where
 abbrev pub TellsTurns : Option Class → History → Turns → Type 0
 TellsTurns class past turns = (qid : ℕ) → qid < queue_limit → turn_in (turns_of turns class) qid ≡ turn_after class qid past
 
--- round robin keeps the turns among all queues
--- the weighted mechanism keeps those within each class, and what is used in the round
-abbrev pub TellsPast : Mechanism → ArbitrationFields → History → JudgeView → Type 0
-TellsPast RoundRobin first past judge = TellsTurns None past judge.turns
-TellsPast Weighted first past judge = (judge.used ≡ round_used first past) × ((class : Class) → TellsTurns (Some class) past judge.turns)
+-- what is used in the round, where the mechanism counts it
+abbrev pub UsedIs : Mechanism → ArbitrationFields → History → Used → Type 0
+UsedIs RoundRobin first past used = Unit {0}
+UsedIs Weighted first past used = used ≡ round_used first past
 
--- a judge stands at a history, under a mechanism and first settings
-pub record JudgeStandsAt (mechanism : Mechanism) (first : ArbitrationFields) (past : History) (judge : JudgeView) : Type 0 where
+-- after a history no queue waits since the latest pick of another
+abbrev pub IsQuiet : History → Type 0
+IsQuiet past = (class : Option Class) (other qid : ℕ) → IsFalse (has_waited class other qid past)
+
+-- round robin keeps the turns among all queues
+-- the weighted mechanism keeps those within each class, and what is used in the round. Of what was picked before the judge began it keeps that alone
+abbrev pub TellsPast : Mechanism → ArbitrationFields → History → History → JudgeView → Type 0
+TellsPast RoundRobin first prior past judge = TellsTurns None past judge.turns
+TellsPast Weighted first prior past judge = (judge.used ≡ round_used first (past ++ prior)) × ((class : Class) → TellsTurns (Some class) past judge.turns)
+
+-- a judge that began after a quiet history stands at the events since then, under a mechanism and first settings
+pub record JudgeStandsAt (mechanism : Mechanism) (first : ArbitrationFields) (prior past : History) (judge : JudgeView) : Type 0 where
   pub mechanism_is : judge.mechanism ≡ mechanism
-  pub settings_are : judge.settings ≡ settings_after first past
+  pub settings_are : judge.settings ≡ settings_after first (past ++ prior)
   pub picks_are : judge.picks ≡ picks_in past
-  pub tells : TellsPast mechanism first past judge
+  pub tells : TellsPast mechanism first prior past judge
+  pub quiet : IsQuiet prior
 
 -- what is left of the weight of a level
 abbrev pub left_of : ArbitrationFields → Used → Option Class → Option ℕ

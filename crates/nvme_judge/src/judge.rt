@@ -85,23 +85,24 @@ fn is_of_highest_priority(mechanism: Mechanism, seen: &[Seen], pick: &Pick) -> b
 }
 
 impl RuleJudge {
-    ghost use Rattle.std.specs.Prelude.{◌+◌, ◌-◌, ◌^◌, [], ◌∷◌, MatchOption, IfSome, IfNone, IfOk, IfErr};
+    ghost use Rattle.std.specs.Prelude.{◌+◌, ◌-◌, ◌^◌, [], ◌∷◌, ◌++◌, MatchOption, IfSome, IfNone, IfOk, IfErr};
     ghost use Rattle.nvme_arbiter.specs.Settings.{ArbitrationFields};
-    ghost use Rattle.nvme_arbiter.specs.History.{History, Picked, Changed};
+    ghost use Rattle.nvme_arbiter.specs.History.{History, Picked, Changed, settings_after};
     ghost use Rattle.nvme_arbiter.specs.Observation.{IsObservation};
     ghost use Rattle.nvme_arbiter.specs.Specified.{IsWithinCredit, IsInTurn, IsSpecifiedPick};
     ghost use Rattle.nvme_arbiter.specs.declared.settings.Mechanism.{Mechanism};
-    ghost use Rattle.nvme_judge.specs.Standing.{JudgeStandsAt, IsFirstBroken, weight_left};
-    ghost use Rattle.nvme_judge.specs.inside.Steps.{turn_class, UsedIs};
+    ghost use Rattle.nvme_judge.specs.Standing.{JudgeStandsAt, IsFirstBroken, IsQuiet, UsedIs, weight_left};
+    ghost use Rattle.nvme_judge.specs.inside.Steps.{turn_class};
 
-    /// A judge of what follows these settings.
-    pub fn new(mechanism: Mechanism, settings: Settings) -> RuleJudge
-        ensures stands { JudgeStandsAt mechanism settings [] result }
+    /// A judge of what follows these settings, where this is used in the round. It follows each history that leaves
+    /// no queue waiting and in whose round this is used.
+    pub fn new(mechanism: Mechanism, settings: Settings, used: Used) -> RuleJudge
+        ensures stands { (prior : History) → IsQuiet prior → settings_after settings prior ≡ settings → UsedIs mechanism settings prior used → JudgeStandsAt mechanism settings prior [] result }
         ensures picks { result.picks ≡ 0 }
     {
         RuleJudge {
             mechanism,
-            round: Round::new(settings),
+            round: Round { settings, used },
             turns: Turns::new(),
             picks: 0,
         }
@@ -130,7 +131,7 @@ impl RuleJudge {
 
     /// Takes new settings, which start a new round.
     pub fn set(&mut self, settings: Settings)
-        ensures stands { (mechanism : Mechanism) (first : ArbitrationFields) (past : History) → JudgeStandsAt mechanism first past self.old → JudgeStandsAt mechanism first (Changed settings ∷ past) self.new }
+        ensures stands { (mechanism : Mechanism) (first : ArbitrationFields) (prior past : History) → JudgeStandsAt mechanism first prior past self.old → JudgeStandsAt mechanism first prior (Changed settings ∷ past) self.new }
         ensures picks { self.new.picks ≡ self.old.picks }
     {
         self.round = Round::new(settings);
@@ -139,7 +140,7 @@ impl RuleJudge {
     /// How many commands of the level of a pick are left in its round. `None` for a pick of no level, and under round
     /// robin.
     pub fn left(&self, seen: &[Seen], pick: &Pick) -> Option<u16>
-        ensures { (mechanism : Mechanism) (first : ArbitrationFields) (past : History) → JudgeStandsAt mechanism first past self.now → result ≡ weight_left mechanism first past seen.now pick.now }
+        ensures { (mechanism : Mechanism) (first : ArbitrationFields) (prior past : History) → JudgeStandsAt mechanism first prior past self.now → result ≡ weight_left mechanism first (past ++ prior) seen.now pick.now }
     {
         match self.mechanism {
             Mechanism::RoundRobin => None,
@@ -161,7 +162,7 @@ impl RuleJudge {
     fn is_in_turn(&self, seen: &[Seen], pick: &Pick) -> bool
         requires observed { IsObservation seen.now }
         requires there { TakesCandidates seen.now pick.now }
-        ensures { (mechanism : Mechanism) (first : ArbitrationFields) (past : History) → JudgeStandsAt mechanism first past self.now → IsTrue result ↔ IsInTurn mechanism past seen.now pick.now }
+        ensures { (mechanism : Mechanism) (first : ArbitrationFields) (prior past : History) → JudgeStandsAt mechanism first prior past self.now → IsTrue result ↔ IsInTurn mechanism (past ++ prior) seen.now pick.now }
     {
         let class = self.turn_class(class_in(seen, pick.qid));
         !self.turns.some_has_waited(class, seen, pick.qid)
@@ -169,7 +170,7 @@ impl RuleJudge {
 
     // What is used after a pick. `None` where it takes more than the credit.
     fn used_after(&self, seen: &[Seen], pick: &Pick) -> Option<Used>
-        ensures { (mechanism : Mechanism) (first : ArbitrationFields) (past : History) → JudgeStandsAt mechanism first past self.now → MatchOption result (IsWithinCredit mechanism first past seen.now pick.now → ⊥) (λ used. IsWithinCredit mechanism first past seen.now pick.now × UsedIs mechanism first (Picked seen.now pick.now ∷ past) used) }
+        ensures { (mechanism : Mechanism) (first : ArbitrationFields) (prior past : History) → JudgeStandsAt mechanism first prior past self.now → MatchOption result (IsWithinCredit mechanism first (past ++ prior) seen.now pick.now → ⊥) (λ used. IsWithinCredit mechanism first (past ++ prior) seen.now pick.now × UsedIs mechanism first (Picked seen.now pick.now ∷ past ++ prior) used) }
     {
         match self.mechanism {
             Mechanism::RoundRobin => Some(self.round.used),
@@ -180,9 +181,9 @@ impl RuleJudge {
     // The first rule that a pick breaks, or what is used after it.
     fn verdict(&self, seen: &[Seen], pick: &Pick) -> Result<Used, Rule>
         requires observed { IsObservation seen.now }
-        ensures specified { (mechanism : Mechanism) (first : ArbitrationFields) (past : History) → JudgeStandsAt mechanism first past self.now → IfOk result (λ _. IsSpecifiedPick mechanism first past seen.now pick.now) }
-        ensures used { (mechanism : Mechanism) (first : ArbitrationFields) (past : History) → JudgeStandsAt mechanism first past self.now → IfOk result (UsedIs mechanism first (Picked seen.now pick.now ∷ past)) }
-        ensures broken { (mechanism : Mechanism) (first : ArbitrationFields) (past : History) → JudgeStandsAt mechanism first past self.now → IfErr result (IsFirstBroken mechanism first past seen.now pick.now) }
+        ensures specified { (mechanism : Mechanism) (first : ArbitrationFields) (prior past : History) → JudgeStandsAt mechanism first prior past self.now → IfOk result (λ _. IsSpecifiedPick mechanism first (past ++ prior) seen.now pick.now) }
+        ensures used { (mechanism : Mechanism) (first : ArbitrationFields) (prior past : History) → JudgeStandsAt mechanism first prior past self.now → IfOk result (UsedIs mechanism first (Picked seen.now pick.now ∷ past ++ prior)) }
+        ensures broken { (mechanism : Mechanism) (first : ArbitrationFields) (prior past : History) → JudgeStandsAt mechanism first prior past self.now → IfErr result (IsFirstBroken mechanism first (past ++ prior) seen.now pick.now) }
     {
         if !takes_candidates(seen, pick) {
             return Err(Rule::Candidates);
@@ -206,7 +207,7 @@ impl RuleJudge {
     // Keeps a pick, with what is used after it.
     fn keep(&mut self, seen: &[Seen], pick: &Pick, used: Used)
         requires few { self.old.picks < 2 ^ 64 - 1 }
-        ensures stands { (mechanism : Mechanism) (first : ArbitrationFields) (past : History) → JudgeStandsAt mechanism first past self.old → UsedIs mechanism first (Picked seen.now pick.now ∷ past) used → JudgeStandsAt mechanism first (Picked seen.now pick.now ∷ past) self.new }
+        ensures stands { (mechanism : Mechanism) (first : ArbitrationFields) (prior past : History) → JudgeStandsAt mechanism first prior past self.old → UsedIs mechanism first (Picked seen.now pick.now ∷ past ++ prior) used → JudgeStandsAt mechanism first prior (Picked seen.now pick.now ∷ past) self.new }
         ensures picks { self.new.picks ≡ self.old.picks + 1 }
     {
         let class = self.turn_class(class_in(seen, pick.qid));
@@ -220,8 +221,8 @@ impl RuleJudge {
     pub fn judge(&mut self, seen: &[Seen], pick: &Pick) -> Option<Rule>
         requires observed { IsObservation seen.now }
         requires few { self.old.picks < 2 ^ 64 - 1 }
-        ensures specified { (mechanism : Mechanism) (first : ArbitrationFields) (past : History) → JudgeStandsAt mechanism first past self.old → MatchOption result (IsSpecifiedPick mechanism first past seen.now pick.now) (IsFirstBroken mechanism first past seen.now pick.now) }
-        ensures stands { (mechanism : Mechanism) (first : ArbitrationFields) (past : History) → JudgeStandsAt mechanism first past self.old → IfNone result (JudgeStandsAt mechanism first (Picked seen.now pick.now ∷ past) self.new) }
+        ensures specified { (mechanism : Mechanism) (first : ArbitrationFields) (prior past : History) → JudgeStandsAt mechanism first prior past self.old → MatchOption result (IsSpecifiedPick mechanism first (past ++ prior) seen.now pick.now) (IsFirstBroken mechanism first (past ++ prior) seen.now pick.now) }
+        ensures stands { (mechanism : Mechanism) (first : ArbitrationFields) (prior past : History) → JudgeStandsAt mechanism first prior past self.old → IfNone result (JudgeStandsAt mechanism first prior (Picked seen.now pick.now ∷ past) self.new) }
         ensures picks { IfNone result (self.new.picks ≡ self.old.picks + 1) }
         ensures broken { IfSome result (λ _. self.new ≡ self.old) }
     {

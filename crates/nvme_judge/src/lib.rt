@@ -5,6 +5,8 @@
 mod judge;
 mod ready;
 mod round;
+mod starts;
 mod turns;
 
 pub use judge::{RuleJudge, count_in};
+pub use starts::{last_fits, starts_have_priors, used_fits};

@@ -4,7 +4,7 @@ use Rattle.std.specs.Prelude.{IfSome}
 use mathlib.Core.List.{reverse-cons, reverse-reverse}
 use Rattle.nvme_arbiter.specs.History.{ArbitrationEvent, History}
 use Rattle.nvme_trace.specs.Lines.{lines_of, numbered, told_lines, TakesTold, HasNoTold}
-use Rattle.nvme_trace.specs.Format.{head_of_line, event_by}
+use Rattle.nvme_trace.specs.Format.{head_by, event_by}
 use Rattle.nvme_trace.specs.Faults.{IsHeadFault, IsEventFaultBy}
 use Rattle.nvme_trace.specs.Checks.{TellsBy}
 use Rattle.nvme_trace.specs.declared.fault.TraceError.{TraceError}
@@ -31,7 +31,7 @@ reverse_more : (line : ℕ × List ℕ) (lines rest : List (ℕ × List ℕ)) �
 reverse_more line lines rest = sym (append_assoc (reverse lines) (line ∷ []) rest) ∙ ap (λ (ls : List (ℕ × List ℕ)). ls ++ rest) (sym (reverse-cons line lines))
 
 -- after the head
-pub shown_head : (text : List ℕ) (n : ℕ) (new : Option (List ℕ)) (head : Head) (P : History → Type 0) → TakesTold (λ line. head_of_line line ≡ Ok head) 0 (Some text) n new → P [] → ShownUpTo text new n head P
+pub shown_head : (text : List ℕ) (n : ℕ) (new : Option (List ℕ)) (head : Head) (P : History → Type 0) → TakesTold (λ line. head_by line ≡ Ok head) 0 (Some text) n new → P [] → ShownUpTo text new n head P
 shown_head text n None head P t p = t
 shown_head text n (Some rest) head P (line, split, is) p = record {
   past = [];
@@ -113,25 +113,25 @@ pub head_fault : (known : Option (List ℕ)) (e : TraceError) → IsHeadFault e 
 head_fault None e f = tt
 head_fault (Some text) e f = inl f
 
-pub later : (P : List ℕ → Type 0) (known : Option (List ℕ)) (n : ℕ) (new : Option (List ℕ)) (head : Head) → TakesTold (λ line. head_of_line line ≡ Ok head) 0 known n new
-    → ((text : List ℕ) → TakesTold (λ line. head_of_line line ≡ Ok head) 0 (Some text) n new → P text) → IfSome known P
+pub later : (P : List ℕ → Type 0) (known : Option (List ℕ)) (n : ℕ) (new : Option (List ℕ)) (head : Head) → TakesTold (λ line. head_by line ≡ Ok head) 0 known n new
+    → ((text : List ℕ) → TakesTold (λ line. head_by line ≡ Ok head) 0 (Some text) n new → P text) → IfSome known P
 later P None n new head t h = tt
 later P (Some text) n new head t h = h text t
 
 -- what is shown of a text whose head was read, and its fault
 pub shown_at : (P : Head → History → Type 0) (Start : Head → Type 0) (known rest : Option (List ℕ)) (n : ℕ) (new : Option (List ℕ)) (head : Head) → rest ≡ known
-    → TakesTold (λ line. head_of_line line ≡ Ok head) 0 rest n new → Start head
-    → ((text : List ℕ) (h : Head) → TakesTold (λ line. head_of_line line ≡ Ok h) 0 (Some text) n new → Start h → IsShownBy Specification text P)
+    → TakesTold (λ line. head_by line ≡ Ok head) 0 rest n new → Start head
+    → ((text : List ℕ) (h : Head) → TakesTold (λ line. head_by line ≡ Ok h) 0 (Some text) n new → Start h → IsShownBy Specification text P)
     → IfSome known (λ text. IsShownBy Specification text P)
 shown_at P Start known rest n new head is t s f =
-    later (λ text. IsShownBy Specification text P) known n new head (subst (λ (k : Option (List ℕ)). TakesTold (λ line. head_of_line line ≡ Ok head) 0 k n new) is t) (λ text took. f text head took s)
+    later (λ text. IsShownBy Specification text P) known n new head (subst (λ (k : Option (List ℕ)). TakesTold (λ line. head_by line ≡ Ok head) 0 k n new) is t) (λ text took. f text head took s)
 
 pub fault_at : (e : TraceError) (Start : Head → Type 0) (known rest : Option (List ℕ)) (n : ℕ) (new : Option (List ℕ)) (head : Head) → rest ≡ known
-    → TakesTold (λ line. head_of_line line ≡ Ok head) 0 rest n new → Start head
-    → ((text : List ℕ) (h : Head) → TakesTold (λ line. head_of_line line ≡ Ok h) 0 (Some text) n new → Start h → IsReadFaultBy Specification text e)
+    → TakesTold (λ line. head_by line ≡ Ok head) 0 rest n new → Start head
+    → ((text : List ℕ) (h : Head) → TakesTold (λ line. head_by line ≡ Ok h) 0 (Some text) n new → Start h → IsReadFaultBy Specification text e)
     → IfSome known (λ text. IsReadFaultBy Specification text e)
 fault_at e Start known rest n new head is t s f =
-    later (λ text. IsReadFaultBy Specification text e) known n new head (subst (λ (k : Option (List ℕ)). TakesTold (λ line. head_of_line line ≡ Ok head) 0 k n new) is t) (λ text took. f text head took s)
+    later (λ text. IsReadFaultBy Specification text e) known n new head (subst (λ (k : Option (List ℕ)). TakesTold (λ line. head_by line ≡ Ok head) 0 k n new) is t) (λ text took. f text head took s)
 
 pub head_fault_at : (e : TraceError) (known rest : Option (List ℕ)) → rest ≡ known → IsHeadFault e 0 rest → IfSome known (λ text. IsReadFaultBy Specification text e)
 head_fault_at e known rest is f = head_fault known e (subst (λ (k : Option (List ℕ)). IsHeadFault e 0 k) is f)

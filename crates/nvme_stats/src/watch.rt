@@ -1,7 +1,7 @@
 // Goes through a trace, event by event.
 ghost use Rattle.std.specs.Prelude.{◌≡◌, ◌+◌, List, ℕ, Some, Ok, [], ◌∷◌, IfErr, IfOk, OnOk};
 ghost use Rattle.nvme_arbiter.specs.History.{History};
-ghost use Rattle.nvme_trace.specs.Format.{event_view, head_of_line};
+ghost use Rattle.nvme_trace.specs.Format.{event_view, head_by};
 ghost use Rattle.nvme_trace.specs.Lines.{TakesTold};
 ghost use Rattle.nvme_trace.specs.declared.basis.Basis.TheVariants.{Specification};
 ghost use Rattle.nvme_trace.specs.declared.records.Head.{Head};
@@ -68,8 +68,8 @@ pub fn show<R: Read, W: Watch>(
     selection: Selection,
     watcher: &mut W,
 ) -> Result<Part, TraceError>
-    ensures shown { IfOk result (λ part. (text : List ℕ) (first : Head) → TakesTold (λ line. head_of_line line ≡ Ok first) 0 (Some text) trace.old.number trace.old.rest → W.stands first [] watcher.old → first.mechanism ≡ mechanism → IsShownBy Specification text (λ h past. W.stands h (chosen h.mechanism selection past) watcher.new × IsPart selection past part)) }
-    ensures fault { IfErr result (λ error. (text : List ℕ) (first : Head) → TakesTold (λ line. head_of_line line ≡ Ok first) 0 (Some text) trace.old.number trace.old.rest → W.stands first [] watcher.old → IsReadFaultBy Specification text error) }
+    ensures shown { IfOk result (λ part. (text : List ℕ) (first : Head) → TakesTold (λ line. head_by line ≡ Ok first) 0 (Some text) trace.old.number trace.old.rest → W.stands first [] watcher.old → first.mechanism ≡ mechanism → IsShownBy Specification text (λ h past. W.stands h (chosen h.mechanism selection past) watcher.new × IsPart selection past part)) }
+    ensures fault { IfErr result (λ error. (text : List ℕ) (first : Head) → TakesTold (λ line. head_by line ≡ Ok first) 0 (Some text) trace.old.number trace.old.rest → W.stands first [] watcher.old → IsReadFaultBy Specification text error) }
 {
     let mut chooser = Chooser {
         mechanism,

@@ -1,5 +1,5 @@
 -- What is kept of any picks says what their history says.
-use Rattle.std.proofs.Common.{◌≡◌, ℕ, ◌+◌, min, Bool, true, false, List, [], ◌∷◌, refl, sym, ap, subst, ◌∙◌, arith}
+use Rattle.std.proofs.Common.{◌≡◌, ℕ, ◌+◌, min, Bool, true, false, List, ◌∷◌, refl, sym, ap, subst, ◌∙◌, arith}
 use Rattle.std.specs.Prelude.{Option, Some, None, nat_lt, if◌then◌else◌}
 use Rattle.std.specs.Option.{option_or}
 use Rattle.nvme_arbiter.specs.Settings.{ArbitrationFields, burst_of, IsLevel}
@@ -8,7 +8,7 @@ use Rattle.nvme_arbiter.specs.Next.{next}
 use Rattle.nvme_arbiter.specs.Rules.{within_burst, take_from, credit, round_robin_pick, weighted_pick}
 use Rattle.nvme_arbiter.specs.History.{History, Picked, Changed, settings_after, last_served_of, is_in_class, used_in_round}
 use Rattle.nvme_arbiter.specs.Lawful.{lawful_pick}
-use Rattle.nvme_arbiter.specs.Standing.{last_of, used_of, pick_by, pick_of, last_with, used_before, nothing_used, first_kept}
+use Rattle.nvme_arbiter.specs.Standing.{last_of, used_of, pick_by, pick_of, last_with, used_before, nothing_used, StandsAt}
 use Rattle.nvme_arbiter.specs.declared.settings.Class.{Class}
 use Rattle.nvme_arbiter.specs.declared.settings.Class.TheVariants.{Admin, Urgent, High, Medium, Low}
 use Rattle.nvme_arbiter.specs.declared.settings.Mechanism.{Mechanism}
@@ -18,9 +18,9 @@ use Rattle.nvme_arbiter.specs.declared.kept.Last.{Last}
 use Rattle.nvme_arbiter.specs.declared.kept.Used.{Used}
 use Rattle.nvme_arbiter.specs.declared.pick.Seen.{Seen}
 use Rattle.nvme_arbiter.specs.declared.pick.Pick.{Pick}
-use Rattle.nvme_arbiter.proofs.ClassLemmas.{of_class_after, of_class_same}
+use Rattle.nvme_arbiter.proofs.ClassLemmas.{of_class_after}
 use Rattle.nvme_trace.specs.Surveys.{Follows, capped_used}
-use Rattle.nvme_trace.specs.inside.Steps.{used_plus, followed, WeightsFit}
+use Rattle.nvme_trace.specs.inside.Steps.{used_plus, followed, WeightsFit, UsedFits}
 
 -- ---- only the credits of what is used count
 module _ (s : ArbitrationFields) (last : Class → Option ℕ) (credits : Bool → Class → ℕ) (seen : List Seen) where
@@ -117,7 +117,14 @@ pub follows_changed : (m : Mechanism) (first : ArbitrationFields) (past : Histor
 follows_changed RoundRobin first past k s h = record { mechanism_is = h.mechanism_is; settings_are = refl; remembers = h.remembers }
 follows_changed Weighted first past k s h = record { mechanism_is = h.mechanism_is; settings_are = refl; remembers = (h.remembers.0, λ level l. nothing_in level) }
 
--- at first
-pub follows_first : (m : Mechanism) (s : ArbitrationFields) → Follows m s [] (first_kept m s)
-follows_first RoundRobin s = record { mechanism_is = refl; settings_are = refl; remembers = refl }
-follows_first Weighted s = record { mechanism_is = refl; settings_are = refl; remembers = (λ class. of_class_same None class, λ level l. nothing_in level) }
+-- where an arbiter stands, of which no more is used than is counted
+counted_used : (used : Used) (past : History) (level : Class) → UsedFits used → IsLevel level → used_of used level ≡ used_in_round level past → used_of used level ≡ capped_used (used_in_round level past)
+counted_used used past Admin fits l is = absurd l
+counted_used used past Urgent fits l is = absurd l
+counted_used used past High fits l is = omega (arith, fits.high, is)
+counted_used used past Medium fits l is = omega (arith, fits.medium, is)
+counted_used used past Low fits l is = omega (arith, fits.low, is)
+
+pub follows_stands : (m : Mechanism) (s : ArbitrationFields) (past : History) (k : Kept) → UsedFits k.used → StandsAt m s past k → Follows m s past k
+follows_stands RoundRobin s past k fits is = record { mechanism_is = is.mechanism_is; settings_are = is.settings_are; remembers = is.recalls }
+follows_stands Weighted s past k fits is = record { mechanism_is = is.mechanism_is; settings_are = is.settings_are; remembers = (is.recalls.0, λ level l. counted_used k.used past level fits l (is.recalls.1 level l)) }

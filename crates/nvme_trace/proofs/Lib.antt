@@ -8,3 +8,4 @@ pub mod Leniently
 pub mod FollowLemmas
 pub mod TakenLemmas
 pub mod SurveyLemmas
+pub mod PriorLemmas

@@ -1,5 +1,5 @@
 -- A pick as this front writes it.
-use Rattle.std.proofs.Common.{◌≡◌, ℕ, ◌+◌, ◌<◌, ◌≤◌, ◌==◌, ◌&&◌, ◌||◌, not, Bool, true, false, List, [], ◌∷◌, inl, inr, refl, sym, ap, subst, ◌∙◌, arith}
+use Rattle.std.proofs.Common.{◌≡◌, ℕ, ◌+◌, ◌<◌, ◌≤◌, ◌==◌, ◌&&◌, ◌||◌, not, Bool, true, false, List, [], ◌∷◌, ◌++◌, append-nil, inl, inr, refl, sym, ap, subst, ◌∙◌, arith}
 use Rattle.std.specs.Prelude.{Option, Some, None, if◌then◌else◌, option_map, All, IfSome, IsFalse}
 use Rattle.std.specs.List.{list_any}
 use Rattle.std.proofs.lemmas.Bool.{cases_Bool, eqb-true, eqb-false, eq-eqb, and_parts, true≢false}
@@ -7,7 +7,7 @@ use Rattle.nvme_arbiter.specs.Settings.{ArbitrationFields, burst_of, weight_of, 
 use Rattle.nvme_arbiter.specs.Observation.{IsObservation, class_in}
 use Rattle.nvme_arbiter.specs.History.{Picked, Changed, History, settings_after, last_served, last_served_of, is_in_class, used_in_round, taken}
 use Rattle.nvme_arbiter.specs.Rules.{credit, round_robin_pick, weighted_pick}
-use Rattle.nvme_arbiter.specs.Lawful.{lawful_pick, cut, IsCutOf, IsLimitedPick}
+use Rattle.nvme_arbiter.specs.Lawful.{lawful_pick, cut, IsCutOf, IsLimitedPick, IsLawfulRun}
 use Rattle.nvme_arbiter.specs.Laws.{IsRoundOver}
 use Rattle.nvme_arbiter.specs.Specified.{starts_round, round_used, ready_in, has_waited, Keeps, IsSpecifiedRun}
 use Rattle.nvme_arbiter.specs.Standing.{used_of, used_with, used_before, StandsAt}
@@ -25,7 +25,7 @@ use Rattle.nvme_arbiter.proofs.PickLaws.{fresh_due, whole_is_limited, limits_are
 use Rattle.nvme_arbiter.proofs.SpecifiedLaws.{limited_specified}
 use Rattle.nvme_trace.proofs.FollowLemmas.{same_picks}
 use Rattle.nvme_trace.specs.Surveys.{Follows, capped_used}
-use Rattle.nvme_trace.specs.Taken.{is_unused, as_written, written, pick_within, latest_room, earlier_rooms, IsTakenRun, TellNoRoom, TellSomeRoom, TakenRunsAreLawful, TakenRunsAreLimited, LawfulRunsAreTaken}
+use Rattle.nvme_trace.specs.Taken.{is_unused, as_written, written, pick_within, latest_room, earlier_rooms, IsTakenPick, IsTakenRun, IsTakenAfter, TellNoRoom, TellSomeRoom, TakenRunsAreLawful, TakenRunsAreLimited, TakenAfterIsLawful, TakenAfterIsLimited, LawfulRunsAreTaken}
 use Rattle.nvme_trace.specs.Within.{RunsWithinAreTaken}
 use Rattle.nvme_trace.specs.inside.Steps.{unused_by, within_room}
 
@@ -183,7 +183,7 @@ same_used level (Changed settings ∷ past) l = refl
 same_used level (Picked seen pick ∷ past) l =
     ap (λ (n : ℕ). taken level seen pick + (if pick.fresh && not (is_unused Weighted past) then 0 else n)) (same_used level past l) ∙ used_written past seen pick level l
 
-credit_same : (s : ArbitrationFields) (a b : Class → ℕ) → ((level : Class) → IsLevel level → a level ≡ b level) → (fresh : Bool) (level : Class) → credit s a fresh level ≡ credit s b fresh level
+pub credit_same : (s : ArbitrationFields) (a b : Class → ℕ) → ((level : Class) → IsLevel level → a level ≡ b level) → (fresh : Bool) (level : Class) → credit s a fresh level ≡ credit s b fresh level
 credit_same s a b h true level = refl
 credit_same s a b h false Admin = omega arith
 credit_same s a b h false Urgent = omega arith
@@ -251,7 +251,7 @@ none_same m class past seen qid h =
     let path : (λ (s : Seen). has_waited class qid s.qid (written m past)) ≡ (λ (s : Seen). has_waited class qid s.qid past) = λ i. λ s. same_waited m class qid s.qid past i in
     subst (λ (w : Seen → Bool). All (λ s. IsFalse (w s)) (ready_in class seen)) path h
 
-if_some : {T : Type 0} (P Q : T → Type 0) (o : Option T) → ((x : T) → P x → Q x) → IfSome o P → IfSome o Q
+pub if_some : {T : Type 0} (P Q : T → Type 0) (o : Option T) → ((x : T) → P x → Q x) → IfSome o P → IfSome o Q
 if_some P Q None h p = tt
 if_some P Q (Some x) h p = h x p
 
@@ -277,3 +277,38 @@ specified_told m first (Picked seen pick ∷ past) r = (r.0, λ rule. keeps_told
 -- what is taken is allowed by the specification
 pub taken_specified : (m : Mechanism) (first : ArbitrationFields) (past : History) (rooms : List (Option ℕ)) → TellSomeRoom rooms → IsTakenRun m first past rooms → IsSpecifiedRun m first past
 taken_specified m first past rooms s r = specified_told m first past (limited_specified m first (written m past) (taken_limited m first past rooms s r))
+
+-- ---- events after a history
+-- the rooms of so many events
+abbrev rooms_after : History → List (Option ℕ) → List (Option ℕ)
+rooms_after [] rooms = []
+rooms_after (e ∷ past) rooms = latest_room rooms ∷ rooms_after past (earlier_rooms rooms)
+
+none_after : (past : History) (rooms : List (Option ℕ)) → TellNoRoom rooms → TellNoRoom (rooms_after past rooms)
+none_after [] rooms n = tt
+none_after (e ∷ past) rooms n = (no_latest rooms n, none_after past (earlier_rooms rooms) (none_earlier rooms n))
+
+some_after : (past : History) (rooms : List (Option ℕ)) → TellSomeRoom rooms → TellSomeRoom (rooms_after past rooms)
+some_after [] rooms s = tt
+some_after (e ∷ past) rooms s = (some_latest rooms s, some_after past (earlier_rooms rooms) (some_earlier rooms s))
+
+taken_whole : (m : Mechanism) (first : ArbitrationFields) (prior past : History) (rooms : List (Option ℕ)) → IsLawfulRun m first prior → IsTakenAfter m first prior past rooms → IsTakenRun m first (past ++ prior) (rooms_after past rooms)
+taken_whole m first prior [] rooms l r = lawful_taken m first prior [] tt l
+taken_whole m first prior (Changed settings ∷ past) rooms l r = taken_whole m first prior past (earlier_rooms rooms) l r
+taken_whole m first prior (Picked seen pick ∷ past) rooms l r = (r.0, r.1, taken_whole m first prior past (earlier_rooms rooms) l r.2)
+
+pub taken_after_lawful : TakenAfterIsLawful
+taken_after_lawful m first prior past rooms n l r = taken_lawful m first (past ++ prior) (rooms_after past rooms) (none_after past rooms n) (taken_whole m first prior past rooms l r)
+
+pub taken_after_limited : TakenAfterIsLimited
+taken_after_limited m first prior past rooms s l r = taken_limited m first (past ++ prior) (rooms_after past rooms) (some_after past rooms s) (taken_whole m first prior past rooms l r)
+
+pub taken_after_specified : (m : Mechanism) (first : ArbitrationFields) (prior past : History) (rooms : List (Option ℕ)) → TellSomeRoom rooms → IsLawfulRun m first prior → IsTakenAfter m first prior past rooms → IsSpecifiedRun m first (past ++ prior)
+taken_after_specified m first prior past rooms s l r = taken_specified m first (past ++ prior) (rooms_after past rooms) (some_after past rooms s) (taken_whole m first prior past rooms l r)
+
+-- after nothing
+pub taken_after_none : (m : Mechanism) (first : ArbitrationFields) (past : History) (rooms : List (Option ℕ)) → IsTakenRun m first past rooms → IsTakenAfter m first [] past rooms
+taken_after_none m first [] rooms r = tt
+taken_after_none m first (Changed settings ∷ past) rooms r = taken_after_none m first past (earlier_rooms rooms) r
+taken_after_none m first (Picked seen pick ∷ past) rooms r =
+    (r.0, subst (λ (h : History). IsTakenPick m first h (latest_room rooms) seen pick) (sym (append-nil past)) r.1, taken_after_none m first past (earlier_rooms rooms) r.2)

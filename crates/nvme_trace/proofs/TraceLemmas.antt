@@ -1,16 +1,18 @@
 -- The line that comes next, and its fault.
-use Rattle.std.proofs.Common.{◌≡◌, ◌≢◌, ℕ, ◌+◌, ◌<◌, ◌≤◌, ◌&&◌, ltb, leb, Bool, true, false, List, ◌∷◌, length, Option, Some, None, Result, Err, inl, inr, refl, sym, ap, subst, ◌∙◌}
+use Rattle.std.proofs.Common.{◌≡◌, ◌≢◌, ℕ, ◌+◌, ◌<◌, ◌≤◌, ◌&&◌, ltb, leb, Bool, true, false, List, ◌∷◌, length, Option, Some, None, Result, Ok, Err, inl, inr, refl, sym, ap, subst, ◌∙◌}
 use Rattle.std.specs.Prelude.{if◌then◌else◌}
 use Rattle.std.specs.List.{list_all}
 use Rattle.std.proofs.lemmas.Bool.{lt-ltb, le-leb, lt-leb}
 use Rattle.nvme_trace.specs.Lines.{lines_of, is_space, is_blank, numbered, StartsWithLine, TakesTold, StartsTold, HasNoTold, PassesBlank}
-use Rattle.nvme_trace.specs.Readings.{Fails}
-use Rattle.nvme_trace.specs.Format.{longest_line, data_of, head_of_line, event_by}
+use Rattle.nvme_arbiter.specs.declared.kept.Kept.{Kept}
+use Rattle.nvme_trace.specs.Readings.{Fails, seen_by}
+use Rattle.nvme_trace.specs.Format.{longest_line, data_of, start_of_line, head_of_kept, head_by, event_by}
 use Rattle.nvme_trace.specs.declared.basis.Basis.{Basis}
 use Rattle.nvme_trace.specs.Faults.{IsLineFault, HasHeadFault, IsHeadFault, IsEventFaultBy}
 use Rattle.nvme_trace.specs.declared.fault.LineFault.{LineFault}
 use Rattle.nvme_trace.specs.declared.fault.LineFault.TheVariants as faults
 use Rattle.nvme_trace.specs.declared.fault.TraceError.{TraceError}
+use Rattle.nvme_trace.specs.declared.records.Head.{Head}
 use Rattle.nvme_trace.specs.declared.fault.TraceError.TheVariants as error
 
 -- ---- blank lines
@@ -70,7 +72,7 @@ failed (faults.Bad field) reading f n = f
 failed faults.Unknown reading f n = f
 failed faults.NotObservation reading f n = f
 
-head_starts : (fault : LineFault) (m n : ℕ) (a : Option (List ℕ)) → StartsTold (λ line. head_of_line line ≡ Err fault) m a n → HasHeadFault fault m a n
+head_starts : (fault : LineFault) (m n : ℕ) (a : Option (List ℕ)) → StartsTold (λ line. start_of_line line ≡ Err fault) m a n → HasHeadFault fault m a n
 head_starts fault m n None s = tt
 head_starts fault m n (Some xs) s = inr s
 
@@ -87,17 +89,17 @@ told_event basis error.Read m number fault a t h = tt
 told_event basis error.NoMemory m number fault a t h = tt
 
 -- a line that was read
-pub head_fails : (e : TraceError) (m number : ℕ) (fault : LineFault) (line : List ℕ) (a b : Option (List ℕ)) → IsLineFault e number fault → TakesTold (λ l. l ≡ line) m a number b → Fails fault (head_of_line line) → IsHeadFault e m a
+pub head_fails : (e : TraceError) (m number : ℕ) (fault : LineFault) (line : List ℕ) (a b : Option (List ℕ)) → IsLineFault e number fault → TakesTold (λ l. l ≡ line) m a number b → Fails fault (start_of_line line) → IsHeadFault e m a
 head_fails e m number fault line a b told t f =
-    told_head e m number fault a told (λ n. head_starts fault m number a (starts_as (λ l. head_of_line l ≡ Err fault) line m number a b t (failed fault (head_of_line line) f n)))
+    told_head e m number fault a told (λ n. head_starts fault m number a (starts_as (λ l. start_of_line l ≡ Err fault) line m number a b t (failed fault (start_of_line line) f n)))
 
 pub event_fails : (basis : Basis) (e : TraceError) (m number : ℕ) (fault : LineFault) (line : List ℕ) (a b : Option (List ℕ)) → IsLineFault e number fault → TakesTold (λ l. l ≡ line) m a number b → Fails fault (event_by basis line) → IsEventFaultBy basis e m a
 event_fails basis e m number fault line a b told t f =
     told_event basis e m number fault a told (λ n. starts_as (λ l. event_by basis l ≡ Err fault) line m number a b t (failed fault (event_by basis line) f n))
 
 -- a line that is too long
-long_head : (line : List ℕ) → longest_line < length line → head_of_line line ≡ Err faults.TooLong
-unfolding head_of_line data_of
+long_head : (line : List ℕ) → longest_line < length line → start_of_line line ≡ Err faults.TooLong
+unfolding start_of_line data_of
 long_head line h = let e : ltb longest_line (length line) ≡ true = lt-ltb _ _ h in rw e
 
 long_event : (basis : Basis) (line : List ℕ) → longest_line < length line → event_by basis line ≡ Err faults.TooLong
@@ -106,7 +108,7 @@ long_event basis line h = let e : ltb longest_line (length line) ≡ true = lt-l
 
 pub head_too_long : (e : TraceError) (number : ℕ) (a : Option (List ℕ)) → IsLineFault e (number + 1) faults.TooLong → StartsWithLine (λ line. longest_line < length line) a → IsHeadFault e number a
 head_too_long e number a told s =
-    told_head e number (number + 1) faults.TooLong a told (λ n. head_starts faults.TooLong number (number + 1) a (starts_long (λ l. head_of_line l ≡ Err faults.TooLong) number a long_head s))
+    told_head e number (number + 1) faults.TooLong a told (λ n. head_starts faults.TooLong number (number + 1) a (starts_long (λ l. start_of_line l ≡ Err faults.TooLong) number a long_head s))
 
 pub event_too_long : (basis : Basis) (e : TraceError) (number : ℕ) (a : Option (List ℕ)) → IsLineFault e (number + 1) faults.TooLong → StartsWithLine (λ line. longest_line < length line) a → IsEventFaultBy basis e number a
 event_too_long basis e number a told s =
@@ -119,3 +121,9 @@ no_line m (Some xs) n = inl (n, refl, refl)
 
 pub no_head : (e : TraceError) (m : ℕ) (a : Option (List ℕ)) → IsLineFault e 1 faults.NoHead → HasNoTold m a → IsHeadFault e m a
 no_head e m a told n = told_head e m 1 faults.NoHead a told (λ _. no_line m a n)
+
+-- the head of what is kept
+pub takes_head : (start : Kept) (head : Head) (m number : ℕ) (a b : Option (List ℕ)) → head ≡ head_of_kept start → TakesTold (λ line. start_of_line line ≡ Ok start) m a number b → TakesTold (λ line. head_by line ≡ Ok head) m a number b
+takes_head start head m number None b h t = tt
+takes_head start head m number (Some xs) None h t = absurd t
+takes_head start head m number (Some xs) (Some ys) h (line, split, is) = (line, split, ap (seen_by head_of_kept) is ∙ ap (λ (x : Head). Ok x) (sym h))

@@ -1,11 +1,11 @@
 -- What the profile and the specification each ask of a trace. (Base Specification, Command Arbitration; what is told: profile)
-use Rattle.std.specs.Prelude.{◌≡◌, ℕ, List, Option}
+use Rattle.std.specs.Prelude.{◌≡◌, ℕ, List, ◌++◌, Option}
 use Rattle.nvme_arbiter.specs.History.{ArbitrationEvent, Picked, Changed, History, settings_after}
 use Rattle.nvme_arbiter.specs.Standing.{StandsAt}
 use Rattle.nvme_arbiter.specs.Specified.{IsSpecifiedPick, IsSpecifiedRun}
 use Rattle.nvme_arbiter.specs.declared.pick.Seen.{Seen}
 use Rattle.nvme_judge.specs.Standing.{JudgeStandsAt, IsFirstBroken, weight_left}
-use Rattle.nvme_trace.specs.Taken.{IsTakenRun}
+use Rattle.nvme_trace.specs.Taken.{IsTakenAfter}
 use Rattle.nvme_trace.specs.Format.{rooms_of}
 use Rattle.nvme_trace.specs.Judged.{IsTakenEvent, IsFinding, count_in}
 use Rattle.nvme_trace.specs.declared.basis.Basis.{Basis}
@@ -17,10 +17,10 @@ use Rattle.nvme_trace.specs.declared.judges.Reason.TheVariants.{Differs, Breaks}
 use Rattle.nvme_trace.specs.declared.judges.BasisJudge.{BasisJudge}
 use Rattle.nvme_trace.specs.declared.judges.BasisJudge.TheVariants as judge
 
--- each pick of a history, which these lines tell, is taken for the one that this front makes, or is one that the specification allows. The specification has no room
-abbrev pub IsRunBy : Basis → Head → History → List (ℕ × List ℕ) → Type 0
-IsRunBy Profile head past lines = IsTakenRun head.mechanism head.settings past (rooms_of lines)
-IsRunBy Specification head past lines = IsSpecifiedRun head.mechanism head.settings past
+-- each pick that these lines tell, after a history, is taken for the one that this front makes, or is one that the specification allows, as that history is. The specification has no room
+abbrev pub IsRunBy : Basis → Head → History → History → List (ℕ × List ℕ) → Type 0
+IsRunBy Profile head prior past lines = IsTakenAfter head.mechanism head.settings prior past (rooms_of lines)
+IsRunBy Specification head prior past lines = IsSpecifiedRun head.mechanism head.settings (past ++ prior)
 
 abbrev pub IsSpecifiedEvent : Head → History → ArbitrationEvent → Type 0
 IsSpecifiedEvent head past (Picked seen pick) = IsSpecifiedPick head.mechanism head.settings past seen pick
@@ -52,12 +52,12 @@ IsReasonBy Specification head past room event (Breaks breach) = IsBreach head pa
 IsReasonBy Profile head past room event (Breaks breach) = ⊥
 IsReasonBy Specification head past room event (Differs finding) = ⊥
 
--- a judge stands at a history
-abbrev pub StandsBy : Basis → Head → History → BasisJudge → Type 0
-StandsBy Profile head past (judge.Profile j) = StandsAt head.mechanism head.settings past j.kept
-StandsBy Specification head past (judge.Specification j) = JudgeStandsAt head.mechanism head.settings past j
-StandsBy Profile head past (judge.Specification j) = ⊥
-StandsBy Specification head past (judge.Profile j) = ⊥
+-- a judge that began after a history stands at the events since then
+abbrev pub StandsBy : Basis → Head → History → History → BasisJudge → Type 0
+StandsBy Profile head prior past (judge.Profile j) = StandsAt head.mechanism head.settings (past ++ prior) j.kept
+StandsBy Specification head prior past (judge.Specification j) = JudgeStandsAt head.mechanism head.settings prior past j
+StandsBy Profile head prior past (judge.Specification j) = ⊥
+StandsBy Specification head prior past (judge.Profile j) = ⊥
 
 abbrev pub picks_by : BasisJudge → ℕ
 picks_by (judge.Profile j) = j.picks

@@ -1,7 +1,7 @@
 -- The faults of a text, each of the line that comes next. (profile)
 use Rattle.std.specs.Prelude.{◌≡◌, ◌≢◌, ◌⊎◌, ℕ, List, [], Option, Some, None, Err}
 use Rattle.nvme_trace.specs.Lines.{lines_of, numbered, StartsTold}
-use Rattle.nvme_trace.specs.Format.{head_of_line, event_by}
+use Rattle.nvme_trace.specs.Format.{start_of_line, event_by}
 use Rattle.nvme_trace.specs.declared.basis.Basis.{Basis}
 use Rattle.nvme_trace.specs.declared.fault.LineFault.{LineFault}
 use Rattle.nvme_trace.specs.declared.fault.LineFault.TheVariants.{NoHead, NoMemory}
@@ -17,7 +17,7 @@ IsLineFault error.NoMemory number told = told ≡ NoMemory
 -- the first line that isn't blank, which is number n, is no head, with this fault. Where all are blank, line 1 has it
 abbrev pub HasHeadFault : LineFault → ℕ → Option (List ℕ) → ℕ → Type 0
 HasHeadFault fault number None n = Unit {0}
-HasHeadFault fault number (Some xs) n = ((numbered number (lines_of xs) ≡ []) × (fault ≡ NoHead) × (n ≡ 1)) ⊎ StartsTold (λ line. head_of_line line ≡ Err fault) number (Some xs) n
+HasHeadFault fault number (Some xs) n = ((numbered number (lines_of xs) ≡ []) × (fault ≡ NoHead) × (n ≡ 1)) ⊎ StartsTold (λ line. start_of_line line ≡ Err fault) number (Some xs) n
 
 -- after this many lines
 abbrev pub IsHeadFault : TraceError → ℕ → Option (List ℕ) → Type 0

@@ -8,6 +8,8 @@ abbrev pub text_of : Field → List ℕ
 text_of field.Version = codes "version"
 text_of field.Mechanism = codes "mechanism"
 text_of field.Cdw11 = codes "cdw11"
+text_of field.Last = codes "last"
+text_of field.Used = codes "used"
 text_of field.Set = codes "set"
 text_of field.Pick = codes "pick"
 text_of field.N = codes "n"

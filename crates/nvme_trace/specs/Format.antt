@@ -1,5 +1,5 @@
 -- What a line of a trace says, or its first fault. (profile)
-use Rattle.std.specs.Prelude.{ℕ, ◌+◌, ◌==◌, Bool, false, nat_lt, if◌then◌else◌, codes, List, [], ◌∷◌, ◌++◌, length, map, Option, Some, None, is_some, ok_or, option_and_then, option_map, Result, Ok, Err, nat_eq}
+use Rattle.std.specs.Prelude.{ℕ, ◌+◌, ◌==◌, ◌&&◌, ◌||◌, Bool, false, nat_lt, if◌then◌else◌, codes, List, [], ◌∷◌, ◌++◌, length, map, Option, Some, None, is_some, ok_or, option_and_then, option_map, Result, Ok, Err, nat_eq}
 use Rattle.std.specs.Cmp.Lexicographic.{pointwise}
 use Rattle.std.specs.Str.{is_utf8}
 use Rattle.serde_json.specs.Data.{Data, Items, no_items, item}
@@ -7,6 +7,13 @@ use Rattle.serde_json.specs.Find.{get, at, as_str, as_array, as_object}
 use Rattle.serde_json.specs.Read.{read}
 use Rattle.nvme_arbiter.specs.Limits.{queue_limit}
 use Rattle.nvme_arbiter.specs.Observation.{is_observation_from}
+use Rattle.nvme_arbiter.specs.ByClass.{same_for_all}
+use Rattle.nvme_arbiter.specs.Standing.{nothing_used}
+use Rattle.nvme_arbiter.specs.declared.kept.Kept.{Kept}
+use Rattle.nvme_arbiter.specs.declared.kept.Last.{Last}
+use Rattle.nvme_arbiter.specs.declared.kept.Used.{Used}
+use Rattle.nvme_judge.specs.Starts.{last_fits, used_fits}
+use Rattle.nvme_trace.specs.declared.fault.Field.{Field}
 use Rattle.nvme_arbiter.specs.Settings.{settings_of}
 use Rattle.nvme_arbiter.specs.History.{ArbitrationEvent, Picked, Changed}
 use Rattle.nvme_arbiter.specs.declared.settings.Class.{Class}
@@ -15,7 +22,7 @@ use Rattle.nvme_arbiter.specs.declared.settings.Mechanism.{Mechanism}
 use Rattle.nvme_arbiter.specs.declared.settings.Mechanism.TheVariants.{RoundRobin, Weighted}
 use Rattle.nvme_arbiter.specs.declared.pick.Seen.{Seen}
 use Rattle.nvme_trace.specs.declared.fault.LineFault.{LineFault}
-use Rattle.nvme_trace.specs.declared.fault.LineFault.TheVariants.{TooLong, NotUtf8, NotJson, NotObject, Bad, NotObservation}
+use Rattle.nvme_trace.specs.declared.fault.LineFault.TheVariants.{TooLong, NotUtf8, NotJson, NotObject, Bad, Unknown, NotObservation}
 use Rattle.nvme_trace.specs.declared.fault.Field.TheVariants as field
 use Rattle.nvme_trace.specs.declared.basis.Basis.{Basis}
 use Rattle.nvme_trace.specs.declared.basis.Basis.TheVariants.{Profile, Specification}
@@ -23,7 +30,7 @@ use Rattle.nvme_trace.specs.declared.records.Head.{Head}
 use Rattle.nvme_trace.specs.declared.records.TraceEvent.{TraceEvent}
 use Rattle.nvme_trace.specs.declared.records.TraceEvent.TheVariants.{Pick, Set}
 use Rattle.nvme_trace.specs.Fields.{text_of}
-use Rattle.nvme_trace.specs.Readings.{◌>>=◌, ◌>>◌, item_count, only, value_at, whole, number_at, flag_at}
+use Rattle.nvme_trace.specs.Readings.{◌>>=◌, ◌>>◌, item_count, seen_by, only, field_count, value_at, whole, number_at, flag_at}
 
 -- the most bytes of a line, its newline aside
 abbrev pub longest_line : ℕ
@@ -42,14 +49,108 @@ mechanism_of d = mechanism_named (as_str d)
 abbrev pub version_of : ℕ → Result (Unit {0}) LineFault
 version_of version = if version == 1 then Ok tt else Err (Bad field.Version)
 
-unfoldable pub head_in : Data → Result Head LineFault
-head_in d = do
+-- what each head says: version 1, the mechanism and the settings
+abbrev pub basics_in : Data → Result Head LineFault
+basics_in d = do
   version ← number_at field.Version 1 d
   version_of version
   mechanism ← value_at field.Mechanism d >>= mechanism_of
   cdw11 ← number_at field.Cdw11 4294967295 d
-  only 3 d
   Ok (record { mechanism = mechanism; settings = settings_of cdw11 })
+
+-- whether it tells what its arbiter kept, as that of a trace that begins in the middle
+abbrev pub tells_state : Data → Bool
+tells_state d = is_some (get (text_of field.Last) d) || is_some (get (text_of field.Used) d)
+
+-- a head as this front writes it, which begins with the first pick
+unfoldable pub head_in : Data → Result Head LineFault
+head_in d = if tells_state d then Err Unknown else (basics_in d >>= (λ head. only 3 d >> Ok head))
+
+-- ---- what an arbiter kept
+
+-- an object of so many members, each of which has a place
+abbrev pub members_are : ℕ → Field → Data → Result (Unit {0}) LineFault
+members_are count name d = if is_some (as_object d) && (field_count d == count) then Ok tt else Err (Bad name)
+
+abbrev pub one_at : List ℕ → Data → ℕ
+one_at name d = if is_some (get name d) then 1 else 0
+
+-- the identifier that was served last, where it is told
+abbrev pub served_from : Option Data → Result (Option ℕ) LineFault
+served_from None = Ok None
+served_from (Some v) = ok_or (option_map (λ n. Some n) (whole 65535 v)) (Bad field.Last)
+
+unfoldable pub served_in : List ℕ → Data → Result (Option ℕ) LineFault
+served_in name d = served_from (get name d)
+
+-- of all queues, and of each class
+unfoldable pub last_in : Data → Result Last LineFault
+last_in d = do
+  all ← served_in (codes "all") d
+  admin ← served_in (codes "admin") d
+  urgent ← served_in (codes "urgent") d
+  high ← served_in (codes "high") d
+  medium ← served_in (codes "medium") d
+  low ← served_in (codes "low") d
+  members_are (one_at (codes "all") d + one_at (codes "admin") d + one_at (codes "urgent") d + one_at (codes "high") d + one_at (codes "medium") d + one_at (codes "low") d) field.Last d
+  Ok (record { all = all; by_class = record { admin = admin; urgent = urgent; high = high; medium = medium; low = low } })
+
+-- nothing was served where that isn't told
+abbrev pub last_from : Option Data → Result Last LineFault
+last_from None = Ok (record { all = None; by_class = same_for_all None })
+last_from (Some v) = last_in v
+
+unfoldable pub last_told : Data → Result Last LineFault
+last_told d = last_from (get (text_of field.Last) d)
+
+-- how many commands of a level were used, none where that isn't told
+abbrev pub count_from : Option Data → Result ℕ LineFault
+count_from None = Ok 0
+count_from (Some v) = ok_or (whole 65535 v) (Bad field.Used)
+
+unfoldable pub count_at : List ℕ → Data → Result ℕ LineFault
+count_at name d = count_from (get name d)
+
+unfoldable pub used_in : Data → Result Used LineFault
+used_in d = do
+  high ← count_at (codes "high") d
+  medium ← count_at (codes "medium") d
+  low ← count_at (codes "low") d
+  members_are (one_at (codes "high") d + one_at (codes "medium") d + one_at (codes "low") d) field.Used d
+  Ok (record { high = high; medium = medium; low = low })
+
+abbrev pub used_from : Option Data → Result Used LineFault
+used_from None = Ok nothing_used
+used_from (Some v) = used_in v
+
+unfoldable pub used_told : Data → Result Used LineFault
+used_told d = used_from (get (text_of field.Used) d)
+
+-- an arbiter can be in this state
+abbrev pub if_last_fits : Head → Last → Result (Unit {0}) LineFault
+if_last_fits head last = if last_fits head.mechanism last then Ok tt else Err (Bad field.Last)
+
+abbrev pub if_used_fits : Head → Last → Used → Result (Unit {0}) LineFault
+if_used_fits head last used = if used_fits head.mechanism head.settings last used then Ok tt else Err (Bad field.Used)
+
+-- how many fields a head has
+abbrev pub head_fields : Data → ℕ
+head_fields d = (if is_some (get (text_of field.Last) d) then 4 else 3) + (if is_some (get (text_of field.Used) d) then 1 else 0)
+
+-- what an arbiter keeps where a trace begins
+unfoldable pub start_in : Data → Result Kept LineFault
+start_in d = do
+  head ← basics_in d
+  last ← last_told d
+  if_last_fits head last
+  used ← used_told d
+  if_used_fits head last used
+  only (head_fields d) d
+  Ok (record { mechanism = head.mechanism; settings = head.settings; last = last; used = used })
+
+-- its mechanism and settings
+abbrev pub head_of_kept : Kept → Head
+head_of_kept kept = record { mechanism = kept.mechanism; settings = kept.settings }
 
 -- ---- an observation
 
@@ -156,6 +257,16 @@ head_of_line line = do
   d ← data_of line
   object_in d
   head_in d
+
+unfoldable pub start_of_line : List ℕ → Result Kept LineFault
+start_of_line line = do
+  d ← data_of line
+  object_in d
+  start_in d
+
+-- the head that a line is
+abbrev pub head_by : List ℕ → Result Head LineFault
+head_by line = seen_by head_of_kept (start_of_line line)
 
 unfoldable pub event_by : Basis → List ℕ → Result ArbitrationEvent LineFault
 event_by basis line = do

@@ -1,6 +1,6 @@
 -- What is told of all picks of a trace that differ from those of this front, each judged after the picks that were made before it.
 -- (Base Specification, Command Arbitration; what is told: profile)
-use Rattle.std.specs.Prelude.{◌≡◌, ◌≢◌, ◌⊎◌, ℕ, ◌+◌, ◌==◌, min, Bool, true, false, if◌then◌else◌, List, [], ◌∷◌, map, take, reverse, Option, Some, None, option_and_then}
+use Rattle.std.specs.Prelude.{◌≡◌, ◌≢◌, ◌⊎◌, ℕ, ◌+◌, ◌==◌, min, Bool, true, false, if◌then◌else◌, List, [], ◌∷◌, ◌++◌, map, take, reverse, Option, Some, None, option_and_then}
 use Rattle.nvme_arbiter.specs.Settings.{ArbitrationFields, IsLevel}
 use Rattle.nvme_arbiter.specs.Observation.{IsObservation, class_in}
 use Rattle.nvme_arbiter.specs.History.{Picked, Changed, History, settings_after, last_served, last_served_of, used_in_round}
@@ -15,7 +15,7 @@ use Rattle.nvme_trace.specs.Taken.{as_written, pick_within, IsTakenPick}
 use Rattle.nvme_trace.specs.Lines.{told_lines}
 use Rattle.nvme_trace.specs.Format.{room_of_line}
 use Rattle.nvme_trace.specs.Judged.{count_in, picks_in}
-use Rattle.nvme_trace.specs.Checks.{Tells, IsLawfulBy}
+use Rattle.nvme_trace.specs.Checks.{TellsBy, BeginsAfter, IsLawfulBy}
 use Rattle.nvme_trace.specs.declared.basis.Basis.TheVariants.{Profile}
 use Rattle.nvme_trace.specs.declared.judge.Finding.{Finding}
 use Rattle.nvme_trace.specs.declared.records.Head.{Head}
@@ -67,15 +67,15 @@ pub record Told : Type 0 where
 abbrev pub told_of : Difference → Told
 told_of d = record { line = d.line; quoted = d.quoted.items; finding = d.finding }
 
--- the picks of a history that differ, the latest first, where these lines tell the history
-abbrev pub AreDifferences : Head → History → List (ℕ × List ℕ) → List Told → Type 0
-AreDifferences head [] lines all = all ≡ []
-AreDifferences head (Changed settings ∷ past) lines all = (line : ℕ × List ℕ) × (earlier : List (ℕ × List ℕ)) × (lines ≡ line ∷ earlier) × AreDifferences head past earlier all
-AreDifferences head (Picked seen pick ∷ past) lines all =
+-- the picks that differ, the latest first, where these lines tell events after a history
+abbrev pub AreDifferences : Head → History → History → List (ℕ × List ℕ) → List Told → Type 0
+AreDifferences head prior [] lines all = all ≡ []
+AreDifferences head prior (Changed settings ∷ past) lines all = (line : ℕ × List ℕ) × (earlier : List (ℕ × List ℕ)) × (lines ≡ line ∷ earlier) × AreDifferences head prior past earlier all
+AreDifferences head prior (Picked seen pick ∷ past) lines all =
     (line : ℕ × List ℕ) × (earlier : List (ℕ × List ℕ)) × (lines ≡ line ∷ earlier)
-    × IsObservation seen × ((IsTakenPick head.mechanism head.settings past (room_of_line line.1) seen pick × AreDifferences head past earlier all)
+    × IsObservation seen × ((IsTakenPick head.mechanism head.settings (past ++ prior) (room_of_line line.1) seen pick × AreDifferences head prior past earlier all)
     ⊎ ((finding : Finding) × (others : List Told) × (all ≡ record { line = line.0; quoted = line.1; finding = finding } ∷ others)
-    × IsDifferent head past (room_of_line line.1) seen pick finding × AreDifferences head past earlier others))
+    × IsDifferent head (past ++ prior) (room_of_line line.1) seen pick finding × AreDifferences head prior past earlier others))
 
 -- ---- how many there are of each kind
 abbrev pub is_kind : Kind → Kind → Bool
@@ -110,11 +110,11 @@ pub record AreNone (counts : Counts) : Type 0 where
 abbrev pub most_told : ℕ
 most_told = 10
 
--- what is told of a history in these lines: the number of its picks, the first of them that differ, and how many do by kind
-pub record IsSurveyOf (head : Head) (past : History) (lines : List (ℕ × List ℕ)) (survey : Survey) : Type 0 where
+-- what is told of events after a history in these lines: the number of its picks, the first of them that differ, and how many do by kind
+pub record IsSurveyOf (head : Head) (prior past : History) (lines : List (ℕ × List ℕ)) (survey : Survey) : Type 0 where
   -- those that differ, the latest first
   pub all : List Told
-  pub differences : AreDifferences head past lines all
+  pub differences : AreDifferences head prior past lines all
   pub first : map told_of survey.first.items ≡ take most_told (reverse all)
   pub counts : AreCounts survey.counts all
   pub picks : survey.picks ≡ picks_in past
@@ -123,8 +123,10 @@ pub record IsSurveyOf (head : Head) (past : History) (lines : List (ℕ × List 
 pub record IsSurvey (text : List ℕ) (survey : Survey) : Type 0 where
   pub head : Head
   pub past : History
-  pub tells : Tells head past (reverse (told_lines text))
-  pub told : IsSurveyOf head past (reverse (told_lines text)) survey
+  pub prior : History
+  pub tells : TellsBy Profile head past (reverse (told_lines text))
+  pub begins : BeginsAfter text head prior
+  pub told : IsSurveyOf head prior past (reverse (told_lines text)) survey
 
 -- a survey that tells no pick is of a text that the profile allows, with as many picks
 abbrev pub LawfulSurveys : Type 0

@@ -1,5 +1,5 @@
 -- Which picks of a trace are taken for those that this front makes: `fresh` is no matter where a round begins by itself. (profile)
-use Rattle.std.specs.Prelude.{◌≡◌, ℕ, ◌==◌, ◌&&◌, Bool, false, not, List, [], ◌∷◌, Option, Some, None, IfSome, ◌≤◌}
+use Rattle.std.specs.Prelude.{◌≡◌, ℕ, ◌==◌, ◌&&◌, Bool, false, not, List, [], ◌∷◌, ◌++◌, Option, Some, None, IfSome, ◌≤◌}
 use Rattle.nvme_arbiter.specs.Settings.{ArbitrationFields}
 use Rattle.nvme_arbiter.specs.Observation.{IsObservation}
 use Rattle.nvme_arbiter.specs.History.{Picked, Changed, History, used_in_round}
@@ -45,6 +45,13 @@ IsTakenRun mechanism first (Changed settings ∷ past) rooms = IsTakenRun mechan
 IsTakenRun mechanism first (Picked seen pick ∷ past) rooms =
     IsObservation seen × IsTakenPick mechanism first past (latest_room rooms) seen pick × IsTakenRun mechanism first past (earlier_rooms rooms)
 
+-- the same of events that follow a history
+abbrev pub IsTakenAfter : Mechanism → ArbitrationFields → History → History → List (Option ℕ) → Type 0
+IsTakenAfter mechanism first prior [] rooms = Unit {0}
+IsTakenAfter mechanism first prior (Changed settings ∷ past) rooms = IsTakenAfter mechanism first prior past (earlier_rooms rooms)
+IsTakenAfter mechanism first prior (Picked seen pick ∷ past) rooms =
+    IsObservation seen × IsTakenPick mechanism first (past ++ prior) (latest_room rooms) seen pick × IsTakenAfter mechanism first prior past (earlier_rooms rooms)
+
 -- no room is told, or none of 0
 abbrev pub TellNoRoom : List (Option ℕ) → Type 0
 TellNoRoom [] = Unit {0}
@@ -67,6 +74,13 @@ TakenRunsAreLawful = (mechanism : Mechanism) (first : ArbitrationFields) (past :
 -- what is taken in some room is lawful with limits
 abbrev pub TakenRunsAreLimited : Type 0
 TakenRunsAreLimited = (mechanism : Mechanism) (first : ArbitrationFields) (past : History) (rooms : List (Option ℕ)) → TellSomeRoom rooms → IsTakenRun mechanism first past rooms → IsLimitedRun mechanism first (written mechanism past)
+
+-- the same of what is taken after a lawful history
+abbrev pub TakenAfterIsLawful : Type 0
+TakenAfterIsLawful = (mechanism : Mechanism) (first : ArbitrationFields) (prior past : History) (rooms : List (Option ℕ)) → TellNoRoom rooms → IsLawfulRun mechanism first prior → IsTakenAfter mechanism first prior past rooms → IsLawfulRun mechanism first (written mechanism (past ++ prior))
+
+abbrev pub TakenAfterIsLimited : Type 0
+TakenAfterIsLimited = (mechanism : Mechanism) (first : ArbitrationFields) (prior past : History) (rooms : List (Option ℕ)) → TellSomeRoom rooms → IsLawfulRun mechanism first prior → IsTakenAfter mechanism first prior past rooms → IsLimitedRun mechanism first (written mechanism (past ++ prior))
 
 -- what is lawful is taken where no room is told
 abbrev pub LawfulRunsAreTaken : Type 0

@@ -1,15 +1,16 @@
 // Checks a trace.
 ghost use Rattle.std.specs.Prelude.{◌≡◌, ℕ, List, Some, Ok, IfOk, IfErr, IfSome};
 ghost use Rattle.nvme_trace.specs.Lines.{TakesTold};
-ghost use Rattle.nvme_trace.specs.Format.{head_of_line};
+ghost use Rattle.nvme_trace.specs.Format.{start_of_line};
+ghost use Rattle.nvme_judge.specs.Starts.{CanBegin};
 ghost use Rattle.nvme_trace.specs.Checks.{IsAnswer, IsFaultBy};
 ghost use Rattle.nvme_trace.specs.declared.basis.Basis.TheVariants.{Profile};
 
 use crate::basis::Basis;
 use crate::fault::TraceError;
 use crate::judges::{BasisJudge, Reason};
-use crate::records::Head;
 use crate::trace::Trace;
+use nvme_arbiter::Kept;
 use std::alloc::Global;
 use std::io::Read;
 
@@ -33,7 +34,7 @@ pub enum Checked {
     Refused(Refusal),
 }
 
-/// Checks whether the picks of a trace are those that this front makes from the settings of its head: `check_by` the
+/// Checks whether the picks of a trace are those that this front makes from what its head tells: `check_by` the
 /// profile.
 pub fn check<R: Read + Drop>(alloc: Global, reader: R) -> Result<Checked, TraceError>
     ensures answer { IfOk result (λ checked. IfSome (R.remaining reader) (λ text. IsAnswer Profile text checked)) }
@@ -42,9 +43,9 @@ pub fn check<R: Read + Drop>(alloc: Global, reader: R) -> Result<Checked, TraceE
     check_by(alloc, Basis::Profile, reader)
 }
 
-/// Checks whether the picks of a trace are allowed, from the settings of its head on. If they aren't, the answer is the
-/// first pick that isn't. The error is of the first line with a fault, if each pick before it is allowed. The trace is
-/// read as a stream.
+/// Checks whether the picks of a trace are allowed, from what its head tells on: its settings, and what the arbiter kept
+/// where the trace begins in the middle. If they aren't, the answer is the first pick that isn't. The error is of the
+/// first line with a fault, if each pick before it is allowed. The trace is read as a stream.
 #[tactic(auto, using(crate::proofs::CheckLemmas::head_fault))]
 pub fn check_by<R: Read + Drop>(
     alloc: Global,
@@ -55,8 +56,8 @@ pub fn check_by<R: Read + Drop>(
     ensures fault { IfErr result (λ error. IfSome (R.remaining reader) (λ text. IsFaultBy basis text error)) }
 {
     let mut trace = Trace::new(alloc, reader);
-    match trace.head(alloc) {
-        Ok(head) => judged(alloc, basis, head, &mut trace),
+    match trace.start(alloc) {
+        Ok(start) => judged(alloc, basis, start, &mut trace),
         Err(error) => Err(error),
     }
 }
@@ -65,13 +66,14 @@ pub fn check_by<R: Read + Drop>(
 fn judged<R: Read>(
     alloc: Global,
     basis: Basis,
-    head: Head,
+    start: Kept,
     trace: &mut Trace<R>,
 ) -> Result<Checked, TraceError>
-    ensures answer { IfOk result (λ checked. (text : List ℕ) → TakesTold (λ line. head_of_line line ≡ Ok head) 0 (Some text) trace.old.number trace.old.rest → IsAnswer basis text checked) }
-    ensures fault { IfErr result (λ error. (text : List ℕ) → TakesTold (λ line. head_of_line line ≡ Ok head) 0 (Some text) trace.old.number trace.old.rest → IsFaultBy basis text error) }
+    requires { CanBegin start }
+    ensures answer { IfOk result (λ checked. (text : List ℕ) → TakesTold (λ line. start_of_line line ≡ Ok start) 0 (Some text) trace.old.number trace.old.rest → IsAnswer basis text checked) }
+    ensures fault { IfErr result (λ error. (text : List ℕ) → TakesTold (λ line. start_of_line line ≡ Ok start) 0 (Some text) trace.old.number trace.old.rest → IsFaultBy basis text error) }
 {
-    let mut judge = BasisJudge::new(basis, head);
+    let mut judge = BasisJudge::new(basis, start);
     for _ in 1..u64::MAX {
         let Some(event) = trace.event_by(alloc, basis)? else {
             return Ok(Checked::Lawful {

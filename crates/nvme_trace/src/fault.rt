@@ -14,6 +14,10 @@ pub enum Field {
     Mechanism,
     /// `cdw11` of the head: Command Dword 11 of the Arbitration feature.
     Cdw11,
+    /// `last` of the head: the identifiers that were served last, by class, or of all under round robin.
+    Last,
+    /// `used` of the head: how many commands of each level were picked in the round.
+    Used,
     /// `set` of a change: its Command Dword 11.
     Set,
     /// `pick` of a pick: the identifier of the submission queue.
@@ -39,6 +43,8 @@ impl Field {
             Field::Version => "version",
             Field::Mechanism => "mechanism",
             Field::Cdw11 => "cdw11",
+            Field::Last => "last",
+            Field::Used => "used",
             Field::Set => "set",
             Field::Pick => "pick",
             Field::N => "n",

@@ -1,7 +1,7 @@
 // Judges a history, event by event.
 ghost use Rattle.std.specs.Prelude.{◌≡◌};
 
-use crate::records::{Head, TraceEvent};
+use crate::records::TraceEvent;
 use crate::taken::{as_written, pick_within};
 use nvme_arbiter::{Arbiter, Class, Kept, Pick, Seen, class_in};
 use nvme_judge::count_in;
@@ -40,7 +40,7 @@ impl Model for Judge {
 }
 
 impl Judge {
-    ghost use Rattle.std.specs.Prelude.{◌+◌, ◌-◌, ◌^◌, ◌<◌, ℕ, [], ◌∷◌, Option, MatchOption, IfSome, IfNone};
+    ghost use Rattle.std.specs.Prelude.{◌+◌, ◌-◌, ◌^◌, ◌<◌, ℕ, ◌∷◌, Option, MatchOption, IfSome, IfNone};
     ghost use Rattle.nvme_arbiter.specs.Settings.{ArbitrationFields};
     ghost use Rattle.nvme_arbiter.specs.History.{History, Picked};
     ghost use Rattle.nvme_arbiter.specs.Observation.{IsObservation};
@@ -50,13 +50,13 @@ impl Judge {
     ghost use Rattle.nvme_trace.specs.Judged.{IsObserved, IsTakenEvent, IsFinding, picks_of};
     ghost use Rattle.nvme_trace.specs.Taken.{IsTakenPick};
 
-    /// A judge of the events that follow a head.
-    pub fn new(head: Head) -> Judge
-        ensures stands { StandsAt head.mechanism head.settings [] result.kept }
+    /// A judge of the events that follow where an arbiter keeps this.
+    pub fn new(start: Kept) -> Judge
+        ensures kept { result.kept ≡ start }
         ensures picks { result.picks ≡ 0 }
     {
         Judge {
-            arbiter: Arbiter::new(head.mechanism, head.settings),
+            arbiter: Arbiter::from_parts(start),
             picks: 0,
         }
     }

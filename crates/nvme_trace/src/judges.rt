@@ -1,19 +1,20 @@
 // Judges a history by the profile or by the specification.
-ghost use Rattle.std.specs.Prelude.{◌≡◌, ◌+◌, ◌-◌, ◌^◌, ◌<◌, [], ◌∷◌, MatchOption, IfSome, IfNone};
+ghost use Rattle.std.specs.Prelude.{◌≡◌, ◌+◌, ◌-◌, ◌^◌, ◌<◌, [], ◌∷◌, ◌++◌, MatchOption, IfSome, IfNone};
 ghost use Rattle.nvme_arbiter.specs.History.{History};
-ghost use Rattle.nvme_trace.specs.Format.{event_view, room_view};
+ghost use Rattle.nvme_trace.specs.Format.{event_view, room_view, head_of_kept};
 ghost use Rattle.nvme_trace.specs.Judged.{IsObserved, picks_of};
 ghost use Rattle.nvme_trace.specs.Bases.{IsAllowedBy, IsBreach, IsReasonBy, StandsBy, picks_by};
-ghost use Rattle.nvme_judge.specs.Standing.{JudgeStandsAt};
+ghost use Rattle.nvme_judge.specs.Standing.{JudgeStandsAt, IsQuiet};
+ghost use Rattle.nvme_judge.specs.Starts.{IsPrior};
 ghost use Rattle.nvme_trace.specs.declared.basis.Basis.{Basis};
 ghost use Rattle.nvme_trace.specs.declared.basis.Basis.TheVariants as basis;
 ghost use Rattle.nvme_trace.specs.declared.records.Head.{Head};
 
 use crate::basis::Basis;
 use crate::judge::{Finding, Judge};
-use crate::records::{Head, TraceEvent};
+use crate::records::TraceEvent;
 use nvme_arbiter::specified::Rule;
-use nvme_arbiter::{Mechanism, Pick, Settings};
+use nvme_arbiter::{Kept, Mechanism, Pick, Settings};
 use nvme_judge::{RuleJudge, count_in};
 
 /// A pick that the specification doesn't allow.
@@ -53,8 +54,8 @@ pub enum BasisJudge {
 fn judge_by_rules(judge: &mut RuleJudge, event: &TraceEvent) -> Option<Breach>
     requires observed { IsObserved (event_view event.now) }
     requires few { judge.old.picks < 2 ^ 64 - 1 }
-    ensures allowed { (head : Head) (past : History) → JudgeStandsAt head.mechanism head.settings past judge.old → MatchOption result (IsAllowedBy basis.Specification head past (room_view event.now) (event_view event.now)) (IsBreach head past (event_view event.now)) }
-    ensures stands { (head : Head) (past : History) → JudgeStandsAt head.mechanism head.settings past judge.old → IfNone result (JudgeStandsAt head.mechanism head.settings (event_view event.now ∷ past) judge.new) }
+    ensures allowed { (head : Head) (prior past : History) → JudgeStandsAt head.mechanism head.settings prior past judge.old → MatchOption result (IsAllowedBy basis.Specification head (past ++ prior) (room_view event.now) (event_view event.now)) (IsBreach head (past ++ prior) (event_view event.now)) }
+    ensures stands { (head : Head) (prior past : History) → JudgeStandsAt head.mechanism head.settings prior past judge.old → IfNone result (JudgeStandsAt head.mechanism head.settings prior (event_view event.now ∷ past) judge.new) }
     ensures picks { IfNone result (judge.new.picks ≡ judge.old.picks + picks_of (event_view event.now)) }
 {
     match event {
@@ -77,16 +78,19 @@ fn judge_by_rules(judge: &mut RuleJudge, event: &TraceEvent) -> Option<Breach>
 }
 
 impl BasisJudge {
-    /// A judge of the events that follow a head.
-    pub fn new(basis: Basis, head: Head) -> BasisJudge
-        ensures stands { StandsBy basis head [] result }
+    /// A judge of the events that follow where an arbiter keeps this.
+    #[tactic(auto, using(crate::proofs::CheckLemmas::settings_stay))]
+    pub fn new(basis: Basis, start: Kept) -> BasisJudge
+        ensures stands { (prior : History) → IsPrior start prior → IsQuiet prior → StandsBy basis (head_of_kept start) prior [] result }
         ensures picks { picks_by result ≡ 0 }
     {
         match basis {
-            Basis::Profile => BasisJudge::Profile(Judge::new(head)),
-            Basis::Specification => {
-                BasisJudge::Specification(RuleJudge::new(head.mechanism, head.settings))
-            }
+            Basis::Profile => BasisJudge::Profile(Judge::new(start)),
+            Basis::Specification => BasisJudge::Specification(RuleJudge::new(
+                start.mechanism,
+                start.settings,
+                start.used,
+            )),
         }
     }
 
@@ -104,8 +108,8 @@ impl BasisJudge {
     pub fn judge(&mut self, event: &TraceEvent) -> Option<Reason>
         requires observed { IsObserved (event_view event.now) }
         requires few { picks_by self.old < 2 ^ 64 - 1 }
-        ensures allowed { (basis : Basis) (head : Head) (past : History) → StandsBy basis head past self.old → MatchOption result (IsAllowedBy basis head past (room_view event.now) (event_view event.now)) (IsReasonBy basis head past (room_view event.now) (event_view event.now)) }
-        ensures stands { (basis : Basis) (head : Head) (past : History) → StandsBy basis head past self.old → IfNone result (StandsBy basis head (event_view event.now ∷ past) self.new) }
+        ensures allowed { (basis : Basis) (head : Head) (prior past : History) → StandsBy basis head prior past self.old → MatchOption result (IsAllowedBy basis head (past ++ prior) (room_view event.now) (event_view event.now)) (IsReasonBy basis head (past ++ prior) (room_view event.now) (event_view event.now)) }
+        ensures stands { (basis : Basis) (head : Head) (prior past : History) → StandsBy basis head prior past self.old → IfNone result (StandsBy basis head prior (event_view event.now ∷ past) self.new) }
         ensures picks { IfNone result (picks_by self.new ≡ picks_by self.old + picks_of (event_view event.now)) }
     {
         match self {

@@ -1,14 +1,16 @@
 // Laws of traces.
-ghost use Rattle.nvme_trace.specs.Checks.{LawfulTextsAreAllowed, LawfulTextsPass, OneAnswer, TextsAreReadAsWritten};
+ghost use Rattle.nvme_trace.specs.Checks.{AllowedAfterEach, LawfulTextsAreAllowed, LawfulTextsPass, NothingIsBefore, OneAnswer, TextsAreReadAlike, TextsAreReadAsWritten};
 ghost use Rattle.nvme_trace.specs.Surveys.{LawfulSurveys};
-ghost use Rattle.nvme_trace.specs.Taken.{LawfulRunsAreTaken, TakenRunsAreLawful, TakenRunsAreLimited};
+ghost use Rattle.nvme_trace.specs.Taken.{LawfulRunsAreTaken, TakenAfterIsLawful, TakenAfterIsLimited, TakenRunsAreLawful, TakenRunsAreLimited};
 ghost use Rattle.nvme_trace.specs.Within.{RunsWithinAreTaken};
 
 /// Picks that are taken for those of this front are lawful, with limits where a room is told, but for `fresh` where a round
-/// begins by itself.
+/// begins by itself. So they are after a lawful history.
 pub fn taken_runs_are_lawful()
     ensures lawful { TakenRunsAreLawful }
     ensures limited { TakenRunsAreLimited }
+    ensures lawful_after { TakenAfterIsLawful }
+    ensures limited_after { TakenAfterIsLimited }
 {}
 
 /// A lawful run is taken where no room is told.
@@ -37,8 +39,17 @@ pub fn texts_have_one_answer()
 {}
 
 /// A text that is written as this front writes it is read so where `fresh` may be missing too, as by `stats` and `chart`.
+/// So is each text that the profile reads.
 pub fn texts_are_read_as_written()
-    ensures { TextsAreReadAsWritten }
+    ensures written { TextsAreReadAsWritten }
+    ensures alike { TextsAreReadAlike }
+{}
+
+/// A text that is lawful after one history that leaves the state of its head is lawful after each that leaves no queue
+/// waiting. Where the head tells no state, it is lawful from the beginning on.
+pub fn texts_follow_each_history()
+    ensures each { AllowedAfterEach }
+    ensures first { NothingIsBefore }
 {}
 
 /// A survey that tells no pick is of a lawful text.

@@ -14,6 +14,7 @@ mod names;
 mod notes;
 mod raw;
 mod records;
+mod state;
 mod survey;
 mod taken;
 mod trace;
@@ -27,7 +28,7 @@ pub use judges::{Breach, Reason};
 pub use laws::{
     lawful_runs_are_taken, lawful_texts_are_allowed, lawful_texts_pass,
     runs_within_rooms_are_taken, surveys_of_none_are_lawful, taken_runs_are_lawful,
-    texts_are_read_as_written, texts_have_one_answer,
+    texts_are_read_as_written, texts_follow_each_history, texts_have_one_answer,
 };
 pub use names::{class_name, mechanism_name};
 pub use nvme_arbiter::specified::Rule;

@@ -13,6 +13,8 @@ const SHOWN: usize = 40;
 // The fields of a head and of a pick.
 const HEAD: &str = "version, mechanism and cdw11";
 
+const HEAD_OR_STATE: &str = "version, mechanism, cdw11 and, from the middle, last and used";
+
 const PICK: &str = "pick, n, fresh and seen";
 
 const PICK_OR_LIMIT: &str = "pick, n, fresh, seen and, with a limit, room";
@@ -27,6 +29,12 @@ fn wanted(field: Field) -> &'static str {
     match field {
         Field::Version => "1",
         Field::Mechanism => "\"round-robin\" or \"weighted\"",
+        Field::Last => {
+            "an object with identifiers that can be served last: all (round robin), or admin, urgent, high, medium, low (weighted)"
+        }
+        Field::Used => {
+            "an object with high, medium, low, each at most its weight, and 0 where no queue of the level was served (weighted)"
+        }
         Field::Cdw11 | Field::Set => "a whole number from 0 to 4294967295",
         Field::Pick | Field::N => "a whole number from 0 to 65535",
         Field::Room => "a whole number from 1 to 65535; without a limit leave it out",
@@ -341,8 +349,12 @@ pub(crate) fn head_note(
             alloc,
             &Found::new(&value, text),
             fault,
-            &["version", "mechanism", "cdw11"],
-            HEAD,
+            &["version", "mechanism", "cdw11", "last", "used"],
+            if fault == LineFault::Unknown {
+                HEAD_OR_STATE
+            } else {
+                HEAD
+            },
         ),
         Err(error) => first_text_note(alloc, text, &error),
     }

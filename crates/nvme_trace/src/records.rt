@@ -2,15 +2,17 @@
 ghost use Rattle.std.specs.Prelude.{◌≡◌, ◌≤◌, length, None, Ok, option_map, ok_or, IfOk, IfSome};
 ghost use Rattle.serde_json.specs.View.{view, members_view};
 ghost use Rattle.nvme_trace.specs.Readings.{Gives, seen_by, only, value_at, whole, number_at, flag_at, is_extra, member_count, field_count};
-ghost use Rattle.nvme_trace.specs.Format.{longest_line, mechanism_of, head_in, class_named, number_of_part, class_of_part, part_count, triple_of, queue_of, queues_of, observation_of, set_in, fresh_in, but_zero, room_in, pick_fields, pick_in, event_in, room_told, room_of_line, data_of, object_in, head_of_line, event_by, event_view, room_view};
+ghost use Rattle.nvme_trace.specs.Format.{longest_line, mechanism_of, basics_in, class_named, number_of_part, class_of_part, part_count, triple_of, queue_of, queues_of, observation_of, set_in, fresh_in, but_zero, room_in, pick_fields, pick_in, event_in, room_told, room_of_line, data_of, object_in, start_of_line, event_by, event_view, room_view};
 ghost use Rattle.serde_json.specs.Read.{read};
 ghost use Rattle.nvme_arbiter.specs.Observation.{IsObservation};
 ghost use Rattle.nvme_trace.specs.Judged.{IsObserved};
+ghost use Rattle.nvme_judge.specs.Starts.{CanBegin};
 
 use crate::basis::Basis;
 use crate::fault::{Field, LineFault};
+use crate::state::start_in;
 use arrayvec::ArrayVec;
-use nvme_arbiter::{Class, Mechanism, Pick, QUEUE_LIMIT, Seen, Settings, is_observation};
+use nvme_arbiter::{Class, Kept, Mechanism, Pick, QUEUE_LIMIT, Seen, Settings, is_observation};
 use serde_json::{Map, Value};
 use std::alloc::Global;
 
@@ -21,6 +23,21 @@ pub struct Head {
     pub mechanism: Mechanism,
     /// The settings before the first event.
     pub settings: Settings,
+}
+
+impl Head {
+    ghost use Rattle.std.specs.Prelude.{◌≡◌};
+    ghost use Rattle.nvme_trace.specs.Format.{head_of_kept};
+
+    /// The head of a trace that begins where an arbiter keeps this.
+    pub fn of(start: &Kept) -> Head
+        ensures { result ≡ head_of_kept start.now }
+    {
+        Head {
+            mechanism: start.mechanism,
+            settings: start.settings,
+        }
+    }
 }
 
 /// A line of a trace after its head.
@@ -58,8 +75,8 @@ fn member_count(members: &Map<String, Value>) -> usize
     count
 }
 
-// The number of fields of a value that aren't ignored.
-fn field_count(value: &Value) -> usize
+/// The number of fields of a value that aren't ignored.
+pub(crate) fn field_count(value: &Value) -> usize
     ensures { result ≡ field_count (view value.now) }
 {
     match value.as_object() {
@@ -68,8 +85,8 @@ fn field_count(value: &Value) -> usize
     }
 }
 
-// Refuses a line that doesn't have this number of fields.
-fn only(count: usize, line: &Value) -> Result<(), LineFault>
+/// Refuses a line that doesn't have this number of fields.
+pub(crate) fn only(count: usize, line: &Value) -> Result<(), LineFault>
     ensures { result ≡ only count (view line.now) }
 {
     if field_count(line) == count {
@@ -89,8 +106,8 @@ fn value_at(line: &Value, field: Field) -> Result<&Value, LineFault>
     }
 }
 
-// A whole number, at most `most`.
-fn whole(value: &Value, most: u64) -> Option<u64>
+/// A whole number, at most `most`.
+pub(crate) fn whole(value: &Value, most: u64) -> Option<u64>
     ensures value { result ≡ whole most (view value.now) }
 {
     match value.as_u64() {
@@ -133,17 +150,15 @@ fn mechanism_of(value: &Value) -> Result<Mechanism, LineFault>
     }
 }
 
-// What a head says.
-#[tactic(auto, unfolding(crate::specs::Format::head_in))]
-fn head_in(line: &Value) -> Result<Head, LineFault>
-    ensures { result ≡ head_in (view line.now) }
+/// What each head says.
+pub(crate) fn basics_in(line: &Value) -> Result<Head, LineFault>
+    ensures { result ≡ basics_in (view line.now) }
 {
     if number_at(line, Field::Version, 1)? != 1 {
         return Err(LineFault::Bad(Field::Version));
     }
     let mechanism = mechanism_of(value_at(line, Field::Mechanism)?)?;
     let cdw11 = number_at(line, Field::Cdw11, 0xffff_ffff)?;
-    only(3, line)?;
     Ok(Head {
         mechanism,
         settings: Settings::from_cdw11(cdw11 as u32),
@@ -377,15 +392,16 @@ fn object_in(line: &Value) -> Result<(), LineFault>
     }
 }
 
-/// What the first line says.
-#[tactic(auto, unfolding(crate::specs::Format::head_of_line))]
-pub(crate) fn head_of_line(alloc: Global, line: &[u8]) -> Result<Head, LineFault>
+/// What the first line says that the arbiter kept.
+#[tactic(auto, unfolding(crate::specs::Format::start_of_line))]
+pub(crate) fn start_of_line(alloc: Global, line: &[u8]) -> Result<Kept, LineFault>
     requires { length line.now ≤ longest_line }
-    ensures { Gives result (head_of_line line.now) }
+    ensures value { Gives result (start_of_line line.now) }
+    ensures fits { IfOk result CanBegin }
 {
     let value = data_of(alloc, line)?;
     object_in(&value)?;
-    head_in(&value)
+    start_in(&value)
 }
 
 /// What a later line says.

@@ -1,11 +1,12 @@
 // Tells all picks of a trace that differ from those of this front.
-ghost use Rattle.std.specs.Prelude.{◌≡◌, ◌↔◌, IsTrue, ◌+◌, ◌-◌, ◌^◌, ◌<◌, ◌≤◌, ◌∷◌, [], ℕ, List, Some, Ok, IfOk, IfErr, IfSome, OnOk, if◌then◌else◌, map, take, reverse};
+ghost use Rattle.std.specs.Prelude.{◌≡◌, ◌↔◌, IsTrue, ◌+◌, ◌-◌, ◌^◌, ◌<◌, ◌≤◌, ◌∷◌, ◌++◌, [], ℕ, List, Some, Ok, IfOk, IfErr, IfSome, OnOk, if◌then◌else◌, map, take, reverse};
 ghost use Rattle.nvme_arbiter.specs.History.{History, Picked, Changed};
 ghost use Rattle.nvme_trace.specs.Taken.{IsTakenPick};
 ghost use Rattle.nvme_arbiter.specs.Observation.{IsObservation};
 ghost use Rattle.nvme_trace.specs.Lines.{TakesTold};
-ghost use Rattle.nvme_trace.specs.Format.{head_of_line, event_view, room_view, room_of_line};
+ghost use Rattle.nvme_trace.specs.Format.{start_of_line, head_of_kept, event_view, room_view, room_of_line};
 ghost use Rattle.nvme_trace.specs.Judged.{IsObserved, picks_of};
+ghost use Rattle.nvme_judge.specs.Starts.{CanBegin, IsPrior};
 ghost use Rattle.nvme_trace.specs.Shown.{IsReadFault};
 ghost use Rattle.nvme_trace.specs.Surveys.{IsSurvey, IsDifferent, AreNone, Told, kind_of, is_kind, most_told, told_of};
 ghost use Rattle.nvme_trace.specs.inside.Steps.{AreFew, SurveysAt};
@@ -17,7 +18,7 @@ use crate::basis::Basis;
 use crate::fault::TraceError;
 use crate::follower::{difference, follow};
 use crate::judge::Finding;
-use crate::records::{Head, TraceEvent};
+use crate::records::TraceEvent;
 use crate::trace::Trace;
 use nvme_arbiter::{Kept, Pick, Seen, Settings};
 use std::alloc::Global;
@@ -154,13 +155,13 @@ pub(crate) struct Surveyor {
 impl Surveyor {
     // Nothing was read yet.
     #[tactic(auto, using(crate::proofs::SurveyLemmas::surveys_new))]
-    fn new(alloc: Global, head: Head) -> Surveyor
-        ensures at { (lines : List (ℕ × List ℕ)) → SurveysAt head [] lines result }
+    fn new(alloc: Global, start: Kept) -> Surveyor
+        ensures at { (prior : History) (lines : List (ℕ × List ℕ)) → IsPrior start prior → SurveysAt (head_of_kept start) prior [] lines result }
         ensures picks { result.survey.picks ≡ 0 }
         ensures few { AreFew result.survey.counts result.survey.picks }
     {
         Surveyor {
-            kept: Kept::new(head.mechanism, head.settings),
+            kept: start,
             survey: Survey {
                 picks: 0,
                 first: Vec::new(alloc),
@@ -172,7 +173,7 @@ impl Surveyor {
     // Takes new settings.
     #[tactic(auto, using(crate::proofs::SurveyLemmas::surveys_set))]
     fn set(&mut self, settings: Settings)
-        ensures at { (head : Head) (past : History) (line : ℕ × List ℕ) (lines : List (ℕ × List ℕ)) → SurveysAt head past lines self.old → SurveysAt head (Changed settings ∷ past) (line ∷ lines) self.new }
+        ensures at { (head : Head) (prior past : History) (line : ℕ × List ℕ) (lines : List (ℕ × List ℕ)) → SurveysAt head prior past lines self.old → SurveysAt head prior (Changed settings ∷ past) (line ∷ lines) self.new }
         ensures survey { self.new.survey ≡ self.old.survey }
     {
         self.kept.set(settings);
@@ -181,7 +182,7 @@ impl Surveyor {
     // Takes a pick that is the lawful one.
     fn pass(&mut self, seen: &[Seen], picked: Pick)
         requires few { self.old.survey.picks < 2 ^ 64 - 1 }
-        ensures at { (head : Head) (past : History) (line : ℕ × List ℕ) (lines : List (ℕ × List ℕ)) → SurveysAt head past lines self.old → IsObservation seen.now → IsTakenPick head.mechanism head.settings past (room_of_line line.1) seen.now picked → SurveysAt head (Picked seen.now picked ∷ past) (line ∷ lines) self.new }
+        ensures at { (head : Head) (prior past : History) (line : ℕ × List ℕ) (lines : List (ℕ × List ℕ)) → SurveysAt head prior past lines self.old → IsObservation seen.now → IsTakenPick head.mechanism head.settings (past ++ prior) (room_of_line line.1) seen.now picked → SurveysAt head prior (Picked seen.now picked ∷ past) (line ∷ lines) self.new }
         ensures picks { self.new.survey.picks ≡ self.old.survey.picks + 1 }
         ensures counts { self.new.survey.counts ≡ self.old.survey.counts }
     {
@@ -198,7 +199,7 @@ impl Surveyor {
     ) -> Result<(), TraceError>
         requires few { AreFew self.old.survey.counts self.old.survey.picks }
         requires room { self.old.survey.picks < 2 ^ 64 - 1 }
-        ensures at { OnOk result ((head : Head) (past : History) (lines : List (ℕ × List ℕ)) → SurveysAt head past lines self.old → IsObservation seen.now → IsDifferent head past (room_of_line difference.quoted.items) seen.now picked difference.finding → SurveysAt head (Picked seen.now picked ∷ past) ((difference.line, difference.quoted.items) ∷ lines) self.new) }
+        ensures at { OnOk result ((head : Head) (prior past : History) (lines : List (ℕ × List ℕ)) → SurveysAt head prior past lines self.old → IsObservation seen.now → IsDifferent head (past ++ prior) (room_of_line difference.quoted.items) seen.now picked difference.finding → SurveysAt head prior (Picked seen.now picked ∷ past) ((difference.line, difference.quoted.items) ∷ lines) self.new) }
         ensures picks { self.new.survey.picks ≡ self.old.survey.picks + 1 }
         ensures counts { AreFew self.new.survey.counts self.new.survey.picks }
         ensures fault { IfErr result (λ e. e ≡ fault.NoMemory) }
@@ -222,7 +223,7 @@ impl Surveyor {
         requires told { room_view event.now ≡ room_of_line trace.old.latest }
         requires few { AreFew self.old.survey.counts self.old.survey.picks }
         requires room { self.old.survey.picks < 2 ^ 64 - 1 }
-        ensures at { OnOk result ((head : Head) (past : History) (lines : List (ℕ × List ℕ)) → SurveysAt head past lines self.old → SurveysAt head (event_view event.now ∷ past) ((trace.old.number, trace.old.latest) ∷ lines) self.new) }
+        ensures at { OnOk result ((head : Head) (prior past : History) (lines : List (ℕ × List ℕ)) → SurveysAt head prior past lines self.old → SurveysAt head prior (event_view event.now ∷ past) ((trace.old.number, trace.old.latest) ∷ lines) self.new) }
         ensures picks { self.new.survey.picks ≡ self.old.survey.picks + picks_of (event_view event.now) }
         ensures counts { AreFew self.new.survey.counts self.new.survey.picks }
         ensures rest { trace.new.rest ≡ trace.old.rest }
@@ -264,18 +265,19 @@ pub fn check_all<R: Read + Drop>(alloc: Global, reader: R) -> Result<Survey, Tra
     ensures fault { IfErr result (λ error. IfSome (R.remaining reader) (λ text. IsReadFault text error)) }
 {
     let mut trace = Trace::new(alloc, reader);
-    match trace.head(alloc) {
-        Ok(head) => surveyed(alloc, head, &mut trace),
+    match trace.start(alloc) {
+        Ok(start) => surveyed(alloc, start, &mut trace),
         Err(error) => Err(error),
     }
 }
 
 // Goes through the events after a head.
-fn surveyed<R: Read>(alloc: Global, head: Head, trace: &mut Trace<R>) -> Result<Survey, TraceError>
-    ensures survey { IfOk result (λ survey. (text : List ℕ) → TakesTold (λ line. head_of_line line ≡ Ok head) 0 (Some text) trace.old.number trace.old.rest → IsSurvey text survey) }
-    ensures fault { IfErr result (λ error. (text : List ℕ) → TakesTold (λ line. head_of_line line ≡ Ok head) 0 (Some text) trace.old.number trace.old.rest → IsReadFault text error) }
+fn surveyed<R: Read>(alloc: Global, start: Kept, trace: &mut Trace<R>) -> Result<Survey, TraceError>
+    requires { CanBegin start }
+    ensures survey { IfOk result (λ survey. (text : List ℕ) → TakesTold (λ line. start_of_line line ≡ Ok start) 0 (Some text) trace.old.number trace.old.rest → IsSurvey text survey) }
+    ensures fault { IfErr result (λ error. (text : List ℕ) → TakesTold (λ line. start_of_line line ≡ Ok start) 0 (Some text) trace.old.number trace.old.rest → IsReadFault text error) }
 {
-    let mut surveyor = Surveyor::new(alloc, head);
+    let mut surveyor = Surveyor::new(alloc, start);
     for _ in 1..u64::MAX {
         let Some(event) = trace.event_by(alloc, Basis::Profile)? else {
             return Ok(surveyor.survey);

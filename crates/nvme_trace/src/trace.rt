@@ -2,10 +2,11 @@
 ghost use Rattle.std.specs.Prelude.{◌≡◌, ◌≤◌, ◌<◌, ◌+◌, ◌-◌, ◌^◌, ℕ, List, Option, Ok, length, IfOk, IfErr, IfSome, OnOk, MatchOption};
 ghost use Rattle.std.specs.List.{list_all};
 ghost use Rattle.nvme_trace.specs.Lines.{unread, is_blank, is_space, MatchLine, MatchTold, MeetsError, TakesTold, HasNoTold};
-ghost use Rattle.nvme_trace.specs.Format.{longest_line, head_of_line, event_by, event_view, room_view, room_of_line};
+ghost use Rattle.nvme_trace.specs.Format.{longest_line, start_of_line, head_by, event_by, event_view, room_view, room_of_line};
 ghost use Rattle.nvme_trace.specs.Judged.{IsObserved};
 ghost use Rattle.nvme_trace.specs.Faults.{IsLineFault, IsHeadFault, IsEventFaultBy};
 ghost use Rattle.nvme_trace.specs.Readings.{Fails};
+ghost use Rattle.nvme_judge.specs.Starts.{CanBegin};
 ghost use Rattle.nvme_trace.specs.declared.basis.Basis.{Basis};
 ghost use Rattle.nvme_trace.specs.declared.fault.TraceError.TheVariants as fault;
 ghost use Rattle.nvme_trace.specs.declared.lines.NextError.TheVariants as next;
@@ -14,7 +15,8 @@ use crate::basis::Basis;
 use crate::fault::{LineFault, TraceError};
 use crate::lines::{Lines, NextError};
 use crate::notes::{event_note, head_note};
-use crate::records::{Head, TraceEvent, event_of_line, head_of_line};
+use crate::records::{Head, TraceEvent, event_of_line, start_of_line};
+use nvme_arbiter::Kept;
 use std::alloc::Global;
 use std::io::Read;
 use std::marker::Model;
@@ -137,7 +139,7 @@ fn told_after<R: Read>(
 // The fault of a line that is no head, with its note.
 #[tactic(auto, using(crate::proofs::TraceLemmas::head_fails))]
 fn head_fault(alloc: Global, number: u64, line: &[u8], fault: LineFault) -> TraceError
-    ensures { (rest : Option (List ℕ)) (m : ℕ) (new : Option (List ℕ)) → TakesTold (λ l. l ≡ line.now) m rest number new → Fails fault (head_of_line line.now) → IsHeadFault result m rest }
+    ensures { (rest : Option (List ℕ)) (m : ℕ) (new : Option (List ℕ)) → TakesTold (λ l. l ≡ line.now) m rest number new → Fails fault (start_of_line line.now) → IsHeadFault result m rest }
 {
     match head_note(alloc, line, fault) {
         Ok(note) => fault_at(number, fault, note),
@@ -196,18 +198,32 @@ impl<R: Read> Trace<R> {
         mem::replace(&mut self.line, Vec::new(alloc))
     }
 
-    /// Reads the head, the first line that isn't blank.
-    pub fn head(&mut self, alloc: Global) -> Result<Head, TraceError>
+    /// Reads the head, the first line that isn't blank: what the arbiter kept then.
+    pub fn start(&mut self, alloc: Global) -> Result<Kept, TraceError>
         requires { self.old.number ≡ 0 }
-        ensures ok { IfOk result (λ head. TakesTold (λ line. head_of_line line ≡ Ok head) 0 self.old.rest self.new.number self.new.rest) }
+        ensures ok { IfOk result (λ start. TakesTold (λ line. start_of_line line ≡ Ok start) 0 self.old.rest self.new.number self.new.rest) }
+        ensures fits { IfOk result CanBegin }
         ensures err { IfErr result (λ e. IsHeadFault e 0 self.old.rest) }
     {
         if !told_after(alloc, &mut self.number, &mut self.lines, &mut self.line)? {
             return Err(no_head(alloc));
         }
-        match head_of_line(alloc, &self.line) {
-            Ok(head) => Ok(head),
+        match start_of_line(alloc, &self.line) {
+            Ok(start) => Ok(start),
             Err(fault) => Err(head_fault(alloc, self.number, &self.line, fault)),
+        }
+    }
+
+    /// Reads the head, without what the arbiter kept.
+    #[tactic(auto, using(crate::proofs::TraceLemmas::takes_head))]
+    pub fn head(&mut self, alloc: Global) -> Result<Head, TraceError>
+        requires { self.old.number ≡ 0 }
+        ensures ok { IfOk result (λ head. TakesTold (λ line. head_by line ≡ Ok head) 0 self.old.rest self.new.number self.new.rest) }
+        ensures err { IfErr result (λ e. IsHeadFault e 0 self.old.rest) }
+    {
+        match self.start(alloc) {
+            Ok(start) => Ok(Head::of(&start)),
+            Err(error) => Err(error),
         }
     }
 

@@ -11,3 +11,5 @@ mod faults;
 mod runs;
 #[cfg(test)]
 mod shows;
+#[cfg(test)]
+mod starts;

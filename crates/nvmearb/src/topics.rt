@@ -100,6 +100,9 @@ Head:
 version    1                                                                     "version":1
 mechanism  "round-robin", "weighted"                                             "mechanism":"weighted"
 cdw11      0 to 4294967295: the settings, as nvmearb settings tells them         "cdw11":117637379
+last       where the trace begins in the middle: the queues served last, of      "last":{"high":1}
+           each class; under round robin "all", the one of all
+used       and how many commands of each level were picked in the round          "used":{"high":2}
 
 A pick:
 pick       0 to 65535: the queue                                                 "pick":1

@@ -1,11 +1,11 @@
 -- One pick more, as it is kept (profile).
-use Rattle.std.specs.Prelude.{◌≡◌, ℕ, ◌≤◌, ◌&&◌, Bool, true, false, if◌then◌else◌, List, Option, Some, None}
+use Rattle.std.specs.Prelude.{ℕ, ◌≤◌, ◌&&◌, Bool, true, false, if◌then◌else◌, List, Option, Some, None}
 use Rattle.std.specs.List.{list_any}
 use Rattle.nvme_arbiter.specs.Settings.{ArbitrationFields, weight_of, IsLevel}
 use Rattle.nvme_arbiter.specs.Observation.{class_in, is_wanted}
-use Rattle.nvme_arbiter.specs.History.{History, is_in_class}
+use Rattle.nvme_arbiter.specs.History.{is_in_class}
 use Rattle.nvme_arbiter.specs.Standing.{used_of, used_with, used_before}
-use Rattle.nvme_arbiter.specs.Specified.{starts_round, round_used}
+use Rattle.nvme_arbiter.specs.Specified.{starts_round}
 use Rattle.nvme_arbiter.specs.declared.settings.Class.{Class}
 use Rattle.nvme_arbiter.specs.declared.settings.Mechanism.{Mechanism}
 use Rattle.nvme_arbiter.specs.declared.settings.Mechanism.TheVariants.{RoundRobin, Weighted}
@@ -41,8 +41,3 @@ IsWithinWeights settings used = (level : Class) → IsLevel level → used_of us
 abbrev pub turn_class : Mechanism → Option Class → Option Class
 turn_class RoundRobin class = None
 turn_class Weighted class = class
-
--- what is used in the round, where the mechanism counts it
-abbrev pub UsedIs : Mechanism → ArbitrationFields → History → Used → Type 0
-UsedIs RoundRobin first past used = Unit {0}
-UsedIs Weighted first past used = used ≡ round_used first past

@@ -1,5 +1,5 @@
 -- One event more of a survey, as it is kept (profile).
-use Rattle.std.specs.Prelude.{◌≤◌, ◌<◌, ℕ, ◌+◌, ◌==◌, ◌&&◌, Bool, false, List, Option, Some, None}
+use Rattle.std.specs.Prelude.{◌≤◌, ◌<◌, ℕ, ◌+◌, ◌==◌, ◌&&◌, Bool, false, List, ◌++◌, Option, Some, None}
 use Rattle.nvme_arbiter.specs.Settings.{ArbitrationFields}
 use Rattle.nvme_arbiter.specs.History.{History}
 use Rattle.nvme_arbiter.specs.Lawful.{cut}
@@ -45,6 +45,12 @@ pub record WeightsFit (s : ArbitrationFields) : Type 0 where
   pub medium : s.medium < 65535
   pub low : s.low < 65535
 
+-- what is used is no more than what is counted
+pub record UsedFits (used : Used) : Type 0 where
+  pub high : used.high ≤ 65535
+  pub medium : used.medium ≤ 65535
+  pub low : used.low ≤ 65535
+
 -- no more are counted than there are picks
 pub record AreFew (counts : Counts) (picks : ℕ) : Type 0 where
   pub nothing_ready : counts.nothing_ready ≤ picks
@@ -52,7 +58,7 @@ pub record AreFew (counts : Counts) (picks : ℕ) : Type 0 where
   pub number : counts.number ≤ picks
   pub fresh : counts.fresh ≤ picks
 
--- a surveyor stands after the events of a history in these lines
-pub record SurveysAt (head : Head) (past : History) (lines : List (ℕ × List ℕ)) (s : Surveyor) : Type 0 where
-  pub follows : Follows head.mechanism head.settings past s.kept
-  pub told : IsSurveyOf head past lines s.survey
+-- a surveyor that began after a history stands after the events in these lines
+pub record SurveysAt (head : Head) (prior past : History) (lines : List (ℕ × List ℕ)) (s : Surveyor) : Type 0 where
+  pub follows : Follows head.mechanism head.settings (past ++ prior) s.kept
+  pub told : IsSurveyOf head prior past lines s.survey

@@ -2,7 +2,7 @@ use Rattle.std.proofs.Common.{◌≡◌, ◌∷◌, ℕ, List, Option, Ok, sym, 
 use Rattle.std.proofs.lemmas.Result.{err_from_is_err_and}
 use Rattle.nvme_arbiter.specs.History.{History}
 use Rattle.nvme_trace.specs.Lines.{TakesTold, HasNoTold}
-use Rattle.nvme_trace.specs.Format.{event_by, event_view}
+use Rattle.nvme_trace.specs.Format.{head_of_kept, event_by, event_view}
 use Rattle.nvme_trace.specs.inside.Steps.{SurveysAt}
 use Rattle.nvme_trace.specs.declared.basis.Basis.TheVariants.{Profile}
 use Rattle.nvme_trace.proofs.JudgeLemmas.{few_picks}
@@ -11,7 +11,7 @@ use Rattle.nvme_trace.proofs.survey.surveyed.Goals as goal
 
 pub loop-init : goal.loop-init
 loop-init g c = record {
-  surveyed = λ text t. surveyed_head text c.args.trace.now.number c.args.trace.now.rest c.args.head c.new-surveyor.result t c.new-surveyor.ensures.at;
+  surveyed = λ text t. surveyed_head text c.args.trace.now.number c.args.trace.now.rest c.args.start c.new-surveyor.result c.requires t c.new-surveyor.ensures.at;
   few = c.new-surveyor.ensures.few;
   picks = omega (arith, c.new-surveyor.ensures.picks);
 }
@@ -19,13 +19,13 @@ loop-init g c = record {
 pub returns-in_err-event-clause-fault : goal.returns-in_err-event-clause-fault
 returns-in_err-event-clause-fault g c =
     let p = err_from_is_err_and c.from_residual.result c.from_residual.ensures.1 in
-    rw (p.1, p.2) (λ text t. surveyed_fault text _ c.loop.trace.number c.args.head c.loop.surveyor _ (c.loop.invariant.surveyed text t) c.in_err-event.ensures.err)
+    rw (p.1, p.2) (λ text t. surveyed_fault text _ c.loop.trace.number (head_of_kept c.args.start) c.loop.surveyor _ (c.loop.invariant.surveyed text t) c.in_err-event.ensures.err)
 
 pub returns-in_default-clause-survey : goal.returns-in_default-clause-survey
 returns-in_default-clause-survey g c = λ text t.
     let old = c.loop.trace.rest in
     let none : HasNoTold c.loop.trace.number old = search rules in
-    surveyed_all text old c.loop.trace.number c.args.head c.loop.surveyor (c.loop.invariant.surveyed text t) none
+    surveyed_all text old c.loop.trace.number (head_of_kept c.args.start) c.loop.surveyor (c.loop.invariant.surveyed text t) none
 
 pub loop-preserved : goal.loop-preserved
 loop-preserved g c =
@@ -35,12 +35,12 @@ loop-preserved g c =
     let m = c.loop.trace.number in
     let n = c.event_by.new.self.number in
     let quoted = c.event_by.new.self.latest in
-    let head = c.args.head in
+    let head = head_of_kept c.args.start in
     let next = c.note.new.self in
     let took : TakesTold (λ line. event_by Profile line ≡ Ok event) m old n new = search rules in
     let same : TakesTold (λ line. line ≡ quoted) m old n new = search rules in
-    let at : (past : History) (lines : List (ℕ × List ℕ)) → SurveysAt head past lines c.loop.surveyor → SurveysAt head (event ∷ past) ((n, quoted) ∷ lines) next =
-    λ past lines s. c.in_ok-note.ensures.at head past lines s in
+    let at : (prior past : History) (lines : List (ℕ × List ℕ)) → SurveysAt head prior past lines c.loop.surveyor → SurveysAt head prior (event ∷ past) ((n, quoted) ∷ lines) next =
+    λ prior past lines s. c.in_ok-note.ensures.at head prior past lines s in
     let few = few_picks event in
     record {
       surveyed = λ text t.

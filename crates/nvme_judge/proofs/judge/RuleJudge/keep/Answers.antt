@@ -6,6 +6,6 @@ use Rattle.nvme_judge.proofs.JudgeLemmas.{stands_more}
 use Rattle.nvme_judge.proofs.judge.RuleJudge.keep.Goals as goal
 
 pub returns-clause-stands : goal.returns-clause-stands
-returns-clause-stands c = λ m first past stands used.
+returns-clause-stands c = λ m first prior past stands used.
     let class : c.turn_class-class.result ≡ turn_class c.self.inside.mechanism (class_in c.args.seen.now c.args.pick.now.qid) = search rules in
-    stands_more m first past c.args.seen.now c.args.pick.now _ _ c.turn_class-class.result (subst (JudgeStandsAt m first past) (sym c.self.view_is) stands) used refl refl refl class c.note.ensures.noted c.note.ensures.others
+    stands_more m first prior past c.args.seen.now c.args.pick.now _ _ c.turn_class-class.result (subst (JudgeStandsAt m first prior past) (sym c.self.view_is) stands) used refl refl refl class c.note.ensures.noted c.note.ensures.others
