@@ -6,7 +6,6 @@ use Rattle.toml.specs.Data.{Members}
 use Rattle.toml.specs.Parse.{parse_document}
 use Rattle.nvme_workload.specs.declared.error.WorkloadError.{WorkloadError}
 use Rattle.nvme_workload.specs.Plan.{Plan, plan_in, plan_of_text, workload_of}
-use Rattle.nvme_short_form.specs.declared.error.ShortError.{ShortError}
 use Rattle.nvme_short.specs.declared.expansion.ExpandError.{ExpandError}
 use Rattle.nvme_short.specs.declared.expansion.ExpandError.TheVariants as told_error
 use Rattle.nvme_short.specs.Expansion.{expansion_of, told, plan_of_short, short_in, Reads, TellsFaultsOf, TellsShortFaults}
