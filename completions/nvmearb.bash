@@ -9,13 +9,19 @@ _nvmearb() {
     else
         case $prev in
             --workers) words="1 2 3 4 5 6 7 8" ;;
-            --format) words=$([ "${COMP_WORDS[1]}" = check ] && echo text json junit || echo text json csv) ;;
+            --format)
+                case ${COMP_WORDS[1]} in
+                    check) words="text json junit" ;;
+                    run) words="text json" ;;
+                    *) words="text json csv" ;;
+                esac
+                ;;
             -o | --output | --log | --trace) files=any ;;
             --burst) words="1 2 4 8 16 32 64 none" ;;
             --blocks | --from | --to | --weights | --window | --seed | --commands | --time | --warm-up | --sweep | --seeds) return ;;
             *)
                 case ${COMP_WORDS[1]} in
-                    run) words="--live --workers --help" files=toml ;;
+                    run) words="--live --workers --summary --format --help" files=toml ;;
                     trace) words="--live --workers --output --help" files=toml ;;
                     simulate) words="--seed --commands --time --warm-up --sweep --seeds --points --no-head --format --log --trace --output --help" files=toml ;;
                     lint | expand) words="--help" files=toml ;;

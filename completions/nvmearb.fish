@@ -24,6 +24,8 @@ complete -c nvmearb -n "not __fish_seen_subcommand_from $all" -a help -d 'Print 
 
 complete -c nvmearb -n '__fish_seen_subcommand_from run trace' -l live -d 'Let the hosts submit while the front works'
 complete -c nvmearb -n '__fish_seen_subcommand_from run trace loaded live' -l workers -x -a '1 2 3 4 5 6 7 8' -d 'Number of workers'
+complete -c nvmearb -n '__fish_seen_subcommand_from run' -l summary -d 'Print settings, shares and statuses alone'
+complete -c nvmearb -n '__fish_seen_subcommand_from run' -l format -x -a 'text json' -d 'How the report is written'
 complete -c nvmearb -n '__fish_seen_subcommand_from check' -l spec -d 'Judge by what the specification alone asks'
 complete -c nvmearb -n '__fish_seen_subcommand_from check' -l all -d 'Tell all picks that differ'
 complete -c nvmearb -n '__fish_seen_subcommand_from check' -l quiet -d 'Tell nothing but the status'

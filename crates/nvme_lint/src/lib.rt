@@ -14,6 +14,7 @@ mod warning;
 mod warnings;
 
 pub use lints::lint;
+pub use named::status_name;
 pub use part::Part;
 pub use room::Room;
 pub use site::Site;

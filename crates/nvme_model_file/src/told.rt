@@ -258,7 +258,12 @@ fn flaw_at(
 
 // A fault of the settings.
 fn settings_at(alloc: Global, text: &[u8], document: &Table, error: ShortError) -> ModelFault {
-    match nvme_short::fault_in(alloc, text, document, error) {
+    let flaw = nvme_short_form::Flaw {
+        error,
+        inner: None,
+        nth: 0,
+    };
+    match nvme_short::fault_in(alloc, text, document, flaw) {
         Some(fault) => ModelFault::Settings(fault),
         None => ModelFault::NoMemory,
     }

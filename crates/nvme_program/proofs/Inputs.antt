@@ -37,9 +37,9 @@ use Rattle.nvme_lint.specs.declared.warning.Warning.{Warning}
 use Rattle.nvme_program.specs.declared.faults.Fault.{Fault}
 use Rattle.nvme_program.specs.Answers.{Appended, AppendedPart, FailsToCheck, FailsToSurvey, HasAnswer, HasReport, HasWorkload}
 use Rattle.nvme_program.specs.Inputs.{AsksForMore, HasNoWarning, HasWarnings, IsBadInput, IsBadTrace, IsDiffering, IsFaultyShown, IsFaultyTrace, IsJudgedBy, IsRefusedCheck, IsRefusedTrace, IsToldBy, IsTrace, lawful_line}
-use Rattle.nvme_short.specs.declared.told.ShortFault.{ShortFault}
+use Rattle.nvme_short.specs.declared.faults.ShortFaults.{ShortFaults}
 use Rattle.nvme_short.specs.declared.expansion.ExpandError.TheVariants as short
-use Rattle.nvme_short.specs.Expansion.{StandsFor, TellsShortFault}
+use Rattle.nvme_short.specs.Expansion.{StandsFor, TellsShortFaults}
 use Rattle.nvme_program.specs.Files.{IsBadFile, OfFile}
 use Rattle.nvme_program.specs.Statuses.{IsBadEntry, IsBadWorkload, IsNoWorkload, run_status, status_of, trace_status}
 use Rattle.nvme_words.specs.Requests.{IsAskedBy}
@@ -336,9 +336,9 @@ failed_of_file (Ok x) A input text P stands h = tt
 failed_of_file (Err e) A input text P stands (inl a) = inl a
 failed_of_file (Err e) A input text P stands (inr h) = inr (of_file input text P stands h)
 
-pub short_is_bad : (input : Option (List ℕ)) (bytes : List ℕ) (fault : ShortFault) → IfSome input (λ rest. bytes ≡ rest) → TellsShortFault bytes (short.Fault fault) → IfSome input IsBadFile
-short_is_bad None bytes fault whole h = tt
-short_is_bad (Some rest) bytes fault whole h = subst (λ (bs : List ℕ). IsBadFile bs) whole (inr (inl (fault, h)))
+pub short_is_bad : (input : Option (List ℕ)) (bytes : List ℕ) (faults : ShortFaults) → IfSome input (λ rest. bytes ≡ rest) → TellsShortFaults bytes (short.Faults faults) → IfSome input IsBadFile
+short_is_bad None bytes faults whole h = tt
+short_is_bad (Some rest) bytes faults whole h = subst (λ (bs : List ℕ). IsBadFile bs) whole (inr (inl (faults, h)))
 
 -- ---- words that ask for a check alone
 

@@ -8,6 +8,7 @@ use crate::second_line::SecondLine;
 use nvme_front::FrontError;
 use nvme_runs::RunError;
 use nvme_settings::SettingsFault;
+use nvme_short::ShortFaults;
 use nvme_trace::TraceError;
 use nvme_words::{InputError, MAX_INPUT, OnceError, OptionsFault, WordsError, reads_input_alone};
 use nvme_workload::WorkloadError;
@@ -16,7 +17,8 @@ use std::io::Write;
 use thiserror::Error;
 
 /// Why the program doesn't answer. Each fault is told in one line, except one of the command line, whose text may have
-/// several, and those that have a second line: of a workload, and with the words `run` and `trace` others too.
+/// several, a short workload file, which has a line for each of its faults, and those that have a second line: of a
+/// workload, and with the words `run` and `trace` others too.
 #[derive(Debug, Drop, Error)]
 pub(crate) enum Fault {
     #[error("{0}")]
@@ -36,7 +38,7 @@ pub(crate) enum Fault {
     #[error("nvmearb: workload: {0}")]
     Workload(nvme_workload::Fault),
     #[error("nvmearb: workload: {0}")]
-    Short(nvme_short::ShortFault),
+    Short(ShortFaults),
     #[error("nvmearb: {0}")]
     Trace(TraceError),
     #[error("nvmearb: settings: {0}")]
@@ -54,6 +56,17 @@ pub(crate) enum Fault {
     // With the patience of the workload, which the second line tells.
     #[error("nvmearb: gave up")]
     GaveUp(u32),
+}
+
+// Writes a line for each fault of a short file that is told, and one for those that aren't.
+fn tell_short<E: Write>(faults: &ShortFaults, errors: &mut E) -> std::io::Result<()> {
+    for fault in &faults.told {
+        writeln!(errors, "nvmearb: workload: {fault}")?;
+    }
+    match faults.more {
+        0 => Ok(()),
+        more => writeln!(errors, "nvmearb: workload: and {more} more"),
+    }
 }
 
 impl Fault {
@@ -105,8 +118,8 @@ impl Fault {
                 writeln!(errors, "{self}")?;
                 SecondLine::of_workload(alloc, words, fault).write(errors)
             }
-            Fault::Short(_) => {
-                writeln!(errors, "{self}")?;
+            Fault::Short(faults) => {
+                tell_short(faults, errors)?;
                 SecondLine::of_file(alloc, words).write(errors)
             }
             Fault::TooLong(script) => writeln!(errors, "{self}\nnvmearb: {script}"),

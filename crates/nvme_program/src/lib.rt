@@ -8,6 +8,7 @@ mod long_script;
 mod named;
 mod output;
 mod pipes;
+mod run_answers;
 mod second_line;
 
 pub use commands::command;
@@ -19,3 +20,4 @@ pub use nvme_words::{
 };
 pub use output::flushed;
 pub use pipes::{Errors, Output};
+pub use run_answers::{RunTold, put_run_json, put_summary};

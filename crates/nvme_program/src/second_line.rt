@@ -14,7 +14,12 @@ pub(crate) struct SecondLine<'a> {
     fault: Option<&'a Fault>,
     // A key of short files, in one that lacks `version`.
     key: Option<&'a str>,
+    // Whether a key or a header stands twice.
+    is_twice: bool,
 }
+
+// The words of the TOML crate for a key or a header that stands twice.
+const TWICE: &str = "duplicate key";
 
 // The file that the words name. `None` too where memory was refused.
 fn file_in<'a>(alloc: Global, words: &'a [String]) -> Option<&'a str> {
@@ -34,6 +39,14 @@ fn short_key(fault: &Fault) -> Option<&str> {
     }
 }
 
+// Whether a key or a header stands twice in a text.
+fn is_twice(fault: &Fault) -> bool {
+    match &fault.why {
+        Why::Syntax(error) => error.message() == TWICE,
+        _ => false,
+    }
+}
+
 impl<'a> SecondLine<'a> {
     /// Of a fault of which the first line tells all.
     pub(crate) fn of_file(alloc: Global, words: &'a [String]) -> SecondLine<'a> {
@@ -41,6 +54,7 @@ impl<'a> SecondLine<'a> {
             file: file_in(alloc, words),
             fault: None,
             key: None,
+            is_twice: false,
         }
     }
 
@@ -54,6 +68,7 @@ impl<'a> SecondLine<'a> {
             file: file_in(alloc, words),
             fault: None,
             key: short_key(fault),
+            is_twice: is_twice(fault),
         }
     }
 
@@ -67,7 +82,13 @@ impl<'a> SecondLine<'a> {
             file: file_in(alloc, words),
             fault: Some(fault),
             key: short_key(fault),
+            is_twice: is_twice(fault),
         }
+    }
+
+    // Whether it tells nothing.
+    fn is_empty(&self) -> bool {
+        self.file.is_none() && self.fault.is_none() && self.key.is_none() && !self.is_twice
     }
 
     /// Writes the line, with a newline at its end.
@@ -87,8 +108,15 @@ impl<'a> SecondLine<'a> {
                 errors,
                 "{before}{key:?} is a key of short workload files: version = 1 is missing"
             )?;
+            before = "; ";
         }
-        if self.file.is_none() && self.fault.is_none() && self.key.is_none() {
+        if self.is_twice {
+            write!(
+                errors,
+                "{before}several queues are written [[queue]], each with two brackets"
+            )?;
+        }
+        if self.is_empty() {
             return Ok(());
         }
         writeln!(errors)

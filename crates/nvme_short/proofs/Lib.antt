@@ -1,3 +1,4 @@
 pub mod Flat
 pub mod Members
 pub mod ReadBack
+mod FirstTold

@@ -1,5 +1,6 @@
 -- What a file of either form stands for. (profile)
-use Rattle.std.specs.Prelude.{◌≡◌, ℕ, if◌then◌else◌, List, Option, Some, None, Result, Ok, Err}
+use Rattle.std.specs.Prelude.{◌≡◌, ℕ, if◌then◌else◌, List, [], ◌∷◌, Option, Some, None, Result, Ok, Err}
+use Rattle.std.specs.Result.{result_err}
 use Rattle.std.specs.Str.{is_utf8}
 use Rattle.toml.specs.Data.{Members}
 use Rattle.toml.specs.Parse.{parse_document}
@@ -13,7 +14,11 @@ use Rattle.nvme_short.specs.declared.expansion.ExpandError.{ExpandError}
 use Rattle.nvme_short.specs.declared.expansion.ExpandError.TheVariants as told_error
 use Rattle.nvme_short_form.specs.Readings.{◌>>=◌}
 use Rattle.nvme_short_form.specs.Form.{is_short, form_of}
+use Rattle.nvme_short_form.specs.Flaws.{led_by, table_flaws}
 use Rattle.nvme_short.specs.Documents.{document_of}
+use Rattle.nvme_short.specs.declared.faults.ShortFaults.{ShortFaults}
+use Rattle.nvme_short.specs.declared.told.ShortFault.{ShortFault}
+use Rattle.nvme_short.specs.Faults.{AreTold, shown}
 
 -- ---- the workload of a short table
 
@@ -59,17 +64,28 @@ StandsFor bytes text = StandsBy (short_in bytes) bytes text
 
 -- ---- faults. Out of memory is told as such
 
--- an error is told with its fault and its place
-abbrev pub IsToldAs : ShortError → ExpandError → Type 0
-IsToldAs error (told_error.Fault f) = error ≡ At f.place f.fault
-IsToldAs error told_error.NoMemory = Unit {0}
+-- the table has faults, and these are told: all, or so many that the others are counted
+pub record AreFaultsIn (table : Members) (faults : ShortFaults) : Type 0 where
+  pub first : ShortError
+  pub is_first : plan_of_short table ≡ Err first
+  pub told : AreTold (led_by first (table_flaws table)) faults
 
--- what is told is the first fault of a short table
-abbrev pub TellsFaultOf : Members → ExpandError → Type 0
-TellsFaultOf table (told_error.Fault f) = plan_of_short table ≡ Err (At f.place f.fault)
-TellsFaultOf table told_error.NoMemory = Unit {0}
+-- what is told is the faults of a short table
+abbrev pub TellsFaultsOf : Members → ExpandError → Type 0
+TellsFaultsOf table (told_error.Faults faults) = AreFaultsIn table faults
+TellsFaultsOf table told_error.NoMemory = Unit {0}
 
--- the bytes are a short file, and what is told is its first fault
-abbrev pub TellsShortFault : List ℕ → ExpandError → Type 0
-TellsShortFault bytes (told_error.Fault f) = (table : Members) × (short_in bytes ≡ Some table) × (plan_of_short table ≡ Err (At f.place f.fault))
-TellsShortFault bytes told_error.NoMemory = Unit {0}
+-- the bytes are a short file, and what is told is its faults
+abbrev pub TellsShortFaults : List ℕ → ExpandError → Type 0
+TellsShortFaults bytes (told_error.Faults faults) = (table : Members) × (short_in bytes ≡ Some table) × AreFaultsIn table faults
+TellsShortFaults bytes told_error.NoMemory = Unit {0}
+
+-- ---- the law
+
+abbrev pub first_told : List ShortFault → Option ShortError
+first_told [] = None
+first_told (fault ∷ faults) = Some (shown fault)
+
+-- what is told of a short table begins with its first fault
+abbrev pub FirstFaultIsToldFirst : Type 0
+FirstFaultIsToldFirst = (table : Members) (faults : ShortFaults) → AreFaultsIn table faults → first_told faults.told.items ≡ result_err (plan_of_short table)

@@ -1,3 +1,4 @@
 pub mod Documents
+pub mod Faults
 pub mod Expansion
 pub mod Names

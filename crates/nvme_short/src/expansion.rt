@@ -1,18 +1,18 @@
 // What files of either form stand for.
-ghost use Rattle.std.specs.Prelude.{◌≡◌, ◌≤◌, Some, IfOk, IfErr, string_bytes, option_map};
+ghost use Rattle.std.specs.Prelude.{◌≡◌, ◌≤◌, Err, Some, IfOk, IfErr, string_bytes, option_map};
 ghost use Rattle.toml.specs.Data.{members_depth};
 ghost use Rattle.toml.specs.View.{table_view};
 ghost use Rattle.nvme_workload.specs.Plan.{plan_of, plan_in};
 ghost use Rattle.nvme_workload.specs.Sound.{IsSound};
 ghost use Rattle.nvme_short_form.specs.Readings.{Fails, Gives, seen};
-ghost use Rattle.nvme_short.specs.Expansion.{expansion_of, told, plan_of_short, short_in, Reads, StandsFor, IsToldAs, TellsFaultOf, TellsShortFault};
+ghost use Rattle.nvme_short.specs.Expansion.{expansion_of, told, plan_of_short, short_in, AreFaultsIn, Reads, StandsFor, TellsFaultsOf, TellsShortFaults};
 ghost use Rattle.nvme_short.specs.Names.{AreNamesBy, AreNamesFor, AreNamesIn};
 ghost use Rattle.nvme_short.specs.declared.expansion.ExpandError.TheVariants as told_error;
 
 use crate::document::document_of;
+use crate::faults::{ShortFaults, told_of};
 use crate::names::{Names, names_of};
-use crate::told::{ShortFault, fault_in};
-use nvme_short_form::{Fault, Place, ShortError, form_of, is_short};
+use nvme_short_form::{Fault, Place, ShortError, flaws_of, form_of, is_short};
 use nvme_workload::{DocumentError, Workload, WorkloadError, document, read_document};
 use std::alloc::{AllocError, Global};
 use thiserror::Error;
@@ -83,9 +83,9 @@ pub fn short_in(alloc: Global, bytes: &[u8]) -> Result<Option<Table>, AllocError
 /// Why a short file stands for no text.
 #[derive(Debug, Drop, Error)]
 pub enum ExpandError {
-    /// Its first fault.
+    /// Its faults.
     #[error("{0}")]
-    Fault(ShortFault),
+    Faults(ShortFaults),
     /// Out of memory.
     #[error("out of memory")]
     NoMemory,
@@ -99,21 +99,38 @@ impl From<AllocError> for ExpandError {
     }
 }
 
-// What is told of a fault of a short table, which was read from the bytes.
-fn untold(alloc: Global, bytes: &[u8], table: &Table, error: ShortError) -> ExpandError
-    ensures { IsToldAs error result }
+// The faults of a short table, which was read from the bytes, of which this is the first.
+fn faults_in(
+    alloc: Global,
+    bytes: &[u8],
+    table: &Table,
+    first: ShortError,
+) -> Result<ShortFaults, AllocError>
+    requires { plan_of_short (table_view table.now) ≡ Err first }
+    ensures { IfOk result (AreFaultsIn (table_view table.now)) }
 {
-    match fault_in(alloc, bytes, table, error) {
-        Some(fault) => ExpandError::Fault(fault),
-        None => ExpandError::NoMemory,
+    let flaws = flaws_of(alloc, table, first)?;
+    told_of(alloc, bytes, table, &flaws)
+}
+
+// What is told of the faults of a short table, which was read from the bytes.
+fn untold(alloc: Global, bytes: &[u8], table: &Table, error: ShortError) -> ExpandError
+    requires { Fails error (plan_of_short (table_view table.now)) }
+    ensures { TellsFaultsOf (table_view table.now) result }
+{
+    let ShortError::At(..) = error else {
+        return ExpandError::NoMemory;
+    };
+    match faults_in(alloc, bytes, table, error) {
+        Ok(faults) => ExpandError::Faults(faults),
+        Err(_) => ExpandError::NoMemory,
     }
 }
 
 // The text of today's form that a short table, which was read from the bytes, is written out to.
-#[tactic(auto, using(crate::proofs::ReadBack::told_fault))]
 fn expanded(alloc: Global, bytes: &[u8], table: &Table) -> Result<String, ExpandError>
     ensures ok { IfOk result (λ s. Reads (table_view table.now) (string_bytes s)) }
-    ensures err { IfErr result (TellsFaultOf (table_view table.now)) }
+    ensures err { IfErr result (TellsFaultsOf (table_view table.now)) }
 {
     match expand(alloc, table) {
         Ok(text) => Ok(text),
@@ -145,7 +162,7 @@ pub struct Standing {
 fn short_standing(alloc: Global, bytes: &[u8], table: &Table) -> Result<Standing, ExpandError>
     ensures text { IfOk result (λ s. Reads (table_view table.now) s.text.items) }
     ensures names { IfOk result (λ s. AreNamesBy (Some (table_view table.now)) s.names) }
-    ensures err { IfErr result (TellsFaultOf (table_view table.now)) }
+    ensures err { IfErr result (TellsFaultsOf (table_view table.now)) }
 {
     let text = expanded(alloc, bytes, table)?.into_bytes();
     let names = names_in(alloc, table)?;
@@ -155,12 +172,12 @@ fn short_standing(alloc: Global, bytes: &[u8], table: &Table) -> Result<Standing
     })
 }
 
-/// What the bytes of a file stand for, or the first fault of a short file.
+/// What the bytes of a file stand for, or the faults of a short file.
 #[tactic(auto, using(crate::proofs::ReadBack::told_of_bytes))]
 pub fn stood_for(alloc: Global, bytes: Vec<u8>) -> Result<Standing, ExpandError>
     ensures stands { IfOk result (λ s. StandsFor bytes.items s.text.items) }
     ensures names { IfOk result (λ s. AreNamesFor bytes.items s.names) }
-    ensures fault { IfErr result (TellsShortFault bytes.items) }
+    ensures fault { IfErr result (TellsShortFaults bytes.items) }
 {
     match short_in(alloc, &bytes)? {
         Some(table) => short_standing(alloc, &bytes, &table),

@@ -1,30 +1,31 @@
 // What stands in a short table where it is at fault.
 use nvme_short_form::{
-    ABORT_KEYS, ACCESS_KEYS, FILE_KEYS, FLUSH_KEYS, Fault, GET_KEYS, Key, Place, QUEUE_KEYS,
-    QUEUE_OP_KEYS, RAW_KEYS, REPEAT_KEYS, SET_KEYS, ShortError, WEIGHT_KEYS, command_of,
+    ABORT_KEYS, ACCESS_KEYS, FILE_KEYS, FLUSH_KEYS, GET_KEYS, Key, Place, QUEUE_KEYS,
+    QUEUE_OP_KEYS, RAW_KEYS, REPEAT_KEYS, SET_KEYS, SHARED_KEYS, WEIGHT_KEYS,
 };
 use toml::{Table, Value};
 
-/// The table at fault, with the keys that it may have.
+/// Where a table at fault is.
+#[derive(Clone, Copy)]
+pub(crate) struct Site {
+    pub(crate) place: Place,
+    /// Its index, where it is an item of the script that another item repeats.
+    pub(crate) inner: Option<usize>,
+}
+
+/// The table at fault.
 #[derive(Clone, Copy)]
 pub(crate) struct Seen<'t> {
     pub(crate) table: &'t Table,
+    /// The keys that tables of its kind may have.
     pub(crate) keys: &'static [Key],
-    /// Its index, where it is an item of the script that another item repeats.
-    pub(crate) inner: Option<usize>,
+    /// Those that it may have beside its others.
+    pub(crate) fit: &'static [Key],
 }
 
 /// The value at a key.
 pub(crate) fn value_in(table: &Table, key: Key) -> Option<&Value> {
     table.get(key.name())
-}
-
-/// How many items the array at a key has.
-pub(crate) fn count_at(table: &Table, key: Key) -> usize {
-    match value_in(table, key) {
-        Some(Value::Array(items)) => items.len(),
-        _ => 0,
-    }
 }
 
 /// An item of the array at a key.
@@ -40,11 +41,15 @@ fn table_at(table: &Table, key: Key, index: usize) -> Option<&Table> {
     item_at(table, key, index)?.as_table()
 }
 
-/// The first key of the table, in the order of bytes, that isn't one of these.
-pub(crate) fn unknown_key<'t>(keys: &[Key], table: &'t Table) -> Option<&'t str> {
+/// The unknown key of the table with this index, in the order of bytes: it isn't one of these.
+pub(crate) fn unknown_key<'t>(keys: &[Key], table: &'t Table, index: usize) -> Option<&'t str> {
+    let mut left = index;
     for (name, _value) in table.iter() {
         if !keys.iter().any(|key| key.name() == name.as_str()) {
-            return Some(name.as_str());
+            if left == 0 {
+                return Some(name.as_str());
+            }
+            left -= 1;
         }
     }
     None
@@ -65,97 +70,78 @@ fn item_keys(item: &Table) -> &'static [Key] {
     }
 }
 
-// A table that isn't within an item that repeats it.
-fn outer<'t>(table: &'t Table, keys: &'static [Key]) -> Seen<'t> {
+// A table of a kind.
+fn seen_with<'t>(table: &'t Table, keys: &'static [Key]) -> Seen<'t> {
     Seen {
         table,
         keys,
-        inner: None,
+        fit: keys,
     }
-}
-
-// Whether a fault is that of an item that repeats a script, and not of what it repeats.
-fn is_of_repeat(entry: &Table, fault: Fault) -> bool {
-    match fault {
-        Fault::Unknown => unknown_key(&REPEAT_KEYS, entry).is_some(),
-        Fault::Bad(Key::Repeat | Key::Script) | Fault::Missing(Key::Script) | Fault::Limit(_) => {
-            true
-        }
-        _ => false,
-    }
-}
-
-// Whether an item of a script has the fault.
-fn has_fault(item: &Value, place: Place, fault: Fault) -> bool {
-    match item {
-        Value::Table(table) => match command_of(place, table) {
-            Err(ShortError::At(_, other)) => other == fault,
-            _ => false,
-        },
-        _ => false,
-    }
-}
-
-// The first item with the fault within one that repeats it.
-fn inner_with(entry: &Table, place: Place, fault: Fault) -> Option<Seen<'_>> {
-    let Some(Value::Array(items)) = value_in(entry, Key::Script) else {
-        return None;
-    };
-    let inner = items.iter().position(|item| has_fault(item, place, fault))?;
-    let table = items.get(inner)?.as_table()?;
-    Some(Seen {
-        table,
-        keys: item_keys(table),
-        inner: Some(inner),
-    })
 }
 
 // The table at fault of an item of a script.
-fn seen_in_entry(entry: &Table, place: Place, fault: Fault) -> Option<Seen<'_>> {
-    if value_in(entry, Key::Repeat).is_none() {
-        return Some(outer(entry, item_keys(entry)));
+fn seen_in_entry(entry: &Table, inner: Option<usize>) -> Option<Seen<'_>> {
+    if let Some(index) = inner {
+        let item = table_at(entry, Key::Script, index)?;
+        return Some(seen_with(item, item_keys(item)));
     }
-    if is_of_repeat(entry, fault) {
-        return Some(outer(entry, &REPEAT_KEYS));
+    match value_in(entry, Key::Repeat) {
+        Some(_) => Some(seen_with(entry, &REPEAT_KEYS)),
+        None => Some(seen_with(entry, item_keys(entry))),
     }
-    inner_with(entry, place, fault)
 }
 
 // The weights of a table.
 fn seen_weights(table: &Table) -> Option<Seen<'_>> {
     let weights = value_in(table, Key::Weights)?.as_table()?;
-    Some(outer(weights, &WEIGHT_KEYS))
+    Some(seen_with(weights, &WEIGHT_KEYS))
 }
 
-/// The table with the fault at the place. `None` where there is another value.
-pub(crate) fn seen_at(document: &Table, place: Place, fault: Fault) -> Option<Seen<'_>> {
-    match place {
-        Place::Top => Some(outer(document, &FILE_KEYS)),
+// An item of the script of a queue.
+fn entry_at(document: &Table, queue: usize, item: usize) -> Option<&Value> {
+    let table = table_at(document, Key::Queue, queue.saturating_sub(1))?;
+    item_at(table, Key::Script, item)
+}
+
+/// The table at a site. `None` where there is another value.
+pub(crate) fn seen_at(document: &Table, site: Site) -> Option<Seen<'_>> {
+    match site.place {
+        Place::Top => Some(seen_with(document, &FILE_KEYS)),
         Place::Queue(number) => {
             let table = table_at(document, Key::Queue, number.saturating_sub(1))?;
-            Some(outer(table, &QUEUE_KEYS))
+            let fit: &'static [Key] = match value_in(table, Key::Cq) {
+                Some(_) => &SHARED_KEYS,
+                None => &QUEUE_KEYS,
+            };
+            Some(Seen {
+                table,
+                keys: &QUEUE_KEYS,
+                fit,
+            })
         }
         Place::Item { queue, item } => {
-            let table = table_at(document, Key::Queue, queue.saturating_sub(1))?;
-            seen_in_entry(table_at(table, Key::Script, item)?, place, fault)
+            seen_in_entry(entry_at(document, queue, item)?.as_table()?, site.inner)
         }
         Place::Admin(item) => {
             let table = table_at(document, Key::Admin, item)?;
-            Some(outer(table, item_keys(table)))
+            Some(seen_with(table, item_keys(table)))
         }
         Place::Weights => seen_weights(document),
         Place::AdminWeights(item) => seen_weights(table_at(document, Key::Admin, item)?),
     }
 }
 
-/// The item that stands at a place where a table belongs.
-pub(crate) fn other_at(document: &Table, place: Place) -> Option<&Value> {
-    match place {
+/// The item that stands at a site where a table belongs.
+pub(crate) fn other_at(document: &Table, site: Site) -> Option<&Value> {
+    match site.place {
         Place::Top | Place::Weights | Place::AdminWeights(_) => None,
         Place::Queue(number) => item_at(document, Key::Queue, number.saturating_sub(1)),
         Place::Item { queue, item } => {
-            let table = table_at(document, Key::Queue, queue.saturating_sub(1))?;
-            item_at(table, Key::Script, item)
+            let entry = entry_at(document, queue, item)?;
+            match site.inner {
+                Some(inner) => item_at(entry.as_table()?, Key::Script, inner),
+                None => Some(entry),
+            }
         }
         Place::Admin(item) => item_at(document, Key::Admin, item),
     }

@@ -1,5 +1,5 @@
 // Where in its text a short table is at fault.
-use crate::looking::Seen;
+use crate::looking::Site;
 use crate::scan::{Step, offset_of};
 use nvme_short_form::{Fault, Key, Place};
 use std::alloc::{AllocError, Global};
@@ -81,27 +81,21 @@ fn key_at<'a>(place: Place, fault: Fault, key: &'a str, is_seen: bool) -> Option
     }
 }
 
-/// Where in the text a fault is. `None` where nothing of it was found there.
+/// Where in the text a fault is, at a site whose table was seen or not. `None` where nothing of it was found there.
 pub(crate) fn spot_of(
     alloc: Global,
     text: &[u8],
-    place: Place,
+    site: Site,
     fault: Fault,
     key: &str,
-    seen: Option<Seen>,
+    is_seen: bool,
 ) -> Result<Option<Spot>, AllocError> {
     let mut path = Vec::new(alloc);
-    push_place(&mut path, place)?;
-    if let Some(
-        Seen {
-            inner: Some(inner),
-            ..
-        },
-    ) = seen
-    {
+    push_place(&mut path, site.place)?;
+    if let Some(inner) = site.inner {
         push_item(&mut path, Key::Script, inner)?;
     }
-    if let Some(key) = key_at(place, fault, key, seen.is_some()) {
+    if let Some(key) = key_at(site.place, fault, key, is_seen) {
         path.push(Step::At(key))?;
     }
     let is_value_wanted = matches!(fault, Fault::Bad(_));

@@ -1,12 +1,12 @@
 // How a fault is told.
 ghost use Rattle.std.specs.Prelude.{◌≡◌, IfOk, IfSome};
-ghost use Rattle.nvme_short_form.specs.declared.error.ShortError.TheVariants.{At};
+ghost use Rattle.nvme_short.specs.Faults.{shown};
 
-use crate::looking::{Seen, count_at, other_at, seen_at, unknown_key, value_in};
+use crate::looking::{Seen, Site, other_at, seen_at, unknown_key, value_in};
 use crate::near::nearest;
 use crate::spot::{Spot, spot_of};
 use crate::texts::{expected, words_of};
-use nvme_short_form::{FILE_KEYS, Fault, Key, Place, ShortError};
+use nvme_short_form::{FILE_KEYS, Fault, Flaw, Key, Place, ShortError};
 use nvme_workload::Found;
 use std::alloc::{AllocError, Global};
 use std::fmt;
@@ -33,7 +33,7 @@ pub enum Note {
     NoQueue { number: i64, queues: usize },
 }
 
-/// The first fault of a short workload file: where it is, and what was expected there.
+/// A fault of a short workload file: where it is, and what was expected there.
 #[derive(Debug, Drop)]
 pub struct ShortFault {
     /// The fault.
@@ -79,18 +79,13 @@ pub fn found_in(alloc: Global, value: Option<&Value>) -> Result<Found, AllocErro
     Ok(found)
 }
 
-// Whether a value is the size of a namespace.
-fn is_size(value: &Value) -> bool {
-    match value {
-        Value::Integer(size) => 0 < *size,
-        _ => false,
-    }
-}
-
 // The first item of the sizes that is none, or what stands in their place.
 fn other_size(sizes: &Value) -> &Value {
     match sizes {
-        Value::Array(items) => items.iter().find(|item| !is_size(item)).unwrap_or(sizes),
+        Value::Array(items) => items
+            .iter()
+            .find(|item| !matches!(item, Value::Integer(size) if 0 < *size))
+            .unwrap_or(sizes),
         _ => sizes,
     }
 }
@@ -98,7 +93,7 @@ fn other_size(sizes: &Value) -> &Value {
 // The value at fault.
 fn value_at<'t>(
     document: &'t Table,
-    place: Place,
+    site: Site,
     fault: Fault,
     seen: Option<Seen<'t>>,
 ) -> Option<&'t Value> {
@@ -107,40 +102,34 @@ fn value_at<'t>(
             Some(other_size(value_in(document, Key::Namespaces)?))
         }
         (Fault::Bad(key), Some(seen)) => value_in(seen.table, key),
-        (Fault::Bad(_), None) => other_at(document, place),
+        (Fault::Bad(_), None) => other_at(document, site),
         _ => None,
     }
 }
 
-// What is told in place of what was expected.
+// What is told in place of what was expected, of a fault with this unknown key.
 fn note_of(
     document: &Table,
     fault: Fault,
     found: Option<&Value>,
     seen: Option<Seen>,
+    key: &str,
 ) -> Option<Note> {
     match (fault, found, seen) {
         (Fault::Bad(Key::Number), Some(Value::Integer(number)), _) => Some(Note::NoQueue {
             number: *number,
-            queues: count_at(document, Key::Queue),
+            queues: match value_in(document, Key::Queue) {
+                Some(Value::Array(items)) => items.len(),
+                _ => 0,
+            },
         }),
         (Fault::Missing(Key::Op), _, Some(seen)) if value_in(seen.table, Key::Repeat).is_some() => {
             Some(Note::Nested)
         }
-        (Fault::Unknown, _, Some(seen)) if unknown_key(seen.keys, seen.table).is_none() => {
+        (Fault::Unknown, _, Some(seen)) if seen.keys.iter().any(|it| it.name() == key) => {
             Some(Note::BesideCq)
         }
         _ => None,
-    }
-}
-
-// The unknown key of a table.
-fn key_of(fault: Fault, seen: Option<Seen<'_>>) -> &str {
-    match (fault, seen) {
-        (Fault::Unknown, Some(seen)) => {
-            unknown_key(seen.keys, seen.table).unwrap_or(Key::CqDepth.name())
-        }
-        _ => "",
     }
 }
 
@@ -169,26 +158,32 @@ fn meant_by(
     }
 }
 
-// A fault at a place of a short table, with what is told of it.
+// A fault at a site of a short table, with what is told of it. Of the unknown keys it is the one with this index.
 fn told_at(
     alloc: Global,
     text: &[u8],
     document: &Table,
-    place: Place,
+    site: Site,
     fault: Fault,
+    index: usize,
 ) -> Result<ShortFault, AllocError>
-    ensures { IfOk result (λ f. (f.place ≡ place) × (f.fault ≡ fault)) }
+    ensures { IfOk result (λ f. (f.place ≡ site.place) × (f.fault ≡ fault)) }
 {
-    let seen = seen_at(document, place, fault);
-    let value = value_at(document, place, fault, seen);
-    let note = note_of(document, fault, value, seen);
-    let key = start_of(alloc, key_of(fault, seen), KEY_CHARACTERS)?;
-    let spot = spot_of(alloc, text, place, fault, key_of(fault, seen), seen)?;
+    let seen = seen_at(document, site);
+    let value = value_at(document, site, fault, seen);
+    let name = match (fault, seen) {
+        (Fault::Unknown, Some(seen)) => unknown_key(seen.fit, seen.table, index).unwrap_or(""),
+        _ => "",
+    };
+    let note = note_of(document, fault, value, seen, name);
+    let key = start_of(alloc, name, KEY_CHARACTERS)?;
+    let spot = spot_of(alloc, text, site, fault, name, seen.is_some())?;
     let known: &'static [Key] = match (fault, seen) {
         (Fault::Unknown, Some(seen)) => seen.keys,
         _ => &[],
     };
     let found = found_in(alloc, value)?;
+    let place = site.place;
     let meant = match note {
         Some(_) => None,
         None => meant_by(alloc, fault, place, key.as_str(), known, &found)?,
@@ -205,19 +200,19 @@ fn told_at(
     })
 }
 
-/// A fault of a short table, which was read from the text, with what is told of it. `None` where memory was refused.
-pub fn fault_in(
-    alloc: Global,
-    text: &[u8],
-    document: &Table,
-    error: ShortError,
-) -> Option<ShortFault>
-    ensures { IfSome result (λ f. error ≡ At f.place f.fault) }
+/// One of the faults of a short table, which was read from the text, with what is told of it. `None` where memory was
+/// refused.
+pub fn fault_in(alloc: Global, text: &[u8], document: &Table, flaw: Flaw) -> Option<ShortFault>
+    ensures { IfSome result (λ f. flaw.error ≡ shown f) }
 {
-    let ShortError::At(place, fault) = error else {
+    let ShortError::At(place, fault) = flaw.error else {
         return None;
     };
-    match told_at(alloc, text, document, place, fault) {
+    let site = Site {
+        place,
+        inner: flaw.inner,
+    };
+    match told_at(alloc, text, document, site, fault, flaw.nth) {
         Ok(fault) => Some(fault),
         Err(_) => None,
     }
@@ -283,18 +278,17 @@ impl fmt::Display for ShortDetails<'_> {
         match (told.note, told.fault) {
             (Some(note), _) => write!(f, "{note}"),
             (None, Fault::Unknown) => told.write_known(f),
-            (None, Fault::Missing(Key::Mechanism)) => f.write_str(without_mechanism(told.place)),
+            (None, Fault::Missing(Key::Mechanism)) => {
+                let what = match told.place {
+                    Place::Queue(_) => "classes",
+                    _ => "weights",
+                };
+                write!(
+                    f,
+                    "{what} have no effect under round robin: mechanism = \"weighted\" is missing"
+                )
+            }
             (None, _) => told.write_expected(f),
         }
-    }
-}
-
-// Why a file has to say its mechanism.
-fn without_mechanism(place: Place) -> &'static str {
-    match place {
-        Place::Queue(_) => {
-            "classes have no effect under round robin: mechanism = \"weighted\" is missing"
-        }
-        _ => "weights have no effect under round robin: mechanism = \"weighted\" is missing",
     }
 }

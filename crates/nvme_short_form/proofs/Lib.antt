@@ -1,2 +1,4 @@
+pub mod Flaws
 pub mod Turns
 pub mod Runs
+mod Gathered

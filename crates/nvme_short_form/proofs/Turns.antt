@@ -13,7 +13,7 @@ pub item_count_view : (vs : List Value) → item_count (items_view vs) ≡ lengt
 item_count_view [] = refl
 item_count_view (v ∷ vs) = ap suc (item_count_view vs)
 
-item_at : (vs : List Value) (i : ℕ) (v : Value) → i < length vs → v ≡ get_or vs i v → items_view (drop i vs) ≡ item (view v) (items_view (drop (i + 1) vs))
+pub item_at : (vs : List Value) (i : ℕ) (v : Value) → i < length vs → v ≡ get_or vs i v → items_view (drop i vs) ≡ item (view v) (items_view (drop (i + 1) vs))
 item_at vs i v lt at = items_view-drop vs i v lt ∙ ap (λ w. item (view w) (items_view (drop (i + 1) vs))) (sym at)
 
 -- an item that is read

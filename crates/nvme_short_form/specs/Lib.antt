@@ -5,3 +5,4 @@ pub mod Scripts
 pub mod Queues
 pub mod Admin
 pub mod Form
+pub mod Flaws

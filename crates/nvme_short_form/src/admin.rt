@@ -25,7 +25,7 @@ pub enum Step {
 }
 
 // The field of the burst.
-fn burst_in(place: Place, table: &Table) -> Result<u32, ShortError>
+pub(crate) fn burst_in(place: Place, table: &Table) -> Result<u32, ShortError>
     ensures value { result ≡ optional_burst place (value_in key.Burst (table_view table.now)) }
     ensures in_range { IfOk result (λ code. code ≤ 7) }
 {
@@ -49,7 +49,7 @@ fn burst_in(place: Place, table: &Table) -> Result<u32, ShortError>
 }
 
 // Where the weights of a table are: of the file's own, or of an item of `admin`.
-fn weights_place(place: Place) -> Place
+pub(crate) fn weights_place(place: Place) -> Place
     ensures { result ≡ weights_place place }
 {
     match place {
@@ -143,7 +143,7 @@ fn set_of(place: Place, table: &Table) -> Result<Step, ShortError>
 }
 
 // The identifier of a feature.
-fn feature_in(place: Place, table: &Table) -> Result<u32, ShortError>
+pub(crate) fn feature_in(place: Place, table: &Table) -> Result<u32, ShortError>
     ensures { result ≡ optional_feature place (value_in key.Feature (table_view table.now)) }
 {
     let Some(value) = value_in(Key::Feature, table) else {

@@ -67,7 +67,7 @@ fn spread_over(is_sequential: bool, blocks: u32, count: u32, item: Item) -> Run
 }
 
 // Whether the blocks of a command come after those of the command before.
-fn spread_in(place: Place, table: &Table) -> Result<bool, ShortError>
+pub(crate) fn spread_in(place: Place, table: &Table) -> Result<bool, ShortError>
     ensures { result ≡ spread_in place (table_view table.now) }
 {
     let Some(value) = value_in(Key::Spread, table) else {

@@ -143,7 +143,7 @@ fn push_sizes(sizes: &mut Vec<u64>, items: &[Value]) -> Result<(), ShortError>
 
 // The sizes of the namespaces.
 #[tactic(auto, using(crate::proofs::Turns::item_count_view), unfolding(crate::specs::Form::sizes_in))]
-fn sizes_in(alloc: Global, table: &Table) -> Result<Sequence<u64>, ShortError>
+pub(crate) fn sizes_in(alloc: Global, table: &Table) -> Result<Sequence<u64>, ShortError>
     ensures { Gives result (sizes_in (table_view table.now)) }
 {
     let mut sizes = Vec::new(alloc);

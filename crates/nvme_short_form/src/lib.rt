@@ -1,11 +1,16 @@
-//! The short workload file, a form that a person can write: what the table of one says, or its first fault.
+//! The short workload file, a form that a person can write: what the table of one says, or its faults.
 #![tactic(auto)]
 
 mod admin;
+mod admin_flaws;
+mod all_flaws;
 mod command;
 mod error;
+mod flaw;
 mod form;
+mod item_flaws;
 mod key;
+pub mod laws;
 mod place;
 mod queue;
 mod script;
@@ -13,8 +18,10 @@ mod tables;
 mod values;
 
 pub use admin::{Step, arbitration_in};
+pub use all_flaws::flaws_of;
 pub use command::{Item, Run, command_of};
 pub use error::{Fault, ShortError};
+pub use flaw::Flaw;
 pub use form::{Form, form_of, is_short, mechanism_in};
 pub use key::Key;
 pub use place::Place;

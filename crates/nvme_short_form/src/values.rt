@@ -10,7 +10,7 @@ use toml::value::Array;
 use toml::{Table, Value};
 
 // Whether the name is that of one of the keys.
-fn is_known(keys: &[Key], name: &str) -> bool
+pub(crate) fn is_known(keys: &[Key], name: &str) -> bool
     ensures { result ≡ is_known keys.now name.now }
 {
     for key in keys {

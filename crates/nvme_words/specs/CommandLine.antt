@@ -74,6 +74,18 @@ mode name = with_rule (new_app name) (required workers)
 abbrev pub run : Text → App
 run name = with_rule (with_rule (with_rule (new_app name) (required file)) live) (with_default (codes "1") workers)
 
+-- an option with one value, which is any text
+abbrev pub text_option : Text → Rule
+text_option name = record (new_rule name) { long = Some name; action = Some Set; value_names = 1 }
+
+-- the report is summarised
+abbrev pub summary : Rule
+summary = record (new_rule (codes "summary")) { long = Some (codes "summary"); action = Some SetTrue }
+
+-- the subcommand that prints the report of a run
+abbrev pub reported : App
+reported = with_rule (with_rule (run (codes "run")) summary) (text_option (codes "format"))
+
 -- the file that an answer is written to
 abbrev pub output : Rule
 output = record (new_rule (codes "output")) { long = Some (codes "output"); short = Some 111; action = Some Set; value_names = 1 }
@@ -104,10 +116,6 @@ all = record (new_rule (codes "all")) { long = Some (codes "all"); action = Some
 -- nothing but the status is told
 abbrev pub quiet : Rule
 quiet = record (new_rule (codes "quiet")) { long = Some (codes "quiet"); action = Some SetTrue }
-
--- an option with one value, which is any text
-abbrev pub text_option : Text → Rule
-text_option name = record (new_rule name) { long = Some name; action = Some Set; value_names = 1 }
 
 abbrev pub check : App
 check = with_rule (with_rule (with_rule (with_rule (trace (codes "check")) spec) all) quiet) (text_option (codes "format"))
@@ -176,7 +184,7 @@ abbrev pub with_input : App → App
 with_input app = with_subcommand (with_subcommand (with_subcommand app once.top) (mode (codes "loaded")).top) (mode (codes "live")).top
 
 abbrev pub with_run : Names → App → App
-with_run names app = with_subcommand (with_subcommand (with_subcommand app (run (codes "run")).top) traced.top) (simulate names).top
+with_run names app = with_subcommand (with_subcommand (with_subcommand app reported.top) traced.top) (simulate names).top
 
 abbrev pub with_file : App → App
 with_file app = with_subcommand (with_subcommand app lint.top) expand.top

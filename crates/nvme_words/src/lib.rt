@@ -17,6 +17,7 @@ pub use laws::{
     lines_ask_for, lines_have_faults, lines_name_files, lines_name_outputs, lines_show_text,
     one_request,
 };
+pub use nvme_version::VERSION;
 pub use requests::{Format, Numbers, OptionsFault, Range, Request, WordsError, asked_of};
 pub use simulations::{SimulationWords, simulation_asked};
 pub use words::reads_input_alone;

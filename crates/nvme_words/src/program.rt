@@ -1,7 +1,7 @@
 // The command line of the program, by `clap`.
 ghost use Rattle.std.specs.Prelude.{◌≡◌, IfOk, codes};
 ghost use Rattle.clap.specs.Words.{App, app_of};
-ghost use Rattle.nvme_words.specs.CommandLine.{OnCommandLine, all, backlogged, blocks, bounded, chart, check, dword, expand, file, first, format, last, lint, mode, number, once, option, ranged, run, output, quiet, settings, simulate, stats, text_option, trace, traced, window, with_file, with_input, with_run, with_trace, workers, seeds, sweep, swept};
+ghost use Rattle.nvme_words.specs.CommandLine.{OnCommandLine, all, backlogged, blocks, bounded, chart, check, dword, expand, file, first, format, last, lint, mode, number, once, option, ranged, reported, run, output, quiet, settings, simulate, stats, text_option, trace, traced, window, with_file, with_input, with_run, with_trace, workers, seeds, sweep, swept};
 ghost use Rattle.nvme_words.specs.inside.Built.{AddsIfMade, HasApp, HasRule};
 
 use clap::builder::ValueParser;
@@ -159,6 +159,21 @@ fn output_arg<'a>(alloc: Global) -> Arg<'a>
         .value_name("FILE")
         .help("The file that is written; standard output where it is - or is left out")
         .action(ArgAction::Set)
+}
+
+// The subcommand that prints the report of a run.
+fn reported_command<'a>(alloc: Global) -> Result<Command<'a>, AllocError>
+    ensures { IfOk result (HasApp reported) }
+{
+    let summary = Arg::new(alloc, "summary")
+        .long("summary")
+        .help("Print settings, picks and shares of queues, and completions by status alone")
+        .action(ArgAction::SetTrue);
+    let format = "text or json; without it text";
+    let about = "Runs the workload of a file, and prints its report";
+    run_command(alloc, "run", about)?
+        .arg(summary)?
+        .arg(text_arg(alloc, "format", "FORMAT", format))
 }
 
 // The subcommand that writes the trace of a run.
@@ -434,8 +449,7 @@ fn with_run<'a>(
 ) -> Result<Command<'a>, AllocError>
     ensures { (app : App) → HasApp app program.entry → IfOk result (HasApp (with_run formats.entry app)) }
 {
-    let run = "Runs the workload of a file, and prints its report";
-    let program = with(Ok(program), run_command(alloc, "run", run));
+    let program = with(Ok(program), reported_command(alloc));
     let program = with(program, traced_command(alloc));
     with(program, simulate_command(alloc, formats))
 }

@@ -68,7 +68,7 @@ pub enum Request {
     /// The report of a run of the workload that a file of either form stands for, in this mode, with this many
     /// workers, 1 to 8.
     RunFile(Mode, u8),
-    /// The first fault of a workload, or what in a valid one has no effect.
+    /// The first fault of a workload, of a short file each, or what in a valid one has no effect.
     Lint,
     /// The workload file that a short one stands for.
     Expand,

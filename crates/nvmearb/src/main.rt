@@ -10,6 +10,7 @@ mod files;
 mod kept;
 mod linting;
 mod noted;
+mod running;
 mod simulating;
 mod sweeping;
 mod telling;
@@ -24,6 +25,7 @@ use nvme_program::{
     Errors, Output, Request, WordsError, asked_of, command, file_named, flushed, output_named,
     simulation_asked,
 };
+use running::ran_otherwise;
 use simulating::simulated;
 use std::alloc::{AllocError, Global};
 use std::cell::Cell;
@@ -48,13 +50,14 @@ fn words_of(rt: &HostRuntime) -> io::Result<Vec<String>> {
     Ok(env::args(rt)?.collect(rt.alloc())?)
 }
 
-// Whether the words ask for a lint, and for no help on it.
-fn is_lint(alloc: Global, words: &[String]) -> Result<bool, AllocError> {
-    if subcommand(words) != "lint" {
+// Whether the words ask for a lint, or for the report of a run, as the subcommand of this name does, and for no help on
+// it.
+fn is_asked(alloc: Global, words: &[String], name: &str) -> Result<bool, AllocError> {
+    if subcommand(words) != name {
         return Ok(false);
     }
     match asked_of(alloc, words) {
-        Ok(Request::Lint) => Ok(true),
+        Ok(Request::Lint | Request::RunFile(..)) => Ok(true),
         Err(WordsError::NoMemory(error)) => Err(error),
         _ => Ok(false),
     }
@@ -264,8 +267,13 @@ where
     ensures { IfSome result (λ status. status ≤ 4) }
 {
     let alloc = rt.alloc();
-    match is_lint(alloc, words) {
+    match is_asked(alloc, words, "lint") {
         Ok(true) => return Some(linted(rt, words, notes, output, errors)),
+        Ok(false) => {}
+        Err(_) => return Some(no_memory(errors)),
+    }
+    match is_asked(alloc, words, "run") {
+        Ok(true) => return ran_otherwise(rt, words, notes, output, errors),
         Ok(false) => {}
         Err(_) => return Some(no_memory(errors)),
     }
@@ -340,9 +348,10 @@ where
     if is_unread.get() { UNREAD } else { status }
 }
 
-// The words, in which `--json` of `stats`, `check` and `simulate` stands for `--format=json`.
+// The words, in which `--json` of `run`, `stats`, `check` and `simulate` stands for `--format=json`.
 fn written_out(alloc: Global, mut words: Vec<String>) -> Result<Vec<String>, AllocError> {
-    let takes_format = matches!(subcommand(words.as_slice()), "stats" | "check" | "simulate");
+    let name = subcommand(words.as_slice());
+    let takes_format = matches!(name, "run" | "stats" | "check" | "simulate");
     if !takes_format {
         return Ok(words);
     }

@@ -87,13 +87,16 @@ fn is_for_people(words: &[String]) -> bool {
     names.split(' ').any(|name| name == subcommand(words))
 }
 
-// What the input looks like, where the subcommand is one for others.
+// What the input looks like, where it is empty or the subcommand is one for others.
 fn mistaken(words: &[String], look: Look) -> Option<&'static str> {
     match (subcommand(words), look) {
         ("run" | "trace" | "expand", Look::Simulation) => {
             Some(
                 "this looks like a simulation file (it has a table device or simulation): take simulate",
             )
+        }
+        ("run" | "trace" | "lint" | "expand", Look::Blank) => {
+            Some("the file is empty: a short workload begins with version = 1")
         }
         ("simulate", Look::Workload) => {
             Some("this looks like a workload (it has no table device or simulation): take run")

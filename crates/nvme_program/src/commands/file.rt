@@ -34,7 +34,7 @@ fn named_text_of<R: Read + Drop>(alloc: Global, input: R) -> Result<Standing, Fa
     let bytes = take_input(alloc, input).map_err(Fault::Input)?;
     match stood_for(alloc, bytes) {
         Ok(file) => Ok(file),
-        Err(ExpandError::Fault(fault)) => Err(Fault::Short(fault)),
+        Err(ExpandError::Faults(faults)) => Err(Fault::Short(faults)),
         Err(ExpandError::NoMemory) => Err(Fault::NoMemory(AllocError)),
     }
 }
