@@ -160,7 +160,12 @@ fn write_failing<W: fmt::Write>(
     f: &mut fmt::Formatter<W>,
 ) -> fmt::Result {
     let status = Named(status);
-    write!(f, "{failing} of {commands} commands are answered {status}")?;
+    let answered = if commands == 1 {
+        "command is answered"
+    } else {
+        "commands are answered"
+    };
+    write!(f, "{failing} of {commands} {answered} {status}")?;
     if failing == commands {
         return Ok(());
     }

@@ -1,4 +1,5 @@
 // Scripts that are longer than their rings hold.
+use nvme_admin::MAX_SLOTS;
 use std::fmt;
 
 /// The script of a submission region, which has as many commands as its ring has slots, or more.
@@ -26,6 +27,11 @@ impl fmt::Display for LongScript {
         write!(
             f,
             "its script has {commands} commands, and its ring of {slots} slots holds {held}: take --live"
-        )
+        )?;
+        let most = MAX_SLOTS;
+        if self.is_short && commands < usize::from(most) {
+            write!(f, ", or a greater depth, up to {most}")?;
+        }
+        Ok(())
     }
 }
