@@ -9,7 +9,7 @@ use std::alloc::{AllocError, Global};
 use std::io::{self, Write};
 
 // The version of the form of the JSON answer.
-const JSON_VERSION: u8 = 1;
+const JSON_FORM: u8 = 1;
 
 /// A run that succeeded.
 #[derive(Clone, Copy)]
@@ -273,7 +273,7 @@ pub fn put_run_json<W: Write>(alloc: Global, run: &RunTold, output: &mut W) -> i
     let (mechanism, cdw11) = (name_of(mechanism), settings.to_cdw11());
     write!(
         output,
-        "{{\"version\":{JSON_VERSION},\"program\":\"{VERSION}\",\"digest\":\"{digest}\""
+        "{{\"form\":{JSON_FORM},\"version\":\"{VERSION}\",\"digest\":\"{digest}\""
     )?;
     write!(
         output,

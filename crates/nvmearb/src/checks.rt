@@ -5,7 +5,7 @@ use std::alloc::{AllocError, Global};
 use std::io::{self, Write};
 
 // The version of the form of the JSON answer.
-const JSON_VERSION: u8 = 1;
+const JSON_FORM: u8 = 1;
 
 /// How the answers are written.
 #[derive(Clone, Copy, Debug, PartialEq, Eq)]
@@ -205,7 +205,7 @@ fn put_lines<W: Write>(text: &[u8], output: &mut W) -> io::Result<()> {
 
 /// Writes the answers as an object of JSON.
 pub(crate) fn put_json<W: Write>(answers: &[Judged], output: &mut W) -> io::Result<()> {
-    write!(output, "{{\"version\":{JSON_VERSION},\"files\":[")?;
+    write!(output, "{{\"form\":{JSON_FORM},\"files\":[")?;
     let mut before = "";
     for judged in answers {
         write!(output, "{before}{{\"file\":")?;

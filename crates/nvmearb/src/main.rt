@@ -289,6 +289,13 @@ where
     }
 }
 
+// Whether the words ask for JSON of a subcommand that has none.
+fn has_no_json(words: &[String]) -> bool {
+    let names = "trace lint expand chart settings demo";
+    let is_one = names.split(' ').any(|name| name == subcommand(words));
+    is_one && words.iter().any(|word| word.as_str() == "--json")
+}
+
 // Does what the words ask for. The answer is the exit status.
 fn done<R, P: Write + Drop, W: Write, E: Write>(
     rt: &R,
@@ -305,6 +312,13 @@ where
     let alloc = rt.alloc();
     if let Some(text) = topic(words) {
         return helped(text, output, errors);
+    }
+    if has_no_json(words) {
+        let _ = writeln!(
+            errors,
+            "nvmearb: --json: expected run, check, stats or simulate"
+        );
+        return BAD_LINE;
     }
     if demo::is_asked(words) {
         return demo::show(rt, alloc, output, errors);

@@ -127,13 +127,23 @@ Fields of your own begin with x_.
   nvmearb stats FILE         picks, commands, shares and waits
 "#;
 
-/// The help on files that the words ask for.
+const DEMO: &str = "Shows a workload, its picks and its shares, without a file, and how to go on.
+
+Usage: nvmearb demo
+";
+
+/// The help on files, or on the demonstration, that the words ask for.
 pub(crate) fn topic(words: &[String]) -> Option<&'static str> {
     match words {
         [_, help, topic] if help.as_str() == "help" => match topic.as_str() {
             "workload" => Some(WORKLOAD),
             "simulation" => Some(SIMULATION),
             "trace" => Some(TRACE),
+            "demo" => Some(DEMO),
+            _ => None,
+        },
+        [_, demo, help] if demo.as_str() == "demo" => match help.as_str() {
+            "-h" | "--help" => Some(DEMO),
             _ => None,
         },
         _ => None,
