@@ -2,7 +2,7 @@ use Rattle.std.proofs.Common.{rules}
 use Rattle.nvme_trace.specs.Surveys.{AreNone}
 use Rattle.nvme_trace.specs.declared.basis.Basis.TheVariants.{Profile}
 use Rattle.nvme_program.specs.declared.commands.Answer.TheVariants as answer
-use Rattle.nvme_program.proofs.Inputs.{faulty_shown, lawful_by_survey, on_done, told_in_part_of_all, told_lawful}
+use Rattle.nvme_program.proofs.Inputs.{differing, faulty_shown, lawful_by_survey, on_done, told_differing, told_in_part_of_all, told_lawful}
 use Rattle.nvme_program.proofs.commands.check.surveyed.Goals as goal
 
 pub returns-in-Ok-clause-lawful : goal.returns-in-Ok-clause-lawful
@@ -19,3 +19,9 @@ returns-in-Ok-clause-failed g c =
 
 pub returns-in-Err-clause-input : goal.returns-in-Err-clause-input
 returns-in-Err-clause-input g c = faulty_shown Profile (g.R.Read.remaining c.args.input) c.in-Err.error c.in-Err.ensures.fault
+
+pub returns-in-Ok-2-clause-failed : goal.returns-in-Ok-2-clause-failed
+returns-in-Ok-2-clause-failed g c =
+    let some : AreNone c.in-Ok-2.survey.counts → ⊥ = search rules in
+    told_differing g.W.Write.contents c.args.output.now c.put_survey.new.output (g.R.Read.remaining c.args.input) c.put_survey.result
+    (differing _ c.in-Ok-2.survey c.in-Ok-2.ensures.survey some)
