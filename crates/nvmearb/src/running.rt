@@ -31,7 +31,7 @@ struct Said<'a> {
 }
 
 // Reads the words behind `run`. Those that it doesn't know are left to the command line.
-fn said(words: &[String]) -> Said<'_> {
+fn said_in(words: &[String]) -> Said<'_> {
     let (mut is_summary, mut format, mut is_format) = (false, None, false);
     for word in words {
         let word = word.as_str();
@@ -148,7 +148,7 @@ where
     R: AllocGlobal + Files + Input + Threads + Wait + Sync,
     ensures { IfSome result (λ status. status ≤ 4) }
 {
-    match form_of(&said(words), errors) {
+    match form_of(&said_in(words), errors) {
         Ok(Some(form)) => Some(reported(rt, words, form, notes, output, errors)),
         Ok(None) => None,
         Err(status) => Some(status),
