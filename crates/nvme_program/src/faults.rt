@@ -4,11 +4,11 @@ ghost use Rattle.nvme_program.specs.declared.faults.Fault.TheVariants as fault;
 ghost use Rattle.nvme_runs.specs.declared.runs.RunError.TheVariants as run_fault;
 
 use crate::long_script::LongScript;
-use crate::second_line::SecondLine;
+use crate::second_line::{SecondLine, file_in};
 use nvme_front::FrontError;
 use nvme_runs::RunError;
 use nvme_settings::SettingsFault;
-use nvme_short::ShortFaults;
+use nvme_short::{ShortDetails, ShortFault, ShortFaults, Spot};
 use nvme_trace::TraceError;
 use nvme_words::{InputError, MAX_INPUT, OnceError, OptionsFault, WordsError, reads_input_alone};
 use nvme_workload::WorkloadError;
@@ -58,14 +58,32 @@ pub(crate) enum Fault {
     GaveUp(u32),
 }
 
-// Writes a line for each fault of a short file that is told, and one for those that aren't.
-fn tell_short<E: Write>(faults: &ShortFaults, errors: &mut E) -> std::io::Result<()> {
-    for fault in &faults.told {
-        writeln!(errors, "nvmearb: workload: {fault}")?;
+// Writes a fault of a short file, behind its place in the file of this name.
+fn tell_at<E: Write>(file: &str, fault: &ShortFault, errors: &mut E) -> std::io::Result<()> {
+    write!(errors, "nvmearb: {file}:")?;
+    if let Some(Spot { line, column }) = fault.spot {
+        write!(errors, "{line}:{column}:")?;
     }
-    match faults.more {
-        0 => Ok(()),
-        more => writeln!(errors, "nvmearb: workload: and {more} more"),
+    let (what, place, details) = (fault.fault, fault.place, ShortDetails(fault));
+    writeln!(errors, " {what}: {place}: {details}")
+}
+
+// Writes a line for each fault of a short file that is told, and one for those that aren't.
+fn tell_short<E: Write>(
+    faults: &ShortFaults,
+    file: Option<&str>,
+    errors: &mut E,
+) -> std::io::Result<()> {
+    for fault in &faults.told {
+        match file {
+            Some(file) => tell_at(file, fault, errors)?,
+            None => writeln!(errors, "nvmearb: workload: {fault}")?,
+        }
+    }
+    match (faults.more, file) {
+        (0, _) => Ok(()),
+        (more, Some(file)) => writeln!(errors, "nvmearb: {file}: and {more} more"),
+        (more, None) => writeln!(errors, "nvmearb: workload: and {more} more"),
     }
 }
 
@@ -118,10 +136,7 @@ impl Fault {
                 writeln!(errors, "{self}")?;
                 SecondLine::of_workload(alloc, words, fault).write(errors)
             }
-            Fault::Short(faults) => {
-                tell_short(faults, errors)?;
-                SecondLine::of_file(alloc, words).write(errors)
-            }
+            Fault::Short(faults) => tell_short(faults, file_in(alloc, words), errors),
             Fault::TooLong(script) => writeln!(errors, "{self}\nnvmearb: {script}"),
             Fault::Input(InputError::TooLong) if !reads_input_alone(words) => {
                 writeln!(errors, "{self}: above {MAX_INPUT} bytes")

@@ -21,8 +21,8 @@ pub(crate) struct SecondLine<'a> {
 // The words of the TOML crate for a key or a header that stands twice.
 const TWICE: &str = "duplicate key";
 
-// The file that the words name. `None` too where memory was refused.
-fn file_in<'a>(alloc: Global, words: &'a [String]) -> Option<&'a str> {
+/// The file that the words name. `None` too where memory was refused.
+pub(crate) fn file_in<'a>(alloc: Global, words: &'a [String]) -> Option<&'a str> {
     match file_named(alloc, words) {
         Ok(name) => name,
         Err(_) => None,
@@ -48,16 +48,6 @@ fn is_twice(fault: &Fault) -> bool {
 }
 
 impl<'a> SecondLine<'a> {
-    /// Of a fault of which the first line tells all.
-    pub(crate) fn of_file(alloc: Global, words: &'a [String]) -> SecondLine<'a> {
-        SecondLine {
-            file: file_in(alloc, words),
-            fault: None,
-            key: None,
-            is_twice: false,
-        }
-    }
-
     /// Of a fault whose place the first line tells.
     pub(crate) fn of_workload(
         alloc: Global,
