@@ -43,15 +43,15 @@ const OTHER_TEXTS: [(&str, &str); 11] = [
     ),
     (
         "# A queue.",
-        "not JSON: this looks like a workload (TOML); take trace FILE | check",
+        "not JSON: byte 1, wanted an object with version, mechanism and cdw11",
     ),
     (
         "[[queue]]",
-        "not JSON: this looks like a workload (TOML); take trace FILE | check",
+        "not JSON: byte 3, wanted an object with version, mechanism and cdw11",
     ),
     (
         "version = 1",
-        "not JSON: this looks like a workload (TOML); take trace FILE | check",
+        "not JSON: byte 1, wanted an object with version, mechanism and cdw11",
     ),
     (
         "version: 1",
