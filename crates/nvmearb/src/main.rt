@@ -15,6 +15,7 @@ mod simulating;
 mod sweeping;
 mod telling;
 mod topics;
+mod watched;
 
 use checks::{Checks, Form, Judged, asked, put_json, put_junit, put_named};
 use files::put_away;
@@ -37,6 +38,7 @@ use std::thread::Threads;
 use std::{env, fs, io};
 use telling::{failed, no_memory, subcommand, tell};
 use topics::topic;
+use watched::Watched;
 
 // The exit status where nobody reads the output any more: that of a program which the signal of a closed pipe ended, as
 // shells tell it.
@@ -68,30 +70,42 @@ fn is_unfit(alloc: Global, words: &[String]) -> bool {
     matches!(asked_of(alloc, words), Ok(Request::Unfit(_)))
 }
 
-// Does what the words ask for. The input is the file that they name, or standard input. The answer is the exit status.
-fn served<R: AllocGlobal + Files + Input + Threads + Wait + Sync, W: Write, E: Write>(
+// The terminal, where the words ask for what goes through a whole trace.
+fn told_of_reading<P: Drop>(words: &[String], terminal: Option<P>) -> Option<P> {
+    match subcommand(words) {
+        "check" | "stats" | "chart" => terminal,
+        _ => None,
+    }
+}
+
+// Does what the words ask for. The input is the file that they name, or standard input. A terminal is told how much of a
+// trace is read. The answer is the exit status.
+fn served<R, P: Write + Drop, W: Write, E: Write>(
     rt: &R,
     words: &[String],
+    terminal: Option<P>,
     notes: &Notes,
     output: &mut W,
     errors: &mut E,
 ) -> u8
+where
+    R: AllocGlobal + Files + Input + Threads + Wait + Sync,
     ensures { result ≤ 4 }
 {
     let alloc = rt.alloc();
+    let terminal = told_of_reading(words, terminal);
     match file_named(alloc, words) {
         Ok(Some(name)) if !is_unfit(alloc, words) => match fs::open(rt, name) {
-            Ok(file) => command(rt, alloc, words, Noted::new(file, notes), output, errors),
+            Ok(file) => {
+                let input = Watched::new(Noted::new(file, notes), terminal);
+                command(rt, alloc, words, input, output, errors)
+            }
             Err(error) => failed("open", name, &error, errors),
         },
-        Ok(_) => command(
-            rt,
-            alloc,
-            words,
-            Noted::new(rt.reader(), notes),
-            output,
-            errors,
-        ),
+        Ok(_) => {
+            let input = Watched::new(Noted::new(rt.reader(), notes), terminal);
+            command(rt, alloc, words, input, output, errors)
+        }
         Err(_) => no_memory(errors),
     }
 }
@@ -99,13 +113,16 @@ fn served<R: AllocGlobal + Files + Input + Threads + Wait + Sync, W: Write, E: W
 // Does what the words ask for, and then writes the answer to a file. The answer is the exit status. Where it isn't 0
 // there is no answer, and the file isn't touched. It isn't inlined, so that its stack isn't that of every run.
 #[inline(never)]
-fn saved<R: AllocGlobal + Files + Input + Threads + Wait + Sync, E: Write>(
+fn saved<R, P: Write + Drop, E: Write>(
     rt: &R,
     words: &[String],
+    terminal: Option<P>,
     notes: &Notes,
     name: &str,
     errors: &mut E,
 ) -> u8
+where
+    R: AllocGlobal + Files + Input + Threads + Wait + Sync,
     ensures { result ≤ 4 }
 {
     if file_named(rt.alloc(), words) == Ok(Some(name)) {
@@ -116,7 +133,7 @@ fn saved<R: AllocGlobal + Files + Input + Threads + Wait + Sync, E: Write>(
         return BAD_LINE;
     }
     let mut kept = Kept::new(rt.alloc());
-    let status = served(rt, words, notes, &mut kept, errors);
+    let status = served(rt, words, terminal, notes, &mut kept, errors);
     if status != 0 {
         return status;
     }
@@ -133,8 +150,9 @@ fn judged<R: AllocGlobal + Files + Input + Threads + Wait + Sync>(
     let words = checks.words_for(alloc, file)?;
     let notes = Notes::new();
     let (mut answer, mut first, mut told) = (Kept::new(alloc), Kept::new(alloc), Kept::new(alloc));
-    let status = served(rt, words.as_slice(), &notes, &mut answer, &mut first);
-    let status = tell(alloc, words.as_slice(), &first, &notes, status, &mut told);
+    let words = words.as_slice();
+    let status = served(rt, words, None::<Kept>, &notes, &mut answer, &mut first);
+    let status = tell(alloc, words, &first, &notes, status, &mut told);
     if answer.answer().is_none() || told.answer().is_none() {
         return Err(AllocError);
     }
@@ -257,7 +275,7 @@ fn helped<W: Write, E: Write>(text: &str, output: &mut W, errors: &mut E) -> u8
 fn done_around<R, P: Write + Drop, W: Write, E: Write>(
     rt: &R,
     words: &[String],
-    terminal: Option<P>,
+    terminal: &mut Option<P>,
     notes: &Notes,
     output: &mut W,
     errors: &mut E,
@@ -278,7 +296,10 @@ where
         Err(_) => return Some(no_memory(errors)),
     }
     match simulation_asked(alloc, words) {
-        Ok(Some(line)) => return Some(simulated(rt, &line, terminal, notes, output, errors)),
+        Ok(Some(line)) => {
+            let terminal = terminal.take();
+            return Some(simulated(rt, &line, terminal, notes, output, errors));
+        }
         Ok(None) => {}
         Err(_) => return Some(no_memory(errors)),
     }
@@ -300,7 +321,7 @@ fn has_no_json(words: &[String]) -> bool {
 fn done<R, P: Write + Drop, W: Write, E: Write>(
     rt: &R,
     words: &[String],
-    terminal: Option<P>,
+    mut terminal: Option<P>,
     notes: &Notes,
     output: &mut W,
     errors: &mut E,
@@ -323,18 +344,18 @@ where
     if demo::is_asked(words) {
         return demo::show(rt, alloc, output, errors);
     }
-    if let Some(status) = done_around(rt, words, terminal, notes, output, errors) {
+    if let Some(status) = done_around(rt, words, &mut terminal, notes, output, errors) {
         return status;
     }
     match output_named(alloc, words) {
-        Ok(None) => served(rt, words, notes, output, errors),
-        Ok(Some(name)) => saved(rt, words, notes, name, errors),
+        Ok(None) => served(rt, words, terminal, notes, output, errors),
+        Ok(Some(name)) => saved(rt, words, terminal, notes, name, errors),
         Err(_) => no_memory(errors),
     }
 }
 
 // Does what the words ask for, over standard output and standard error. The answer is the exit status. Where nobody
-// reads the output any more nothing is told. A terminal is told how far a simulation is.
+// reads the output any more nothing is told. A terminal is told how far a simulation is, and how much of a trace is read.
 fn answered<R, P: Write + Drop, W: Write + Drop, E: Write + Drop>(
     rt: &R,
     words: &[String],
