@@ -4,36 +4,33 @@
  * Terms are those of the NVM Express Base Specification 2.0 and the NVM Command Set Specification 1.0. A status is
  * written as its type and its code in hexadecimal: 0/08.
  *
- * Take the controller, nvmearb_ctrl_.., if you have a device, or parts of it, if you have a front of your own: entries
- * (nvmearb_sqe_.. to nvmearb_settings_of), an arbiter, a board, a queue table. Each stands in a section below, with its
- * structs and calls, and works without the others.
+ * If you have a device, take the controller, nvmearb_ctrl_... If you have a front of your own, take parts of it:
+ * entries (nvmearb_sqe_.. to nvmearb_settings_of), an arbiter, a board, a queue table. Each stands in a section below,
+ * with its structs and calls, and works without the others.
  *
  * The order of calls, with a controller:
  *
- *   1. nvmearb_is_of_this_header, which answers 0 for an unproved library too (NVMEARB_UNPROVED).
+ *   1. nvmearb_is_of_this_header.
  *   2. When the host enables the controller (CC.EN), nvmearb_ctrl_init_anywhere with the admin queues (AQA, ASQ, ACQ).
- *      Where it refuses what the host wrote, set CSTS.CFS. When CC.EN becomes 0, stop: make no call until it is 1 again,
- *      and begin again here. Tags from before are used up then (nvmearb_command), and nothing else of before is left.
+ *      Where it refuses what the host wrote, set CSTS.CFS. When CC.EN becomes 0, make no call until it is 1 again, and
+ *      begin again here.
  *   3. nvmearb_ctrl_own_opcode and nvmearb_ctrl_own_feature for the admin commands that the device answers itself, such
  *      as Identify.
  *   4. At each doorbell write nvmearb_ctrl_sq_tail or nvmearb_ctrl_cq_head.
  *   5. For each queue, while nvmearb_ctrl_fetch tells a slot: read the entry there, and nvmearb_ctrl_fetched.
- *   6. While nvmearb_ctrl_take gives a command, execute it. Where it has none, nvmearb_ctrl_pick with room for as many
- *      commands as the device can take now, and begin again, until that picks nothing either. At a step that created a
- *      queue (NVMEARB_OPEN_SQ, NVMEARB_OPEN_CQ), keep where it lies (nvmearb_asked). At one that began a deletion
- *      (NVMEARB_BEGIN_DELETE), do 9. at once.
+ *   6. While nvmearb_ctrl_take gives a command, execute it. Where it has none, nvmearb_ctrl_pick, and begin again,
+ *      until that picks nothing either. At a step that created a queue, keep where it lies (nvmearb_asked).
  *   7. nvmearb_ctrl_complete, or nvmearb_ctrl_complete_with, for each command that ends, in any order and at any time.
  *   8. For each completion queue, while nvmearb_ctrl_post gives a completion: write its bytes into the slot of the
- *      ring, Dword 3 last, since it has the phase tag, and then send the interrupt of the queue's vector, if
- *      its enable bit is set.
- *   9. After a pick that began a deletion, nvmearb_ctrl_finish at once and after each 8., while it answers NVMEARB_OK.
- *  10. Go back to 5., for every queue, until a pass does nothing: posts make room for fetches, and the end of a deletion
- *      makes the completion of its Delete ready. Go back too once the device can take more commands than at its last
- *      pick, or no longer holds a queue (nvmearb_ctrl_hold).
+ *      ring, Dword 3 last, since it has the phase tag. Then send the interrupt of the queue's vector, if it is enabled.
+ *   9. After a pick that began a deletion (NVMEARB_BEGIN_DELETE), nvmearb_ctrl_finish at once and after each 8., while
+ *      it answers NVMEARB_OK.
+ *  10. Go back to 5., for every queue, until a pass does nothing. Go back too once the device can take more commands
+ *      than at its last pick, or no longer holds a queue (nvmearb_ctrl_hold).
  *
  * What holds of all calls. Every function is proved (crates/nvme_capi), unless NVMEARB_UNPROVED says otherwise. None
- * allocates, waits, starts a thread, keeps a pointer, or reads or writes anything but what its arguments point to, and all
- * return, whatever bytes the arguments, the states and the slots have. The caller sees to this:
+ * allocates, waits, starts a thread or keeps a pointer, or reads or writes anything but what its arguments point to.
+ * All return, whatever bytes the arguments, the states and the slots have. The caller sees to this:
  *
  *   - A pointer isn't null, is aligned for its type, and points to as many objects as its comment says, which live at
  *     least as long as the call. This holds for an array of length 0 too.
@@ -46,9 +43,9 @@
  *
  * Numbers are in the machine's byte order, and bytes of entries in the specification's. The library is built for x86-64
  * (x86-64-v2, System V calling convention) and for AArch64 (docs/EMBEDDING.md, "Processors"). On x86-64 it uses SSE
- * registers and the red zone: a kernel saves these registers before a call, and takes no interrupt on the stack of a
- * call. nvmearb_ctrl_init and nvmearb_ctrl_init_anywhere take 34 KB of stack at most, and every other call 1 KB. Link
- * with -lnvmearb; the only other symbols are memcpy and memset. The archive has an object for each section below.
+ * registers and the red zone. So a kernel saves these registers before a call, and takes no interrupt on the stack of a
+ * call. A making of a controller takes 34 KB of stack at most, and every other call 1 KB. Link with -lnvmearb; the only
+ * other symbols are memcpy and memset. The archive has an object for each section below.
  */
 #ifndef NVMEARB_H
 #define NVMEARB_H
@@ -69,10 +66,7 @@ extern "C" {
 #define NVMEARB_VERSION_PATCH 0
 #define NVMEARB_VERSION (NVMEARB_VERSION_MAJOR * 0x10000u + NVMEARB_VERSION_MINOR * 0x100u + NVMEARB_VERSION_PATCH)
 
-/*
- * Returns the version of the library. If it isn't NVMEARB_VERSION, this header is that of another library, or nothing of
- * the library is proved (NVMEARB_UNPROVED).
- */
+/* Returns the version of the library. */
 uint32_t nvmearb_version(void);
 
 /* The states, by numbers for nvmearb_size. */
@@ -86,15 +80,15 @@ uint32_t nvmearb_version(void);
 uint32_t nvmearb_size(uint32_t state);
 
 /*
- * What nvmearb_version adds where nothing of the library is proved: tools/build --unproved made it, for a try. Such a
- * library is slower, since it looks for faults as it runs, and ends the program at one that it finds. A program that
- * takes it as well compares nvmearb_version() & ~NVMEARB_UNPROVED with NVMEARB_VERSION.
+ * What nvmearb_version adds where nothing of the library is proved: tools/build --unproved made it, for a try. It is
+ * slower, since it looks for faults as it runs, and ends the program at one that it finds. A program that takes it as
+ * well compares nvmearb_version() & ~NVMEARB_UNPROVED with NVMEARB_VERSION.
  */
 #define NVMEARB_UNPROVED 0x80000000u
 
 /*
- * The results. A function returns NVMEARB_OK except in the cases that its comment names. Where a call doesn't return
- * NVMEARB_OK, it has written nothing.
+ * The results. A function returns NVMEARB_OK except in the cases that its comment, or that of its state, names. Where a
+ * call doesn't return NVMEARB_OK, it has written nothing.
  */
 #define NVMEARB_OK 0u     /* done */
 #define NVMEARB_NONE 1u   /* there is nothing to do, no such queue or no such command */
@@ -268,15 +262,15 @@ uint32_t nvmearb_outcome(const nvmearb_sqe *entry, const uint64_t *sizes, size_t
  *   0/02: NSID is FFFFFFFFh, and the command is no Flush. A Flush with this NSID succeeds
  *   0/0b, Invalid Namespace or Format: NSID is 0 or above `count`
  *   0/02: NSID is inactive
- *   0/80, LBA Out of Range: SLBA + NLB + 1 of a Write or Read is more than the size
+ *   0/80, LBA Out of Range: SLBA + NLB + 1 of a Write or Read is more than the size.
  * A device with more opcodes goes on from 0/01, which says that the command passed what stands above it.
  */
 void nvmearb_check(const nvmearb_sqe *entry, const uint64_t *sizes, size_t count, nvmearb_status *status);
 
 /*
- * Writes the status of a command that names logical blocks by NSID, SLBA and NLB (Command Dwords 10 to 12), as Write,
- * Read, Write Uncorrectable, Compare, Write Zeroes and Verify do: that of the last four rows above, as of a Read.
- * Nothing else is looked at.
+ * Writes the status of a command that names logical blocks by NSID, SLBA and NLB (Command Dwords 10 to 12). It is that
+ * of the last four rows above, as of a Read; nothing else is looked at. Write, Read, Write Uncorrectable, Compare, Write
+ * Zeroes and Verify are such commands.
  */
 void nvmearb_range(const nvmearb_sqe *entry, const uint64_t *sizes, size_t count, nvmearb_status *status);
 
@@ -311,7 +305,7 @@ void nvmearb_settings_of(uint32_t cdw11, nvmearb_settings *settings);
 
 /*
  * An arbiter. nvmearb_arbiter_init initialises it, and it may be copied. Its fields are the library's. It is valid if
- * `mechanism` is one of the two and each of `last` is at most 65536, whoever wrote them: zeros aren't, and other
+ * `mechanism` is one of the two and each of `last` is at most 65536, whoever wrote them. Zeros aren't valid, and other
  * memory that was never initialised may be. Each other call first answers NVMEARB_ESTATE if it isn't valid; a valid one
  * picks as one that has served what its fields say.
  */
@@ -444,7 +438,7 @@ uint32_t nvmearb_board_set(nvmearb_board *board, uint32_t cdw11);
  *
  * The order of calls, with a table and a board; rings, doorbells, phase tags, interrupts and data are the caller's:
  *
- *   1. nvmearb_is_of_this_header, which answers 0 for an unproved library too (NVMEARB_UNPROVED).
+ *   1. nvmearb_is_of_this_header.
  *   2. nvmearb_table_init. Add a region of each kind for the admin queue, then one for each ring that a Create command
  *      may name.
  *   3. nvmearb_board_init, and nvmearb_board_open for queue 0.
@@ -552,9 +546,9 @@ uint32_t nvmearb_table_add_cq_region(nvmearb_table *table, uint64_t address, uin
  * Dword 0. Otherwise the Abort is answered with 1: also if its SQID is 0, if the queue isn't open or is
  * closing, or if the command was picked.
  *
- * Other opcodes than those of NVMEARB_ADMIN_.. are answered with 0/01, Invalid Command Opcode; Set and Get Features of
- * other identifiers than 01h and 07h, and an entry whose FUSE isn't 0, with 0/02, Invalid Field in Command. A
- * controller that has more commands, such as Identify, looks at `kind` and `fid` of nvmearb_admin_of first and keeps
+ * Other opcodes than those of NVMEARB_ADMIN_.. are answered with 0/01, Invalid Command Opcode. Set and Get Features of
+ * other identifiers than 01h and 07h, and an entry whose FUSE isn't 0, are answered with 0/02, Invalid Field in Command.
+ * A controller that has more commands, such as Identify, looks at `kind` and `fid` of nvmearb_admin_of first and keeps
  * those entries from the table.
  */
 uint32_t nvmearb_table_apply(nvmearb_table *table, const uint8_t bytes[NVMEARB_SQE_BYTES], nvmearb_answer *answer);
@@ -590,19 +584,19 @@ uint32_t nvmearb_table_settings(const nvmearb_table *table, nvmearb_settings *se
 
 /*
  * Controller: the front of a whole controller, which is driven by calls in the order at the top. It checks doorbells,
- * says which slot is fetched next, arbitrates, carries out the admin commands on queues, features and Abort, hands I/O
- * commands and the device's own admin commands, such as Identify, to the device under tags, and gives each completion
- * with its slot, SQHD and phase tag. The device keeps registers, memory, data and interrupts. capi/examples/device.c is
- * a small one, and capi/examples/nvme.c one that Linux takes for a disk in QEMU.
+ * says which slot is fetched next, arbitrates, and carries out the admin commands on queues, features and Abort. It hands
+ * I/O commands and the device's own admin commands to the device under tags, and gives each completion with its slot,
+ * SQHD and phase tag. The device keeps registers, memory, data and interrupts. capi/examples/device.c is a small one, and
+ * capi/examples/nvme.c one that Linux takes for a disk in QEMU.
  */
 
 /*
  * A slot of a controller: it holds one command from its fetch until its completion is posted. The caller keeps an array
  * of them, whose content is the library's. Nothing is fetched while none is free. At most as many commands of a
- * submission queue hold a slot as its depth (nvmearb_ctrl_set_depth). With as many slots as the depths of the queues
- * that may be open have together, admin_depth + nsq * depth, one is free for each command that may be fetched otherwise,
- * while queues are being deleted too. With fewer, commands of one queue may keep those of another from being fetched.
- * Commands that a deletion drops hold their slots until their completions are posted.
+ * submission queue hold a slot as its depth (nvmearb_ctrl_set_depth). Let there be as many slots as the depths of the
+ * queues that may be open have together: admin_depth + nsq * depth. Then one is free for each command that may be fetched
+ * otherwise, while queues are being deleted too. With fewer, commands of one queue may keep those of another from being
+ * fetched.
  */
 typedef struct nvmearb_slot {
     uint64_t words[11];
@@ -616,8 +610,9 @@ typedef struct nvmearb_slot {
 
 /*
  * A controller. nvmearb_ctrl_init_anywhere or nvmearb_ctrl_init makes it. Its fields are the library's. It is valid if
- * `mark` is what these write; zeros aren't. What they make has a valid arbiter too, at which nvmearb_ctrl_peek and
- * nvmearb_ctrl_pick look.
+ * `mark` is what these write; zeros aren't. Each other call first answers NVMEARB_ESTATE if it isn't valid. One that is
+ * given slots, but nvmearb_ctrl_verify, then answers NVMEARB_EARG if `count` isn't that of the making.
+ * nvmearb_ctrl_peek and nvmearb_ctrl_pick answer NVMEARB_ESTATE too if the arbiter isn't valid, as that of a making is.
  *
  * The caller hands each call the array of slots that the controller was made with, and writes neither into it nor into
  * the controller. Whatever bytes lie there, a call reads and writes no more than it is given, and returns. If something
@@ -625,10 +620,12 @@ typedef struct nvmearb_slot {
  * caller reads no slot of a ring but the one that nvmearb_ctrl_fetch tells, and posts no completion but those of
  * nvmearb_ctrl_post. A ring has 64 or 16 bytes for each slot, from its address on.
  *
- * A controller and its slots are numbers without a pointer, so both together may be moved, or saved as bytes and
- * restored by a library of the same major and minor version, which the mark has. What is restored takes the place of the
- * first: no copy is used beside it. The device saves with it where its queues lie, and what it has by tag.
- * What the device took after the saving it drops: the same tags come again after the restoring.
+ * A submission queue is open until its deletion begins, and then closing until nvmearb_ctrl_finish finishes that.
+ *
+ * A controller and its slots are numbers without a pointer. So both together may be moved, or saved as bytes and restored
+ * by a library of the same major and minor version, which the mark has. What is restored takes the place of the first: no
+ * copy is used beside it. The device saves with it where its queues lie, and what it has by tag. What it took after the
+ * saving it drops: the same tags come again after the restoring.
  *
  * These calls take the longer the more there is of something, and no other one does:
  *
@@ -657,7 +654,7 @@ typedef struct nvmearb_config {
     uint32_t cdw11;          /* the Arbitration feature; bits 07:03 are ignored */
     uint16_t nsq, ncq;       /* the most I/O submission and completion queues, 1 to NVMEARB_MAX_IO_QUEUES */
     uint16_t depth;          /* the most commands with a slot of an I/O submission queue, 1 to NVMEARB_MAX_DEPTH */
-    uint16_t admin_depth;    /* of the admin queue, above the number of event requests that the device holds */
+    uint16_t admin_depth;    /* the same of the admin queue, above the number of event requests that the device holds */
 } nvmearb_config;
 
 /* What a Create command may ask for where queues may lie anywhere in memory. */
@@ -695,8 +692,8 @@ typedef struct nvmearb_step {
 } nvmearb_step;
 
 /*
- * A command that the device has. Its tag is its name until it is completed: bits 15:0 are the index of the slot that
- * holds it, and bits 31:16 that slot's generation, which goes up by one, modulo 65,536, each time the device takes a
+ * A command that the device has. Its tag is its name until it is completed. Bits 15:0 are the index of the slot that
+ * holds it. Bits 31:16 are that slot's generation, which goes up by one, modulo 65,536, each time the device takes a
  * command of the slot. A tag is used up once its command is completed, or the controller is made anew over the same
  * slots, which keeps their generations. A call with a tag that is used up answers NVMEARB_NONE and changes nothing, so
  * what the device completes twice, or late, ends no other command. A tag comes again with the 65,536th command that is
@@ -745,31 +742,34 @@ typedef struct nvmearb_post {
  * at an address where none is, or over another ring, is accepted. The device checks each access, and that no address
  * goes over the end of all addresses. Where an access to a ring fails it sets CSTS.CFS, and waits for the reset.
  *
- * The first of these that applies refuses a Create that isn't fused: 1/02, Invalid Queue Size, if QSIZE is above
- * `mqes`; 0/13, PRP Offset Invalid, if PRP1 isn't a multiple of the page; of a completion queue 1/08, Invalid
- * Interrupt Vector, if IV isn't below `vectors`, whatever IEN; 0/02, Invalid Field in Command, if PC is 0; 1/01,
- * Invalid Queue Identifier, if QID is 0, above the allotted number, or that of a queue that is open or closing; 1/02
- * if QSIZE is 0; of a submission queue 1/01 if CQID is 0 or above the allotted number, and 1/00, Completion Queue
- * Invalid, if that queue isn't open.
- * NVMEARB_EARG as nvmearb_ctrl_init, and if `page` is no power of two, `mqes` isn't 1 to 4095, or `vectors` is 0;
- * otherwise NVMEARB_ESIZE if `asq` or `acq` doesn't have 2 to 4096 slots. Their addresses are not compared.
+ * The first of these that applies refuses a Create that isn't fused:
+ *   1/02, Invalid Queue Size: QSIZE is above `mqes`
+ *   0/13, PRP Offset Invalid: PRP1 isn't a multiple of the page
+ *   1/08, Invalid Interrupt Vector: IV of a completion queue isn't below `vectors`, whatever IEN
+ *   0/02, Invalid Field in Command: PC is 0
+ *   1/01, Invalid Queue Identifier: QID is 0, above the allotted number, or that of a queue that is open or closing
+ *   1/02: QSIZE is 0
+ *   1/01: CQID of a submission queue is 0 or above the allotted number
+ *   1/00, Completion Queue Invalid: that queue isn't open.
+ * NVMEARB_EARG as nvmearb_ctrl_init, and if `page` is no power of two, `mqes` isn't 1 to 4095, or `vectors` is 0.
+ * Otherwise NVMEARB_ESIZE if `asq` or `acq` doesn't have 2 to 4096 slots. Their addresses are not compared.
  */
 uint32_t nvmearb_ctrl_init_anywhere(nvmearb_ctrl *ctrl, nvmearb_slot *slots, size_t count, const nvmearb_config *config,
                                     const nvmearb_placement *placement);
 
 /*
  * Initialises a controller with its admin queues alone, which are open, on region 0 of each kind. No command is
- * fetched, and all `count` slots are free. Any bytes may lie in `ctrl` and the slots. The slots keep their generations:
- * don't clear them at a reset, and hand in the same ones, so that tags of before are used up (nvmearb_command).
+ * fetched, and all slots, `count` of 1 to NVMEARB_MAX_SLOTS, are free. Any bytes may lie in `ctrl` and the slots. The
+ * slots keep their generations: don't clear them at a reset, and hand in the same ones, so that tags of before are used
+ * up (nvmearb_command).
  *
  * The device says beforehand where rings may lie, by nvmearb_ctrl_add_sq_region and nvmearb_ctrl_add_cq_region. A
  * Create names the address of such a region that no queue has used, and has exactly QSIZE + 1 slots. There are
  * NVMEARB_MAX_REGIONS of a kind, and no two have one address. A region is added before a Create of its address is
  * picked: of a controller whose device adds one later, docs/PROVED.md promises less.
- * NVMEARB_EARG if `count` isn't 1 to NVMEARB_MAX_SLOTS, `mechanism` is neither of the two, `nsq` or `ncq` isn't 1 to
- * NVMEARB_MAX_IO_QUEUES, or `depth` or `admin_depth` isn't 1 to NVMEARB_MAX_DEPTH; otherwise the first of these:
- * NVMEARB_ESIZE if `asq` doesn't have 2 to 4096 slots, NVMEARB_EUSED if `acq` has the address of `asq`, NVMEARB_ESIZE if
- * `acq` doesn't have 2 to 4096 slots.
+ * NVMEARB_EARG if `count`, `mechanism`, `nsq`, `ncq`, `depth` or `admin_depth` is out of its range (nvmearb_config).
+ * Otherwise the first of these: NVMEARB_ESIZE if `asq` doesn't have 2 to 4096 slots, NVMEARB_EUSED if both have one
+ * address, NVMEARB_ESIZE if `acq` doesn't have 2 to 4096 slots.
  */
 uint32_t nvmearb_ctrl_init(nvmearb_ctrl *ctrl, nvmearb_slot *slots, size_t count, const nvmearb_config *config);
 
@@ -783,20 +783,19 @@ uint32_t nvmearb_ctrl_add_sq_region(nvmearb_ctrl *ctrl, uint64_t address, uint16
 uint32_t nvmearb_ctrl_add_cq_region(nvmearb_ctrl *ctrl, uint64_t address, uint16_t slots, uint16_t *number);
 
 /*
- * From now on the admin commands of this opcode are the device's: they are picked in their turn, and the device takes
- * and completes them as it does commands of I/O queues, at any later time (an Asynchronous Event Request waits like
- * this). Each making of the controller forgets it. The opcodes 00h, 01h, 04h, 05h, 09h and 0Ah stay the controller's,
+ * From now on the admin commands of this opcode are the device's. They are picked in their turn, and the device takes
+ * and completes them as it does commands of I/O queues, at any later time. (An Asynchronous Event Request waits like
+ * this.) Each making of the controller forgets it. The opcodes 00h, 01h, 04h, 05h, 09h and 0Ah stay the controller's,
  * and so does a fused command, which it refuses. PSDT is left to the device; the controller looks at that of no
  * command. A command that is neither's is answered with 0/01, Invalid Command Opcode, and Set and Get Features of such
  * a feature identifier with 0/02, Invalid Field in Command.
  *
  * The controller aborts a command that waits: it is answered with 0/07, Command Abort Requested. An Abort that names
  * any other command is answered with 1 as Dword 0, not aborted, unless NVMEARB_OPC_ABORT was announced here. Then it is
- * passed on to the device, which looks up the tag of that command by nvmearb_ctrl_named (nvmearb_admin_of tells its
- * queue and identifier), completes it with 0/07 if it can end it, and then the Abort with 0 as Dword 0, or else with 1.
- * Where the host has more Aborts out than Identify allows (ACL), the device completes one with 1/03, Abort Command Limit
- * Exceeded. capi/examples/admin.c ends Asynchronous Event Requests so.
- * NVMEARB_ESTATE if `ctrl` isn't valid.
+ * passed on to the device, which looks up the tag of that command by nvmearb_ctrl_named; nvmearb_admin_of tells its
+ * queue and identifier. The device completes the command with 0/07 if it can end it, and then the Abort with 0 as Dword
+ * 0, or else with 1. Where the host has more Aborts out than Identify allows (ACL), the device completes one with 1/03,
+ * Abort Command Limit Exceeded. capi/examples/admin.c ends Asynchronous Event Requests so.
  */
 uint32_t nvmearb_ctrl_own_opcode(nvmearb_ctrl *ctrl, uint8_t opcode);
 
@@ -804,30 +803,26 @@ uint32_t nvmearb_ctrl_own_opcode(nvmearb_ctrl *ctrl, uint8_t opcode);
  * From now on Set Features and Get Features of this feature identifier are the device's, as nvmearb_ctrl_own_opcode
  * tells. Of the controller's own features, 01h and 07h, the device has no more than a Get Features that selects (SEL)
  * another value than the current one.
- * NVMEARB_ESTATE if `ctrl` isn't valid.
  */
 uint32_t nvmearb_ctrl_own_feature(nvmearb_ctrl *ctrl, uint8_t fid);
 
 /*
- * From now on at most `depth` commands of a submission queue hold a slot, each from its fetch until its completion is
- * posted: those that wait, and those that are picked, with the device, or to be posted. It takes the place of the depth
- * that nvmearb_config says. Call it at any time, best before the queue is created. An identifier keeps its depth until
- * the next call, or until the controller is made anew, whatever is created and deleted. Where more commands hold a slot
- * already, nothing is fetched of the queue until fewer do. A depth may be above the number of slots, but then queues
- * share them (nvmearb_slot). `qid` 0 is the admin queue, whose depth has to be above the number of Asynchronous Event
- * Requests that the device holds, or no admin command is fetched any more.
- * NVMEARB_ESTATE if `ctrl` isn't valid; otherwise NVMEARB_EARG if `qid` is above NVMEARB_MAX_IO_QUEUES or `depth` isn't 1
- * to NVMEARB_MAX_DEPTH.
+ * From now on at most `depth` commands of a submission queue hold a slot: those that wait, and those that are picked, with
+ * the device, or to be posted. It takes the place of the depth that nvmearb_config says. Call it at any time, best before
+ * the queue is created. An identifier keeps its depth until the next call, or until the controller is made anew, whatever
+ * is created and deleted. Where more commands hold a slot already, nothing is fetched of the queue until fewer do. A depth
+ * may be above the number of slots, but then queues share them (nvmearb_slot). `qid` 0 is the admin queue, whose depth has
+ * to be above the number of Asynchronous Event Requests that the device holds, or no admin command is fetched any more.
+ * NVMEARB_EARG if `qid` is above NVMEARB_MAX_IO_QUEUES or `depth` isn't 1 to NVMEARB_MAX_DEPTH.
  */
 uint32_t nvmearb_ctrl_set_depth(nvmearb_ctrl *ctrl, uint16_t qid, uint16_t depth);
 
 /*
- * From now on no command of a submission queue is picked, if `on` is 1, or they are again, if it is 0: for a queue that
- * the device can't serve, say since a namespace is busy. What waits in it stays there, and up to its depth it is
+ * From now on no command of a submission queue is picked, if `on` is 1, or they are again, if it is 0. It is for a queue
+ * that the device can't serve, say since a namespace is busy. What waits in it stays there, and up to its depth it is
  * fetched as before; an Abort and a deletion still end it. Commands that were picked stay picked. The queue may be the
  * admin queue. A queue that is created anew isn't held.
- * NVMEARB_ESTATE if `ctrl` isn't valid; otherwise NVMEARB_EARG if `on` is above 1; otherwise NVMEARB_NONE if the queue
- * isn't open or is closing.
+ * NVMEARB_EARG if `on` is above 1; otherwise NVMEARB_NONE if the queue isn't open.
  */
 uint32_t nvmearb_ctrl_hold(nvmearb_ctrl *ctrl, uint16_t qid, uint8_t on);
 
@@ -835,16 +830,15 @@ uint32_t nvmearb_ctrl_hold(nvmearb_ctrl *ctrl, uint16_t qid, uint8_t on);
  * From now on an I/O submission queue has this priority class, NVMEARB_URGENT to NVMEARB_LOW, whatever its Create asked
  * for (QPRIO). Linux asks for urgent for all, so that weights do nothing there: by this a device gives priorities. A
  * queue that is created anew has the class of its Create. Under round robin a class has no effect.
- * NVMEARB_ESTATE if `ctrl` isn't valid; otherwise NVMEARB_EARG if `priority` is none of the four; otherwise
- * NVMEARB_NONE if `qid` is 0, or the queue isn't open or is closing.
+ * NVMEARB_EARG if `priority` is none of the four; otherwise NVMEARB_NONE if `qid` is 0, or the queue isn't open.
  */
 uint32_t nvmearb_ctrl_set_class(nvmearb_ctrl *ctrl, uint16_t qid, uint16_t priority);
 
 /*
  * The host wrote the tail doorbell of a submission queue: `tail` is bits 15:00 of the value.
- * NVMEARB_ESTATE if `ctrl` isn't valid; otherwise NVMEARB_NONE if the queue isn't open or is closing (a write to an
- * invalid doorbell register); otherwise NVMEARB_EARG if the ring has no such slot, or hasn't as many free slots (an
- * invalid doorbell write value). A ring has one slot less of commands than it has slots.
+ * NVMEARB_NONE if the queue isn't open (a write to an invalid doorbell register). Otherwise NVMEARB_EARG if the ring has
+ * no such slot, or hasn't as many free slots (an invalid doorbell write value). A ring holds one command less than it has
+ * slots.
  * A value that the doorbell has already is accepted, here and of a head, though the specification lets a controller
  * report it as an invalid doorbell write value. So a device with shadow doorbells hands in what it reads there.
  */
@@ -852,25 +846,22 @@ uint32_t nvmearb_ctrl_sq_tail(nvmearb_ctrl *ctrl, uint16_t qid, uint16_t tail);
 
 /*
  * The host wrote the head doorbell of a completion queue: `head` is bits 15:00 of the value.
- * NVMEARB_ESTATE if `ctrl` isn't valid; otherwise NVMEARB_NONE if the queue isn't open; otherwise NVMEARB_EARG if the
- * ring has no such slot, or not as many completions were posted.
+ * NVMEARB_NONE if the queue isn't open; otherwise NVMEARB_EARG if the ring has no such slot, or not as many completions
+ * were posted.
  * The host has entries to read, for which a pin stays asserted, unless `head` is the slot after that of the last post.
  */
 uint32_t nvmearb_ctrl_cq_head(nvmearb_ctrl *ctrl, uint16_t cqid, uint16_t head);
 
 /*
  * Writes the slot of the ring of a submission queue whose entry is fetched next.
- * NVMEARB_ESTATE if `ctrl` isn't valid; otherwise NVMEARB_NONE if the queue isn't open, the host submitted no more, as
- * many of its commands hold a slot as its depth, as many wait as its ring has slots less 1, or 256, or no slot of `ctrl`
- * is free. A queue isn't open any more once its deletion began.
+ * NVMEARB_NONE if the queue isn't open, the host submitted no more, or no slot of `ctrl` is free. So too if as many of its
+ * commands hold a slot as its depth, or as many wait as its ring has slots less 1, or 256.
  */
 uint32_t nvmearb_ctrl_fetch(const nvmearb_ctrl *ctrl, uint16_t qid, uint16_t *slot);
 
 /*
- * The entry in the slot that nvmearb_ctrl_fetch tells was read: its command waits to be picked. `cookie` is kept with
- * it.
- * NVMEARB_ESTATE if `ctrl` isn't valid; otherwise NVMEARB_EARG if `count` isn't that of its making, here and in the calls
- * below; otherwise NVMEARB_NONE if nvmearb_ctrl_fetch tells none.
+ * The entry in the slot that nvmearb_ctrl_fetch tells was read: its command waits to be picked. `cookie` is kept with it.
+ * NVMEARB_NONE if nvmearb_ctrl_fetch tells none.
  */
 uint32_t nvmearb_ctrl_fetched(nvmearb_ctrl *ctrl, nvmearb_slot *slots, size_t count, uint16_t qid,
                               const uint8_t bytes[NVMEARB_SQE_BYTES], uint32_t cookie);
@@ -878,36 +869,35 @@ uint32_t nvmearb_ctrl_fetched(nvmearb_ctrl *ctrl, nvmearb_slot *slots, size_t co
 /*
  * Writes the pick that arbitration makes next of the commands that wait now, where there is room for all of it, whether
  * or not nvmearb_ctrl_pick can make it already.
- * NVMEARB_ESTATE if `ctrl` or its arbiter isn't valid; otherwise NVMEARB_EARG as nvmearb_ctrl_fetched; otherwise
  * NVMEARB_NONE if no command waits but in queues that are held.
  */
 uint32_t nvmearb_ctrl_peek(const nvmearb_ctrl *ctrl, const nvmearb_slot *slots, size_t count, nvmearb_pick *pick);
 
 /*
  * Makes the next pick of arbitration, and writes what it did. `room` says how many commands the device can take now; a
- * device without a bound passes NVMEARB_NO_LIMIT. The queue is the one that is picked with any room, and n the least of
- * the burst, what its class has left of its weight, what waits in the queue, and `room`: the burst is the most that may
- * be fetched at a time (Command Arbitration). The rest waits as nvmearb_arbiter_pick_up_to tells.
+ * device without a bound passes NVMEARB_NO_LIMIT. The queue is the one that is picked with any room. Its n is the least
+ * of the burst, what its class has left of its weight, what waits in the queue, and `room`. (The burst is the most that
+ * may be fetched at a time: Command Arbitration.) The rest waits as nvmearb_arbiter_pick_up_to tells.
  *
  * An admin command is picked alone, and wants a room of 1: where the device is full, nvmearb_ctrl_peek tells whether one
- * is next. One that isn't the device's is carried out at once: queues are created, a deletion begins and the waiting
- * commands of its queue are answered with 0/08, a waiting command is aborted with 0/07, features are set and told.
+ * is next. One that isn't the device's is carried out at once. A deletion answers the waiting commands of its queue with
+ * 0/08, and an Abort a waiting command with 0/07.
  *
- * NVMEARB_ESTATE, NVMEARB_EARG as nvmearb_ctrl_peek; otherwise NVMEARB_BUSY if commands are picked and not taken;
- * otherwise NVMEARB_NONE if no command waits but in queues that are held; otherwise NVMEARB_NOROOM if `room` is 0.
+ * NVMEARB_BUSY if commands are picked and not taken; otherwise NVMEARB_NONE if no command waits but in queues that are
+ * held; otherwise NVMEARB_NOROOM if `room` is 0.
  */
 uint32_t nvmearb_ctrl_pick(nvmearb_ctrl *ctrl, nvmearb_slot *slots, size_t count, uint16_t room, nvmearb_step *step);
 
 /*
  * The device takes the oldest of the commands that are picked and not taken: writes it.
- * NVMEARB_ESTATE, NVMEARB_EARG as nvmearb_ctrl_fetched; otherwise NVMEARB_NONE if all are taken.
+ * NVMEARB_NONE if all are taken.
  */
 uint32_t nvmearb_ctrl_take(nvmearb_ctrl *ctrl, nvmearb_slot *slots, size_t count, nvmearb_command *command);
 
 /*
  * The device completes a command, whose completion is ready then. `dw0` is Dword 0 of its completion.
- * NVMEARB_ESTATE, NVMEARB_EARG as nvmearb_ctrl_fetched; NVMEARB_EARG too if `status->sct` is above 7; otherwise
- * NVMEARB_NONE if the device has no command of this tag: none was taken under it, or the tag is used up.
+ * NVMEARB_EARG if `status->sct` is above 7; otherwise NVMEARB_NONE if the device has no command of this tag: none was
+ * taken under it, or the tag is used up.
  */
 uint32_t nvmearb_ctrl_complete(nvmearb_ctrl *ctrl, nvmearb_slot *slots, size_t count, uint32_t tag,
                                const nvmearb_status *status, uint32_t dw0);
@@ -921,26 +911,24 @@ uint32_t nvmearb_ctrl_complete_with(nvmearb_ctrl *ctrl, nvmearb_slot *slots, siz
 
 /*
  * Writes the completion that became ready first in the completion queue `cqid`, which goes into `slot` of its ring.
- * NVMEARB_ESTATE, NVMEARB_EARG as nvmearb_ctrl_fetched; otherwise NVMEARB_NONE if the queue isn't open, if none is
- * ready, or if the host has freed no slot of the ring.
+ * NVMEARB_NONE if the queue isn't open, if none is ready, or if the host has freed no slot of the ring.
  */
 uint32_t nvmearb_ctrl_post(nvmearb_ctrl *ctrl, nvmearb_slot *slots, size_t count, uint16_t cqid, nvmearb_post *post);
 
 /*
  * Finishes a deletion of a submission queue, all of whose commands have their completions posted, and writes its
  * identifier, which is free then. The completion of the Delete is ready then. Of several it is the first one by
- * identifier. From the pick of the Delete until here nothing is fetched or picked of the queue, the Delete isn't
- * answered, and a Delete of its completion queue is refused (1/0c, Invalid Queue Deletion): also one that came with it,
- * if this isn't done at once. What the device has of the queue may still be completed and posted. Other queues go on,
- * the admin queue among them, and further deletions may begin: each waits for the commands of its own queue.
- * NVMEARB_ESTATE, NVMEARB_EARG as nvmearb_ctrl_fetched; otherwise NVMEARB_NONE if of each queue that is being deleted a
- * command that was fetched has no completion posted yet.
+ * identifier. Until here nothing is fetched or picked of the queue, and the Delete isn't answered. A Delete of its
+ * completion queue is refused (1/0c, Invalid Queue Deletion): also one that came with it, if this isn't done at once. What
+ * the device has of the queue may still be completed and posted. Other queues go on, the admin queue among them, and
+ * further deletions may begin: each waits for the commands of its own queue.
+ * NVMEARB_NONE if of each queue that is being deleted a command that was fetched has no completion posted yet.
  */
 uint32_t nvmearb_ctrl_finish(nvmearb_ctrl *ctrl, nvmearb_slot *slots, size_t count, uint16_t *qid);
 
 /*
  * Writes the command of a tag once more.
- * NVMEARB_ESTATE, NVMEARB_EARG as nvmearb_ctrl_fetched; otherwise NVMEARB_NONE if the device has no command of this tag.
+ * NVMEARB_NONE if the device has no command of this tag.
  */
 uint32_t nvmearb_ctrl_command(const nvmearb_ctrl *ctrl, const nvmearb_slot *slots, size_t count, uint32_t tag,
                               nvmearb_command *command);
@@ -948,35 +936,33 @@ uint32_t nvmearb_ctrl_command(const nvmearb_ctrl *ctrl, const nvmearb_slot *slot
 /*
  * Writes the tag of the command with the identifier `cid`, of the submission queue `qid`, that the device has, so that
  * a device finds what an Abort names. If the host gave two of them one identifier, it is the tag of either.
- * NVMEARB_ESTATE, NVMEARB_EARG as nvmearb_ctrl_fetched; otherwise NVMEARB_NONE if the device has no such command: it
- * waits, say, or is completed.
+ * NVMEARB_NONE if the device has no such command: it waits, say, or is completed.
  */
 uint32_t nvmearb_ctrl_named(const nvmearb_ctrl *ctrl, const nvmearb_slot *slots, size_t count, uint16_t qid,
                             uint16_t cid, uint32_t *tag);
 
 /*
  * Whether a submission queue is open: writes the number of its region, which is `qid` where queues may lie anywhere.
- * NVMEARB_ESTATE if `ctrl` isn't valid; otherwise NVMEARB_NONE if the queue isn't open or is closing.
+ * NVMEARB_NONE if it isn't.
  */
 uint32_t nvmearb_ctrl_sq(const nvmearb_ctrl *ctrl, uint16_t qid, uint16_t *region);
 
 /*
  * Whether a completion queue is open: writes the number of its region, which is `cqid` where queues may lie anywhere.
- * NVMEARB_ESTATE if `ctrl` isn't valid; otherwise NVMEARB_NONE if the queue isn't open.
+ * NVMEARB_NONE if it isn't.
  */
 uint32_t nvmearb_ctrl_cq(const nvmearb_ctrl *ctrl, uint16_t cqid, uint16_t *region);
 
 /*
  * Writes how many commands of a submission queue were fetched and wait to be picked.
- * NVMEARB_ESTATE if `ctrl` isn't valid; otherwise NVMEARB_NONE if the queue isn't open or is closing.
+ * NVMEARB_NONE if the queue isn't open.
  */
 uint32_t nvmearb_ctrl_waiting(const nvmearb_ctrl *ctrl, uint16_t qid, uint16_t *count);
 
 /*
- * Writes the entry of a command that waits in a submission queue, and what the caller keeps with it: of the oldest, which
- * is picked first, if `n` is 0, of the next one if `n` is 1, and so on.
- * NVMEARB_ESTATE, NVMEARB_EARG as nvmearb_ctrl_fetched; otherwise NVMEARB_NONE if the queue isn't open or is closing, or
- * if at most `n` commands wait in it.
+ * Writes the entry of a command that waits in a submission queue, and what the caller keeps with it. `n` counts from 0,
+ * which is the oldest and picked first.
+ * NVMEARB_NONE if the queue isn't open, or if at most `n` commands wait in it.
  */
 uint32_t nvmearb_ctrl_waits(const nvmearb_ctrl *ctrl, const nvmearb_slot *slots, size_t count, uint16_t qid,
                             uint16_t n, nvmearb_sqe *entry, uint32_t *cookie);
@@ -985,24 +971,23 @@ uint32_t nvmearb_ctrl_waits(const nvmearb_ctrl *ctrl, const nvmearb_slot *slots,
  * Writes what the next pick is shown of a submission queue: its priority class, and how many of its commands wait, 0 if
  * it is held. An arbiter that is shown all open queues so makes the same pick. capi/examples/trace.c writes a trace by
  * it.
- * NVMEARB_ESTATE if `ctrl` isn't valid; otherwise NVMEARB_NONE if the queue isn't open or is closing.
+ * NVMEARB_NONE if the queue isn't open.
  */
 uint32_t nvmearb_ctrl_seen(const nvmearb_ctrl *ctrl, uint16_t qid, nvmearb_seen *seen);
 
 /*
- * Tests whether something was written into a controller or its slots by mistake. It looks at the arbiter, each head and
- * tail, each identifier of a queue or number of a slot that is used as one, how many commands are outstanding and picked,
- * and each chain of slots: that it has as many as it says, in the pool and used for it. So it takes as long as there are
- * slots, and is meant for tests, for what was restored, and for a call that answers what it shouldn't. What the library
- * wrote passes; not each mistake is found, such as another command in a slot, or another queue in the queue table.
- * NVMEARB_ESTATE if `ctrl` isn't valid, `count` isn't that of nvmearb_ctrl_init, or one of these numbers is out of
- * range.
+ * Tests whether something was written into a controller or its slots by mistake. It looks at the arbiter, heads and
+ * tails, and each identifier of a queue or number of a slot that is used as one. It looks at the numbers of outstanding
+ * and picked commands. Of each chain of slots it tests that it has as many as it says, in the pool and used for it. It is meant
+ * for tests, for what was restored, and for a call that answers what it shouldn't. What the library wrote passes; not
+ * each mistake is found, such as another command in a slot, or another queue in the queue table.
+ * NVMEARB_ESTATE if `ctrl` isn't valid, `count` isn't that of the making, or one of these numbers is out of range.
  */
 uint32_t nvmearb_ctrl_verify(const nvmearb_ctrl *ctrl, const nvmearb_slot *slots, size_t count);
 
 /*
- * Returns 1 if the library is the one of this header, of its version and with states of its sizes, and else 0, so also for
- * an unproved one (NVMEARB_UNPROVED). Make no other call of a library of another header.
+ * Returns 1 if the library is the one of this header, of its version and with states of its sizes. Else it returns 0, so
+ * also for an unproved one (NVMEARB_UNPROVED). Make no other call of a library of another header.
  */
 static inline int nvmearb_is_of_this_header(void)
 {
