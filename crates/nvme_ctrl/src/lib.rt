@@ -21,6 +21,7 @@ pub mod laws;
 mod lookups;
 mod making;
 mod marks;
+mod next_queue;
 mod outlook;
 mod own;
 mod picks;
