@@ -17,16 +17,17 @@
  *   3. nvmearb_ctrl_own_opcode and nvmearb_ctrl_own_feature for the admin commands that the device answers itself, such
  *      as Identify.
  *   4. At each doorbell write nvmearb_ctrl_sq_tail or nvmearb_ctrl_cq_head.
- *   5. For each queue, while nvmearb_ctrl_fetch tells a slot: read the entry there, and nvmearb_ctrl_fetched.
+ *   5. While nvmearb_ctrl_next_fetch tells a queue and a slot: read the entry there, and nvmearb_ctrl_fetched.
  *   6. While nvmearb_ctrl_take gives a command, execute it. Where it has none, nvmearb_ctrl_pick, and begin again,
  *      until that picks nothing either. At a step that created a queue, keep where it lies (nvmearb_asked).
  *   7. nvmearb_ctrl_complete, or nvmearb_ctrl_complete_with, for each command that ends, in any order and at any time.
- *   8. For each completion queue, while nvmearb_ctrl_post gives a completion: write its bytes into the slot of the
- *      ring, Dword 3 last, since it has the phase tag. Then send the interrupt of the queue's vector, if it is enabled.
+ *   8. While nvmearb_ctrl_next_to_post tells a completion queue, and while nvmearb_ctrl_post gives a completion of it:
+ *      write its bytes into the slot of the ring, Dword 3 last, since it has the phase tag. Then send the interrupt of
+ *      the queue's vector, if it is enabled.
  *   9. After a pick that began a deletion (NVMEARB_BEGIN_DELETE), nvmearb_ctrl_finish at once and after each 8., while
  *      it answers NVMEARB_OK.
- *  10. Go back to 5., for every queue, until a pass does nothing. Go back too once the device can take more commands
- *      than at its last pick, or no longer holds a queue (nvmearb_ctrl_hold).
+ *  10. Go back to 5. until a pass does nothing. Go back too once the device can take more commands than at its last
+ *      pick, or no longer holds a queue (nvmearb_ctrl_hold).
  *
  * What holds of all calls. Every function is proved (crates/nvme_capi), unless NVMEARB_UNPROVED says otherwise. None
  * allocates, waits, starts a thread or keeps a pointer, or reads or writes anything but what its arguments point to.
@@ -617,8 +618,8 @@ typedef struct nvmearb_slot {
  * The caller hands each call the array of slots that the controller was made with, and writes neither into it nor into
  * the controller. Whatever bytes lie there, a call reads and writes no more than it is given, and returns. If something
  * else wrote them, nothing more is promised of what it answers and writes; nvmearb_ctrl_verify finds some of that. The
- * caller reads no slot of a ring but the one that nvmearb_ctrl_fetch tells, and posts no completion but those of
- * nvmearb_ctrl_post. A ring has 64 or 16 bytes for each slot, from its address on.
+ * caller reads no slot of a ring but those that nvmearb_ctrl_fetch and nvmearb_ctrl_next_fetch tell, and posts no
+ * completion but those of nvmearb_ctrl_post. A ring has 64 or 16 bytes for each slot, from its address on.
  *
  * A submission queue is open until its deletion begins, and then closing until nvmearb_ctrl_finish finishes that.
  *
@@ -636,6 +637,7 @@ typedef struct nvmearb_slot {
  *   nvmearb_ctrl_pick of a Create or a Delete I/O Completion Queue       the regions and the open queues
  *   nvmearb_ctrl_add_sq_region, nvmearb_ctrl_add_cq_region               the regions
  *   nvmearb_ctrl_finish                                                  the identifiers up to the queue's
+ *   nvmearb_ctrl_next_fetch, nvmearb_ctrl_next_to_post                   the turns up to the queue's, 65 at most
  *
  * PC must be 1, and a ring has at most 4096 slots. So CAP.MQES is at most 4095, and CAP.CQR is 1. Commands without a
  * posted completion have no limit but the depths: a completion queue that its host doesn't read stops the submission
@@ -860,6 +862,18 @@ uint32_t nvmearb_ctrl_cq_head(nvmearb_ctrl *ctrl, uint16_t cqid, uint16_t head);
 uint32_t nvmearb_ctrl_fetch(const nvmearb_ctrl *ctrl, uint16_t qid, uint16_t *slot);
 
 /*
+ * Writes the next submission queue of which nvmearb_ctrl_fetch tells a slot, and that slot. Queues take turns by
+ * ascending identifier, 0 after NVMEARB_MAX_IO_QUEUES, beginning behind the one that `qid` names at the call. What is
+ * above NVMEARB_MAX_IO_QUEUES there counts as that, so that the admin queue has the first turn.
+ * Leave in `qid` what was written. Then with each call a queue that has an entry to fetch is told, or its turn comes
+ * nearer (law queues_take_turns, crates/nvme_ctrl): while it has some, it is told within NVMEARB_MAX_QUEUES calls.
+ * The rest of a queue that was told may be fetched by nvmearb_ctrl_fetch, which looks at no other. With fewer slots than
+ * the depths have together, fetch one entry for each call, so that queues share the free slots.
+ * NVMEARB_ESTATE if `ctrl` isn't valid; otherwise NVMEARB_NONE if nvmearb_ctrl_fetch tells a slot of no queue.
+ */
+uint32_t nvmearb_ctrl_next_fetch(const nvmearb_ctrl *ctrl, uint16_t *qid, uint16_t *slot);
+
+/*
  * The entry in the slot that nvmearb_ctrl_fetch tells was read: its command waits to be picked. `cookie` is kept with it.
  * NVMEARB_NONE if nvmearb_ctrl_fetch tells none.
  */
@@ -914,6 +928,13 @@ uint32_t nvmearb_ctrl_complete_with(nvmearb_ctrl *ctrl, nvmearb_slot *slots, siz
  * NVMEARB_NONE if the queue isn't open, if none is ready, or if the host has freed no slot of the ring.
  */
 uint32_t nvmearb_ctrl_post(nvmearb_ctrl *ctrl, nvmearb_slot *slots, size_t count, uint16_t cqid, nvmearb_post *post);
+
+/*
+ * Writes the next completion queue of which nvmearb_ctrl_post gives a completion. Queues take turns as those of
+ * nvmearb_ctrl_next_fetch, beginning behind the one that `cqid` names at the call, and by the same law.
+ * NVMEARB_ESTATE, NVMEARB_EARG as nvmearb_ctrl_fetched; otherwise NVMEARB_NONE if nvmearb_ctrl_post gives one of no queue.
+ */
+uint32_t nvmearb_ctrl_next_to_post(const nvmearb_ctrl *ctrl, const nvmearb_slot *slots, size_t count, uint16_t *cqid);
 
 /*
  * Finishes a deletion of a submission queue, all of whose commands have their completions posted, and writes its

@@ -17,17 +17,23 @@ void nvme_complete(struct nvme *d, uint32_t tag, nvmearb_status status, uint32_t
 
 /* ---- Rings ---- */
 
-static void fetch(struct nvme *d, uint16_t qid)
+/* CSTS.CFS: a ring isn't memory, say, and the device waits for a reset. */
+static int has_failed(const struct nvme *d)
 {
-    uint16_t slot;
+    return (d->state.registers[CSTS] & CFS) != 0;
+}
+
+/* Fetches what the host submitted to a queue, from this slot of its ring on. */
+static void fetch(struct nvme *d, uint16_t qid, uint16_t slot)
+{
     uint8_t bytes[NVMEARB_SQE_BYTES]; /* a copy: the host may write there */
-    while (nvmearb_ctrl_fetch(&d->state.ctrl, qid, &slot) == NVMEARB_OK) {
+    do {
         if (!copy(d, d->state.sqs[qid].address + slot * sizeof bytes, bytes, sizeof bytes, 0)) {
             d->state.registers[CSTS] |= CFS;
             return;
         }
         nvmearb_ctrl_fetched(&d->state.ctrl, d->state.slots, NVME_COMMANDS, qid, bytes, qid);
-    }
+    } while (nvmearb_ctrl_fetch(&d->state.ctrl, qid, &slot) == NVMEARB_OK);
 }
 
 /* Writes a completion into its slot, Dword 3 last. Returns 0 where that isn't memory. */
@@ -199,16 +205,18 @@ static void interrupt(struct nvme *d)
 
 void nvme_turn(struct nvme *d)
 {
-    uint16_t qid, gone;
+    nvmearb_ctrl *ctrl = &d->state.ctrl;
+    nvmearb_slot *slots = d->state.slots;
+    uint16_t qid = NVME_QUEUES, cqid = NVME_QUEUES, slot, gone; /* the queues behind, 0, have the first turns */
     nvme_stop(d);
-    for (int goes_on = 1; goes_on && !(d->state.registers[CSTS] & CFS);) {
-        for (qid = 0; qid <= NVME_QUEUES; qid++)
-            fetch(d, qid);
+    for (int goes_on = 1; goes_on && !has_failed(d);) {
+        while (!has_failed(d) && nvmearb_ctrl_next_fetch(ctrl, &qid, &slot) == NVMEARB_OK)
+            fetch(d, qid, slot);
         goes_on = work(d);
         nvme_tell_event(d);
-        for (qid = 0; qid <= NVME_QUEUES; qid++)
-            goes_on |= post(d, qid);
-        goes_on |= nvmearb_ctrl_finish(&d->state.ctrl, d->state.slots, NVME_COMMANDS, &gone) == NVMEARB_OK;
+        while (!has_failed(d) && nvmearb_ctrl_next_to_post(ctrl, slots, NVME_COMMANDS, &cqid) == NVMEARB_OK)
+            goes_on |= post(d, cqid);
+        goes_on |= nvmearb_ctrl_finish(ctrl, slots, NVME_COMMANDS, &gone) == NVMEARB_OK;
     }
     interrupt(d);
 }

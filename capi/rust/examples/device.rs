@@ -64,9 +64,9 @@ impl Device {
         }
     }
 
-    /// Fetches what the host submitted to a queue.
-    fn fetch(&mut self, qid: u16) {
-        while let Some(slot) = self.ctrl.fetch(qid) {
+    /// Fetches what the host submitted.
+    fn fetch(&mut self) {
+        while let Some((qid, slot)) = self.ctrl.to_fetch().next() {
             let mut bytes = [0; SQE_BYTES]; // a copy: the host may write there
             let at = place(self.sqs[usize::from(qid)], slot, SQE_BYTES);
             match at.and_then(|at| self.memory.get(at)) {
@@ -129,10 +129,10 @@ impl Device {
         did
     }
 
-    /// Writes the completions of a completion queue, and would send the interrupt.
-    fn post(&mut self, cqid: u16) -> bool {
+    /// Writes the completions that can be posted, and would send the interrupts.
+    fn post(&mut self) -> bool {
         let mut did = false;
-        while let Some(post) = self.ctrl.post(cqid) {
+        for (cqid, post) in self.ctrl.posts() {
             did = true;
             let at = place(self.cqs[usize::from(cqid)], post.slot, CQE_BYTES);
             let entry = match at.and_then(|at| self.memory.get_mut(at)) {
@@ -149,13 +149,11 @@ impl Device {
         did
     }
 
-    /// A pass over all queues: picks make room for fetches, posts for picks, and the end of a deletion for both.
+    /// A pass over the queues with work: picks make room for fetches, posts for picks, and the end of a deletion for both.
     fn pass(&mut self) -> bool {
-        self.fetch(0);
-        self.fetch(1);
+        self.fetch();
         let mut did = self.work();
-        did |= self.post(0);
-        did |= self.post(1);
+        did |= self.post();
         did | self.ctrl.finish().is_some()
     }
 

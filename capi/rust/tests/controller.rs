@@ -280,6 +280,79 @@ fn deletion_waits_for_its_commands() {
     assert_eq!(ctrl.finish(), None);
 }
 
+/// A controller with three submission queues. Queues 1 and 3 post to completion queue 1, and 2 to 2.
+fn with_three_queues() -> Controller {
+    let mut ctrl = prepared(Mechanism::Weighted);
+    assert_eq!((ctrl.add_sq_region(0x5000, 4), ctrl.add_sq_region(0x6000, 4)), (Ok(2), Ok(3)));
+    assert_eq!((ctrl.add_cq_region(0x7000, 4), ctrl.sq_tail(0, 5)), (Ok(2), Ok(())));
+    fetched(&mut ctrl, 0, 2, admin(CREATE_CQ, 12, 0x7000, 0x0003_0002, 0x0000_0001));
+    fetched(&mut ctrl, 0, 3, admin(CREATE_SQ, 13, 0x5000, 0x0003_0002, 0x0002_0001));
+    fetched(&mut ctrl, 0, 4, admin(CREATE_SQ, 14, 0x6000, 0x0003_0003, 0x0001_0001));
+    for cid in 12..15 {
+        assert_ne!(carried_out(&mut ctrl), Verdict::Done);
+        posted(&mut ctrl, 0, (cid - 10, 5, cid, true, Status::SUCCESS, 0));
+    }
+    assert_eq!(ctrl.cq_head(0, 5), Ok(()));
+    ctrl
+}
+
+/// So with two Reads of queue 1, two of queue 2 and one of queue 3, which are fetched in turn. The device ended them.
+fn with_five_served() -> Controller {
+    let mut ctrl = with_three_queues();
+    for (qid, tail) in [(1, 2), (2, 2), (3, 1)] {
+        assert_eq!(ctrl.sq_tail(qid, tail), Ok(()));
+    }
+    assert_eq!(ctrl.to_fetch().collect::<Vec<_>>(), [(1, 0), (2, 0), (3, 0)]);
+    let mut last = 64;
+    for (cid, (qid, slot)) in (20..).zip([(1, 0), (2, 0), (3, 0), (1, 1), (2, 1)]) {
+        assert_eq!(ctrl.next_fetch(last), Some((qid, slot)));
+        fetched(&mut ctrl, qid, slot, read(cid));
+        last = qid;
+    }
+    assert_eq!((ctrl.next_fetch(last), ctrl.to_fetch().next()), (None, None));
+    while ctrl.pick(NO_LIMIT).unwrap().made().is_some() {
+        while let Some(command) = ctrl.take() {
+            assert_eq!(ctrl.complete(command.tag, Status::SUCCESS, 0), Ok(()));
+        }
+    }
+    ctrl
+}
+
+#[test]
+fn queues_take_turns() {
+    let mut ctrl = with_five_served();
+    let mut last = 64;
+    for (cqid, slot) in [(1, 0), (2, 0), (1, 1), (2, 1), (1, 2)] {
+        assert_eq!(ctrl.next_to_post(last), Some(cqid));
+        assert_eq!(ctrl.post(cqid).map(|post| post.slot), Some(slot));
+        last = cqid;
+    }
+    for last in [0, 1, 2, 64, 65, u16::MAX] {
+        assert_eq!((ctrl.next_fetch(last), ctrl.next_to_post(last)), (None, None));
+    }
+}
+
+#[test]
+fn completions_of_one_queue_come_together() {
+    let mut ctrl = with_five_served();
+    let posts: Vec<_> = ctrl.posts().map(|(cqid, post)| (cqid, post.slot)).collect();
+    assert_eq!(posts, [(1, 0), (1, 1), (1, 2), (2, 0), (2, 1)]);
+    assert_eq!(ctrl.next_to_post(64), None);
+}
+
+#[test]
+fn deleted_queue_has_no_turn() {
+    let mut ctrl = with_three_queues();
+    assert_eq!((ctrl.sq_tail(2, 2), ctrl.sq_tail(3, 1), ctrl.sq_tail(0, 6)), (Ok(()), Ok(()), Ok(())));
+    fetched(&mut ctrl, 2, 0, read(30));
+    assert_eq!((ctrl.next_fetch(1), ctrl.next_fetch(2)), (Some((2, 1)), Some((3, 0))));
+    fetched(&mut ctrl, 0, 5, admin(DELETE_SQ, 15, 0, 2, 0));
+    assert_eq!(carried_out(&mut ctrl), Verdict::BeginDelete { qid: 2 });
+    assert_eq!((ctrl.next_fetch(1), ctrl.next_fetch(3)), (Some((3, 0)), Some((3, 0))));
+    assert_eq!(ctrl.posts().map(|(cqid, _)| cqid).collect::<Vec<_>>(), [2]);
+    assert_eq!((ctrl.next_to_post(2), ctrl.finish(), ctrl.next_to_post(2)), (None, Some(2), Some(0)));
+}
+
 #[test]
 fn reset_leaves_nothing_of_before() {
     let mut ctrl = prepared(Mechanism::Weighted);

@@ -115,7 +115,11 @@ impl Driven {
     }
 
     fn post(&mut self, cqid: u16) {
-        if let Some(post) = self.ctrl.post(cqid) {
+        // behind the queue before it, it has the first turn
+        let is_due = self.ctrl.next_to_post(cqid.wrapping_sub(1)) == Some(cqid);
+        let post = self.ctrl.post(cqid);
+        assert_eq!(post.is_some(), is_due);
+        if let Some(post) = post {
             let entry = self.open.remove(&post.cookie).expect("its command has no other completion");
             let mut bytes = post.bytes;
             bytes[15] &= 0x3f; // without its marks
@@ -158,6 +162,8 @@ impl Driven {
                 assert!(self.ctrl.named(b % 3, b).map_or(true, |tag| self.ctrl.command(tag).is_some()));
             }
             _ => {
+                let mut turns = (1..=65).map(|turn| (a.min(64) + turn) % 65);
+                assert_eq!(self.ctrl.next_fetch(a), turns.find_map(|qid| Some((qid, self.ctrl.fetch(qid)?))));
                 self.ctrl.finish();
                 let tag = self.tag(drawn);
                 let (command, queue) = (self.ctrl.command(tag), (self.ctrl.sq(a), self.ctrl.cq(a)));

@@ -7,6 +7,7 @@ mod holds;
 mod lookups;
 mod making;
 mod marks;
+mod next_queue;
 mod rings;
 mod state;
 mod verify;

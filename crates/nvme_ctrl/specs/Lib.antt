@@ -14,6 +14,7 @@ pub mod inside
 pub mod Standing
 pub mod Calls
 pub mod Posts
+pub mod NextQueue
 pub mod Steps
 pub mod Making
 pub mod Ranges

@@ -1,6 +1,6 @@
 // The commands that the device takes, and its answers. (tags: profile)
 use crate::marks::{Marks, bit};
-use crate::slot::{ANSWERED, OUT, Slot, put_item, slot_at};
+use crate::slot::{ANSWERED, OUT, Slot, put_item, put_out, slot_at};
 use crate::state::Controller;
 use nvme_entry::Status;
 
@@ -45,17 +45,7 @@ impl Controller {
         let mut sq = self.sq(qid);
         let tag = sq.window.pop(slots)?;
         self.put_sq(qid, sq);
-        let slot = slot_at(slots, tag);
-        let generation = slot.generation.wrapping_add(1);
-        put_item(
-            slots,
-            tag,
-            Slot {
-                state: OUT,
-                generation,
-                ..slot
-            },
-        );
+        put_out(slots, tag);
         self.picked -= 1;
         Some(tag)
     }

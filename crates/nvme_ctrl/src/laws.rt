@@ -18,6 +18,7 @@ ghost use Rattle.nvme_ctrl.specs.StepCounts.{StepsAreFew, steps};
 ghost use Rattle.nvme_ctrl.specs.Depths.{DepthsSuffice, DepthsLeaveRoom, HeldWaitOrAreUnposted};
 ghost use Rattle.nvme_ctrl.specs.Progress.{IsWithDevice, NoneWaitDeleted, ServedAwait, UnfetchedAwait, WaitingAwait, WaitsForHost, WaitsForQueue};
 ghost use Rattle.nvme_ctrl.specs.Laws.{ControllersKeepAccounts, RegionsLeaveAccounts, EventsAreAccounted, SlotsAreFetchedInOrder, CompletionsFollowAnswers, OneCompletionEach, SlotsAreFree, CompletionsTellTheHead, DeletesAreAnsweredLast, NoneFetchedAfterDeletion, NonePickedAfterDeletion, PicksAreLawful, TagsAreApart, ObservedAsInTheLog, SeenOneByOne, HeldQueuesWait, HeldQueuesWaitUntilTold, FewHoldSlots};
+ghost use Rattle.nvme_ctrl.specs.NextQueue.{FetchesTakeTurns, PostsTakeTurns};
 
 /// The log at which a controller stands is an account, where no region was added late: after a Create that named its
 /// address was picked. So all that follows holds of it.
@@ -364,4 +365,11 @@ pub fn worked_tags()
     ensures current { slot_of taken_thrice (record { slot = 0; generation = 3 }) ≡ Some 0 }
     ensures used_up { slot_of taken_thrice (record { slot = 0; generation = 2 }) ≡ None }
     ensures later { slot_of taken_thrice (record { slot = 0; generation = 4 }) ≡ None }
+{}
+
+/// A queue that has work comes within 65 calls of `next_fetch`, or of `next_to_post`, each of which is told what the one
+/// before it told: each that tells another queue brings its turn nearer. (profile)
+pub fn queues_take_turns()
+    ensures fetches { FetchesTakeTurns }
+    ensures posts { PostsTakeTurns }
 {}

@@ -1,6 +1,6 @@
 // The posts of a controller. (Base Specification, Completion Queue Entry, Phase Tag)
 use crate::marks::Marks;
-use crate::slot::{DROPPED, FREE, Slot, put_item, slot_at};
+use crate::slot::{DROPPED, Slot, put_free, slot_at};
 use crate::state::{Controller, CqState};
 use nvme_entry::{Cqe, Status};
 
@@ -121,14 +121,7 @@ impl Controller {
         cq.write();
         self.put_cq(cqid, cq);
         self.count_post(&command);
-        put_item(
-            slots,
-            post.tag,
-            Slot {
-                state: FREE,
-                ..command
-            },
-        );
+        put_free(slots, post.tag);
         self.free.push(slots, post.tag);
         Some(post)
     }

@@ -1,5 +1,5 @@
 // The slots of a pool, each of which holds a command from its fetch until its completion is posted.
-ghost use Rattle.std.specs.Prelude.{◌≡◌, slice_set};
+ghost use Rattle.std.specs.Prelude.{◌≡◌, ◌+◌, ◌%◌, slice_set};
 ghost use Rattle.nvme_ctrl.specs.kept.Pool.{slot_at, put_next, put_item};
 
 use crate::marks::Marks;
@@ -122,8 +122,10 @@ fn put(slots: &mut [Slot], x: u16, slot: Slot)
 pub fn put_next(slots: &mut [Slot], x: u16, next: u16)
     ensures { slots.new ≡ put_next slots.old x next }
 {
-    let slot = slot_at(slots, x);
-    put(slots, x, Slot { next, ..slot });
+    let x = usize::from(x);
+    if x < slots.len() {
+        slots[x].next = next;
+    }
 }
 
 /// Puts something else into a slot, and leaves its link.
@@ -132,4 +134,26 @@ pub fn put_item(slots: &mut [Slot], x: u16, slot: Slot)
 {
     let next = slot_at(slots, x).next;
     put(slots, x, Slot { next, ..slot });
+}
+
+/// The slot is free, and holds what it held.
+pub fn put_free(slots: &mut [Slot], x: u16)
+    ensures { slots.new ≡ put_item slots.old x (record (slot_at slots.old x) { state = 0 }) }
+{
+    let x = usize::from(x);
+    if x < slots.len() {
+        slots[x].state = FREE;
+    }
+}
+
+/// The device has the command of the slot, whose generation is the next.
+pub fn put_out(slots: &mut [Slot], x: u16)
+    ensures { slots.new ≡ put_item slots.old x (record (slot_at slots.old x) { state = 2; generation = ((slot_at slots.old x).generation + 1) % 65536 }) }
+{
+    let x = usize::from(x);
+    if x < slots.len() {
+        let slot = &mut slots[x];
+        slot.state = OUT;
+        slot.generation = slot.generation.wrapping_add(1);
+    }
 }

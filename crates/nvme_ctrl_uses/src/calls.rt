@@ -314,6 +314,11 @@ fn fill(rt: &impl Abort, ctrl: &mut Controller, slots: &mut [Slot], cid: u16)
     tail(rt, ctrl, slots, 1, 4, false);
     tail(rt, ctrl, slots, 1, 3, true);
     tail(rt, ctrl, slots, 1, 0, false);
+    // (queue 1 has the next turn, whichever had the last one)
+    assert_eq!(rt;
+        (ctrl.next_fetch(0), ctrl.next_fetch(1)),
+        (Some((1, 0)), Some((1, 0)))
+    );
     fetch(rt, ctrl, slots, 1, 0, &read(cid));
     fetch(rt, ctrl, slots, 1, 1, &read(cid + 1));
     fetch(rt, ctrl, slots, 1, 2, &read(cid + 2));
@@ -344,7 +349,9 @@ fn device_answers_in_any_order(rt: HostRuntime) -> Result<(), Fail> {
         return Err(Fail::from(AllocError));
     };
     let [first, second, third] = tags;
+    assert_eq!(rt; ctrl.next_to_post(&slots, 64), None);
     assert!(rt; complete(&mut ctrl, &mut slots, third, DONE));
+    assert_eq!(rt; ctrl.next_to_post(&slots, 1), Some(1));
     // (and once)
     assert!(rt; !complete(&mut ctrl, &mut slots, third, DONE));
     assert!(rt; complete(&mut ctrl, &mut slots, first, DONE));

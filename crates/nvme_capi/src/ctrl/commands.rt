@@ -14,7 +14,8 @@ ghost use Rattle.nvme_ctrl.specs.Generations.{SameGenerations, IsNextGeneration,
 ghost use Rattle.nvme_ctrl.specs.declared.tag.Tag.{Tag};
 ghost use Rattle.nvme_ctrl.specs.Calls.{depths_of, HasTaken, HasAnswered};
 ghost use Rattle.nvme_ctrl.specs.Steps.{IsNextPick, IsBusy, HasStepped, IsFinishableAt, NoneFinishable, HasFinished};
-ghost use Rattle.nvme_ctrl.specs.Posts.{NonePostable};
+ghost use Rattle.nvme_ctrl.specs.Posts.{NonePostable, next_post_of};
+ghost use Rattle.nvme_ctrl.specs.NextQueue.{HasPost};
 ghost use Rattle.nvme_ctrl.specs.declared.picks.Step.TheVariants as made;
 ghost use Rattle.nvme_capi.specs.States.{pick_of_fields};
 ghost use Rattle.nvme_capi.specs.Tables.{plain_answer};
@@ -364,6 +365,8 @@ pub extern "C" fn nvmearb_ctrl_post(
     ensures bad_argument { (result ≡ BAD_ARGUMENT) ↔ (IsTrue (is_ctrl state.old) × IsFalse (has_slots state.old slots.old)) }
     ensures answer { (result ≡ OK) ⊎ ((result ≡ NOTHING) ⊎ ((result ≡ BAD_ARGUMENT) ⊎ (result ≡ BAD_STATE))) }
     ensures nothing { (rules : FrontRules) (late : Bool) (notes : Notes) → Stands rules late notes state.old.ctrl slots.old → result ≡ NOTHING → (x : ℕ) → open_cq (logged notes) cqid ≡ Some x → NonePostable rules notes x }
+    ensures due { result ≡ OK → HasPost state.old.ctrl slots.old cqid }
+    ensures none_due { result ≡ NOTHING → next_post_of state.old.ctrl slots.old cqid ≡ None }
     ensures stands { (rules : FrontRules) (late : Bool) (notes : Notes) → Stands rules late notes state.old.ctrl slots.old → result ≡ OK → HasPostedBytes rules late notes cqid post.new state.new.ctrl slots.new }
     ensures command { result ≡ OK → IsPostIn slots.old post.new }
     ensures generations { SameGenerations slots.old slots.new }

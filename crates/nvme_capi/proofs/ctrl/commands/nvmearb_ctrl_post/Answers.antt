@@ -1,4 +1,4 @@
-use Rattle.std.proofs.Common.{◌∙◌, ℕ, sym, subst, refl}
+use Rattle.std.proofs.Common.{◌≡◌, ◌∙◌, ℕ, None, Some, sym, subst, refl}
 use Rattle.nvme_ctrl.specs.Calls.{HasPosted}
 use Rattle.nvme_capi.proofs.ctrl.commands.nvmearb_ctrl_post.Goals as goal
 
@@ -11,6 +11,14 @@ returns-in-Some-clause-stands c = λ rules late notes s _. record {
       (subst (λ (kept : ℕ). HasPosted rules late notes c.args.cqid c.in-Some.it.slot c.in-Some.it.cqe kept c.in-Some.it.marks c.post.new.self c.post.new.slots) (sym c.fields_of_post.ensures.cookie)
       (c.in-Some.ensures.stands rules late notes s));
 }
+
+pub returns-in-Some-clause-due : goal.returns-in-Some-clause-due
+returns-in-Some-clause-due c = λ _ none.
+    let lost : None ≡ Some c.in-Some.it = sym none ∙ sym c.post.ensures.value ∙ c.in-Some.is in
+    cc lost
+
+pub returns-in-None-clause-none_due : goal.returns-in-None-clause-none_due
+returns-in-None-clause-none_due c = λ _. sym c.post.ensures.value ∙ c.in-None.is
 
 pub returns-in-None-clause-nothing : goal.returns-in-None-clause-nothing
 returns-in-None-clause-nothing c = λ rules late notes s _ x is_open. c.post.ensures.told rules late notes s c.in-None.is x is_open
