@@ -714,7 +714,7 @@ typedef struct nvmearb_command {
 #define NVMEARB_SLOT_OF(tag) ((tag) & 0xffffu)
 
 /*
- * The marks of a completion, beside its status: bits 31 and 30 of Dword 3. A host that finds Do Not Retry
+ * The status flags of a completion: bits 31 and 30 of Dword 3. A host that finds Do Not Retry
  * doesn't submit the same command again; without it Linux submits a failing Read six times. What a controller answers
  * itself has Do Not Retry for the statuses 0/01, 0/02, 0/0c, 0/13, 1/00, 1/01, 1/02, 1/08 and 1/0d, for no other, and
  * never More.
@@ -917,11 +917,11 @@ uint32_t nvmearb_ctrl_complete(nvmearb_ctrl *ctrl, nvmearb_slot *slots, size_t c
                                const nvmearb_status *status, uint32_t dw0);
 
 /*
- * The device completes a command, with marks: NVMEARB_DNR, NVMEARB_MORE, both or 0. nvmearb_ctrl_complete gives none.
- * Otherwise as nvmearb_ctrl_complete; NVMEARB_EARG too if `marks` has another bit.
+ * The device completes a command, with flags: NVMEARB_DNR, NVMEARB_MORE, both or 0. nvmearb_ctrl_complete gives none.
+ * Otherwise as nvmearb_ctrl_complete; NVMEARB_EARG too if `flags` has another bit.
  */
 uint32_t nvmearb_ctrl_complete_with(nvmearb_ctrl *ctrl, nvmearb_slot *slots, size_t count, uint32_t tag,
-                                    const nvmearb_status *status, uint32_t dw0, uint8_t marks);
+                                    const nvmearb_status *status, uint32_t dw0, uint8_t flags);
 
 /*
  * Writes the completion that became ready first in the completion queue `cqid`, which goes into `slot` of its ring.

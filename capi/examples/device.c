@@ -120,8 +120,8 @@ static int work(struct device *d)
         keep(d, &step);
         while (nvmearb_ctrl_take(&d->ctrl, d->slots, COMMANDS, &command) == NVMEARB_OK) {
             nvmearb_status status = execute(d, &command.entry);
-            uint8_t marks = status.sct || status.sc ? NVMEARB_DNR : 0; /* what fails here would fail again */
-            nvmearb_ctrl_complete_with(&d->ctrl, d->slots, COMMANDS, command.tag, &status, 0, marks);
+            uint8_t flags = status.sct || status.sc ? NVMEARB_DNR : 0; /* what fails here would fail again */
+            nvmearb_ctrl_complete_with(&d->ctrl, d->slots, COMMANDS, command.tag, &status, 0, flags);
         }
         nvmearb_ctrl_finish(&d->ctrl, d->slots, COMMANDS, &gone); /* of an empty queue, before its completion queue's */
     }
@@ -192,7 +192,7 @@ static int collect(struct pair *pair, uint16_t cid)
     nvmearb_cqe done;
     uint8_t bytes[NVMEARB_CQE_BYTES];
     memcpy(bytes, memory + cq_address[pair->qid] + pair->head * NVMEARB_CQE_BYTES, sizeof bytes);
-    bytes[15] &= 0x0f; /* without its marks */
+    bytes[15] &= 0x0f; /* without its flags */
     if (nvmearb_cqe_decode(bytes, &done) != NVMEARB_OK || done.phase != pair->phase || done.cid != cid ||
         done.sqhd != pair->tail)
         return -1;

@@ -11,8 +11,8 @@ static int copy(struct nvme *d, uint64_t address, void *bytes, size_t length, in
 
 void nvme_complete(struct nvme *d, uint32_t tag, nvmearb_status status, uint32_t dw0)
 {
-    uint8_t marks = nvme_is_error(status) ? NVMEARB_DNR : 0; /* none of the device's errors goes away by itself */
-    nvmearb_ctrl_complete_with(&d->state.ctrl, d->state.slots, NVME_COMMANDS, tag, &status, dw0, marks);
+    uint8_t flags = nvme_is_error(status) ? NVMEARB_DNR : 0; /* none of the device's errors goes away by itself */
+    nvmearb_ctrl_complete_with(&d->state.ctrl, d->state.slots, NVME_COMMANDS, tag, &status, dw0, flags);
 }
 
 /* ---- Rings ---- */

@@ -380,8 +380,8 @@ static void random_states(void)
     CHECK(wrong == 0);
 }
 
-/* A device gives each of the four marks, and no other. The controller marks what no retry changes. */
-static void marks(void)
+/* A device gives each of the four flags, and no other. The controller flags what no retry changes. */
+static void flags(void)
 {
     nvmearb_status unread = {NVMEARB_SCT_MEDIA, NVMEARB_SC_UNRECOVERED_READ_ERROR};
     nvmearb_status used = {NVMEARB_SCT_COMMAND_SPECIFIC, NVMEARB_SC_INVALID_QUEUE_DELETION};
@@ -585,7 +585,7 @@ int main(void)
     two_deletions();
     depths_and_slots();
     wrong_depths();
-    marks();
+    flags();
     own_opcodes();
     own_features();
     own_aborts();

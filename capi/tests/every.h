@@ -13,7 +13,7 @@ struct call {
     uint16_t a, b; /* (NEXT_FETCH and NEXT_TO_POST take a queue from `a`, and write one there) */
     uint32_t tag, dw0;
     nvmearb_status status;
-    uint8_t marks;
+    uint8_t flags;
     uint8_t bytes[NVMEARB_SQE_BYTES];
     /* what it writes */
     uint16_t number;
@@ -46,7 +46,7 @@ static inline uint32_t made(struct call *it, unsigned which)
     case SET_DEPTH:
         return nvmearb_ctrl_set_depth(it->ctrl, it->a, it->b);
     case HOLD:
-        return nvmearb_ctrl_hold(it->ctrl, it->a, it->marks);
+        return nvmearb_ctrl_hold(it->ctrl, it->a, it->flags);
     case SET_CLASS:
         return nvmearb_ctrl_set_class(it->ctrl, it->a, it->b);
     case SQ_TAIL:
@@ -88,7 +88,7 @@ static inline uint32_t made(struct call *it, unsigned which)
     case NEXT_TO_POST:
         return nvmearb_ctrl_next_to_post(it->ctrl, it->slots, it->count, &it->a);
     default:
-        return nvmearb_ctrl_complete_with(it->ctrl, it->slots, it->count, it->tag, &it->status, it->dw0, it->marks);
+        return nvmearb_ctrl_complete_with(it->ctrl, it->slots, it->count, it->tag, &it->status, it->dw0, it->flags);
     }
 }
 
@@ -119,7 +119,7 @@ static inline unsigned draw_call(uint64_t *state, struct call *it)
     it->b = word >> 60 ? (uint16_t)(word >> 32) % SLOTS : (uint16_t)(word >> 32);
     it->count = (word >> 55 & 31) ? it->count : (size_t)(word >> 32); /* (where it is another, no slot is looked at) */
     it->status.sct = (uint8_t)(word >> 40) % 9;
-    it->marks = (uint8_t)(word >> 48) % 5;
+    it->flags = (uint8_t)(word >> 48) % 5;
     if (which == ADD_SQ || which == ADD_CQ)
         it->b = word & 8 ? 4 : it->b; /* (the rings that Creates name) */
     draw_entry(state, it->bytes);

@@ -209,10 +209,10 @@ class Controller:
         self, tag: int, status: Status = Status(), dw0: int = 0, do_not_retry: bool = False, more: bool = False
     ) -> None:
         """The device completes a command, whose completion is ready then. Refused where it has none under this tag."""
-        marks = do_not_retry + 2 * more
+        flags = do_not_retry + 2 * more
         in_range(8, sct=status.sct, sc=status.sc)
         fields = StatusFields(*status)
-        checked(self._call("complete_with", u32(tag=tag), byref(fields), u32(dw0=dw0), u8(marks=marks)))
+        checked(self._call("complete_with", u32(tag=tag), byref(fields), u32(dw0=dw0), u8(flags=flags)))
 
     def post(self, cqid: int) -> Optional[Post]:
         """The completion that became ready first in a completion queue, if it has room for it."""

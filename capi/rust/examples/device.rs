@@ -3,9 +3,9 @@
 //! namespace. It serves the admin queues and one I/O queue pair. The host is at the bottom.
 use nvmearb::{admin_opcode, io_opcode};
 use nvmearb::{
-    Answer, Asked, Config, Controller, Cqe, DoorbellError, Error, Marks, Mechanism, Placement, Region, Slot,
+    Answer, Asked, Config, Controller, Cqe, DoorbellError, Error, Mechanism, Placement, Region, Slot,
 };
-use nvmearb::{Sqe, Status, Step, Verdict, CQE_BYTES, NO_LIMIT, SQE_BYTES};
+use nvmearb::{Sqe, Status, StatusFlags, Step, Verdict, CQE_BYTES, NO_LIMIT, SQE_BYTES};
 
 /// The slots of each ring.
 const RING: u16 = 8;
@@ -122,8 +122,8 @@ impl Device {
             while let Some(command) = self.ctrl.take() {
                 let status = self.execute(&command.entry);
                 // (what fails here would fail again)
-                let marks = if status == Status::SUCCESS { Marks::default() } else { Marks::DO_NOT_RETRY };
-                self.ctrl.complete_with(command.tag, status, 0, marks).expect("the command was taken");
+                let flags = if status == Status::SUCCESS { StatusFlags::default() } else { StatusFlags::DO_NOT_RETRY };
+                self.ctrl.complete_with(command.tag, status, 0, flags).expect("the command was taken");
             }
         }
         did
@@ -190,7 +190,7 @@ impl Pair {
         device.ring(2 * self.qid, self.tail.into()).expect("the ring has room");
         let at = place(cq, self.head, CQE_BYTES).expect("the ring is in memory");
         let mut bytes: [u8; CQE_BYTES] = device.memory[at].try_into().expect("a slot");
-        bytes[15] &= 0x0f; // without its marks
+        bytes[15] &= 0x0f; // without its flags
         let done = Cqe::from_bytes(&bytes).expect("a completion");
         assert_eq!((done.phase, done.cid, done.sqhd), (self.phase, entry.cid, self.tail));
         self.head = (self.head + 1) % RING;

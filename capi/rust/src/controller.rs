@@ -104,18 +104,18 @@ impl Command {
     }
 }
 
-/// The marks of a completion, beside its status. By default it has neither.
+/// The flags of a completion, beside its status. By default it has neither.
 #[derive(Clone, Copy, Debug, Default, PartialEq, Eq, Hash)]
-pub struct Marks {
+pub struct StatusFlags {
     /// More: the Error Information log page has more of the command.
     pub more: bool,
     /// Do Not Retry: the same command would fail again. Without it Linux submits a failing Read six times.
     pub do_not_retry: bool,
 }
 
-impl Marks {
+impl StatusFlags {
     /// Do Not Retry alone.
-    pub const DO_NOT_RETRY: Marks = Marks { more: false, do_not_retry: true };
+    pub const DO_NOT_RETRY: StatusFlags = StatusFlags { more: false, do_not_retry: true };
 
     fn number(self) -> u8 {
         u8::from(self.do_not_retry) * sys::NVMEARB_DNR + u8::from(self.more) * sys::NVMEARB_MORE
@@ -143,10 +143,10 @@ impl Post {
         Post { bytes, cookie, tag: Tag(tag), slot }
     }
 
-    /// Its marks: those that the device gave, or for what the controller answers itself Do Not Retry where a retry
+    /// Its flags: those that the device gave, or for what the controller answers itself Do Not Retry where a retry
     /// can't change the status.
-    pub fn marks(&self) -> Marks {
-        Marks { more: self.bytes[15] & 0x40 != 0, do_not_retry: self.bytes[15] & 0x80 != 0 }
+    pub fn flags(&self) -> StatusFlags {
+        StatusFlags { more: self.bytes[15] & 0x40 != 0, do_not_retry: self.bytes[15] & 0x80 != 0 }
     }
 }
 
@@ -467,14 +467,14 @@ impl<S: Slots> Controller<S> {
         checked(unsafe { sys::nvmearb_ctrl_complete(ctrl, slots, count, tag.0, &status.fields(), dw0) })
     }
 
-    /// The device completes a command, with marks; [`Controller::complete`] gives it none.
+    /// The device completes a command, with flags; [`Controller::complete`] gives it none.
     ///
     /// [`Error::Missing`]: as [`Controller::complete`].
-    pub fn complete_with(&mut self, tag: Tag, status: Status, dw0: u32, marks: Marks) -> Result<(), Error> {
+    pub fn complete_with(&mut self, tag: Tag, status: Status, dw0: u32, flags: StatusFlags) -> Result<(), Error> {
         let (ctrl, slots, count) = self.parts();
-        let (status, marks) = (status.fields(), marks.number());
+        let (status, flags) = (status.fields(), flags.number());
         // SAFETY: references, and the slots are those of the state.
-        checked(unsafe { sys::nvmearb_ctrl_complete_with(ctrl, slots, count, tag.0, &status, dw0, marks) })
+        checked(unsafe { sys::nvmearb_ctrl_complete_with(ctrl, slots, count, tag.0, &status, dw0, flags) })
     }
 
     /// The completion that became ready first in the completion queue `cqid`. None if the queue isn't open, if none is

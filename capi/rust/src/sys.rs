@@ -477,7 +477,7 @@ extern "C" {
     pub fn nvmearb_ctrl_pick(ctrl: *mut nvmearb_ctrl, slots: *mut nvmearb_slot, count: usize, room: u16, step: *mut nvmearb_step) -> u32;
     pub fn nvmearb_ctrl_take(ctrl: *mut nvmearb_ctrl, slots: *mut nvmearb_slot, count: usize, command: *mut nvmearb_command) -> u32;
     pub fn nvmearb_ctrl_complete(ctrl: *mut nvmearb_ctrl, slots: *mut nvmearb_slot, count: usize, tag: u32, status: *const nvmearb_status, dw0: u32) -> u32;
-    pub fn nvmearb_ctrl_complete_with(ctrl: *mut nvmearb_ctrl, slots: *mut nvmearb_slot, count: usize, tag: u32, status: *const nvmearb_status, dw0: u32, marks: u8) -> u32;
+    pub fn nvmearb_ctrl_complete_with(ctrl: *mut nvmearb_ctrl, slots: *mut nvmearb_slot, count: usize, tag: u32, status: *const nvmearb_status, dw0: u32, flags: u8) -> u32;
     pub fn nvmearb_ctrl_post(ctrl: *mut nvmearb_ctrl, slots: *mut nvmearb_slot, count: usize, cqid: u16, post: *mut nvmearb_post) -> u32;
     pub fn nvmearb_ctrl_next_to_post(ctrl: *const nvmearb_ctrl, slots: *const nvmearb_slot, count: usize, cqid: *mut u16) -> u32;
     pub fn nvmearb_ctrl_finish(ctrl: *mut nvmearb_ctrl, slots: *mut nvmearb_slot, count: usize, qid: *mut u16) -> u32;

@@ -3,7 +3,7 @@
 use nvmearb::admin_opcode::{ABORT, CREATE_CQ, CREATE_SQ, DELETE_SQ, GET_FEATURES, SET_FEATURES};
 use nvmearb::{boxed_slots, Slot, Step, Tag, Verdict, MAX_DEPTH, MAX_REGIONS, MAX_SLOTS, NO_LIMIT};
 use nvmearb::{
-    feature, io_opcode, Config, Cqe, DoorbellError, Error, Marks, Mechanism, Pick, Priority, Region, Seen, Sqe, Status,
+    feature, io_opcode, Config, Cqe, DoorbellError, Error, Mechanism, Pick, Priority, Region, Seen, Sqe, Status, StatusFlags,
 };
 
 type Controller = nvmearb::Controller<Box<[Slot]>>;
@@ -76,15 +76,15 @@ fn passed_on(ctrl: &mut Controller, entry: Sqe) -> Tag {
 /// A completion is posted to a completion queue: its slot, SQHD, command identifier, phase tag, status and Dword 0. It has
 /// neither mark.
 fn posted(ctrl: &mut Controller, cqid: u16, want: (u16, u16, u16, bool, Status, u32)) {
-    posted_with(ctrl, cqid, want, Marks::default());
+    posted_with(ctrl, cqid, want, StatusFlags::default());
 }
 
-/// So with its marks, which are bits 31 and 30 of Dword 3.
-fn posted_with(ctrl: &mut Controller, cqid: u16, want: (u16, u16, u16, bool, Status, u32), marks: Marks) {
+/// So with its flags, which are bits 31 and 30 of Dword 3.
+fn posted_with(ctrl: &mut Controller, cqid: u16, want: (u16, u16, u16, bool, Status, u32), flags: StatusFlags) {
     let post = ctrl.post(cqid).expect("a completion is ready");
     let mut bytes = post.bytes;
-    assert_eq!((bytes[15] >> 7 & 1 == 1, bytes[15] >> 6 & 1 == 1), (marks.do_not_retry, marks.more));
-    assert_eq!(post.marks(), marks);
+    assert_eq!((bytes[15] >> 7 & 1 == 1, bytes[15] >> 6 & 1 == 1), (flags.do_not_retry, flags.more));
+    assert_eq!(post.flags(), flags);
     bytes[15] &= 0x3f;
     let cqe = Cqe::from_bytes(&bytes).unwrap();
     assert_eq!((post.slot, cqe.sqhd, cqe.cid, cqe.phase, cqe.status, cqe.dw0), want);
@@ -179,12 +179,12 @@ fn commands_go_through_and_rings_go_round() {
     assert_eq!(ctrl.complete(Tag::from(SLOTS as u32), Status::SUCCESS, 0), Err(Error::Missing));
     assert_eq!(ctrl.command(tags[2]), None);
     assert_eq!(ctrl.complete(tags[0], Status::SUCCESS, 5), Ok(()));
-    let marks = Marks { more: true, do_not_retry: true };
-    assert_eq!(ctrl.complete_with(tags[1], Status::LBA_OUT_OF_RANGE, 9, marks), Ok(()));
-    assert_eq!(ctrl.complete_with(tags[1], Status::LBA_OUT_OF_RANGE, 9, marks), Err(Error::Missing));
+    let flags = StatusFlags { more: true, do_not_retry: true };
+    assert_eq!(ctrl.complete_with(tags[1], Status::LBA_OUT_OF_RANGE, 9, flags), Ok(()));
+    assert_eq!(ctrl.complete_with(tags[1], Status::LBA_OUT_OF_RANGE, 9, flags), Err(Error::Missing));
     posted(&mut ctrl, 1, (0, 3, 22, true, Status::SUCCESS, 0));
     posted(&mut ctrl, 1, (1, 3, 20, true, Status::SUCCESS, 5));
-    posted_with(&mut ctrl, 1, (2, 3, 21, true, Status::LBA_OUT_OF_RANGE, 9), marks);
+    posted_with(&mut ctrl, 1, (2, 3, 21, true, Status::LBA_OUT_OF_RANGE, 9), flags);
     assert_eq!((ctrl.post(1), ctrl.post(64), ctrl.post(65)), (None, None, None));
     // slots 3, 0, 1, 2 of both rings: the phase tag is inverted, and three completions fill the queue
     assert_eq!(ctrl.cq_head(1, 3), Ok(()));
@@ -401,7 +401,7 @@ fn tags_are_used_up() {
     let second = taken_into(&mut ctrl, 7);
     assert_eq!((second.number(), ctrl.command(first)), (0x2_0007, None));
     assert_eq!(ctrl.complete(first, Status::SUCCESS, 0), Err(Error::Missing));
-    assert_eq!(ctrl.complete_with(first, Status::SUCCESS, 0, Marks::DO_NOT_RETRY), Err(Error::Missing));
+    assert_eq!(ctrl.complete_with(first, Status::SUCCESS, 0, StatusFlags::DO_NOT_RETRY), Err(Error::Missing));
     assert_eq!((ctrl.complete(second, Status::SUCCESS, 0), ctrl.post(1).map(|it| it.tag)), (Ok(()), Some(second)));
 }
 
@@ -412,7 +412,7 @@ fn announced_opcodes_are_the_devices() {
     assert_eq!(ctrl.sq_tail(0, 3), Ok(()));
     fetched(&mut ctrl, 0, 2, identify(12));
     assert_eq!(carried_out(&mut ctrl), Verdict::Done); // it isn't announced yet
-    posted_with(&mut ctrl, 0, (2, 3, 12, true, Status::INVALID_OPCODE, 0), Marks::DO_NOT_RETRY);
+    posted_with(&mut ctrl, 0, (2, 3, 12, true, Status::INVALID_OPCODE, 0), StatusFlags::DO_NOT_RETRY);
     [IDENTIFY, CREATE_CQ].into_iter().for_each(|opcode| ctrl.own_opcode(opcode));
     assert_eq!((ctrl.add_cq_region(0x6000, 4), ctrl.sq_tail(0, 7)), (Ok(2), Ok(())));
     fetched(&mut ctrl, 0, 3, identify(13));
@@ -425,12 +425,12 @@ fn announced_opcodes_are_the_devices() {
     assert_eq!(carried_out(&mut ctrl), Verdict::OpenCq { qid: 2, region: 2 });
     // the device answers in another order
     assert_eq!(ctrl.complete(second, Status::SUCCESS, 9), Ok(()));
-    assert_eq!(ctrl.complete_with(first, Status::INVALID_NAMESPACE, 5, Marks::DO_NOT_RETRY), Ok(()));
+    assert_eq!(ctrl.complete_with(first, Status::INVALID_NAMESPACE, 5, StatusFlags::DO_NOT_RETRY), Ok(()));
     assert_eq!(ctrl.complete(first, Status::SUCCESS, 0), Err(Error::Missing));
-    posted_with(&mut ctrl, 0, (3, 7, 15, true, Status::INVALID_FIELD, 0), Marks::DO_NOT_RETRY);
+    posted_with(&mut ctrl, 0, (3, 7, 15, true, Status::INVALID_FIELD, 0), StatusFlags::DO_NOT_RETRY);
     posted(&mut ctrl, 0, (4, 7, 16, true, Status::SUCCESS, 0));
     posted(&mut ctrl, 0, (5, 7, 14, true, Status::SUCCESS, 9));
-    posted_with(&mut ctrl, 0, (6, 7, 13, true, Status::INVALID_NAMESPACE, 5), Marks::DO_NOT_RETRY);
+    posted_with(&mut ctrl, 0, (6, 7, 13, true, Status::INVALID_NAMESPACE, 5), StatusFlags::DO_NOT_RETRY);
 }
 
 #[test]
@@ -451,7 +451,7 @@ fn announced_features_are_the_devices_and_a_reset_forgets_them() {
     let second = passed_on(&mut ctrl, admin(SET_FEATURES, 15, 0, EVENTS.into(), 0x100));
     assert_eq!((ctrl.complete(first, Status::SUCCESS, 3), ctrl.complete(second, Status::SUCCESS, 0)), (Ok(()), Ok(())));
     posted(&mut ctrl, 0, (2, 6, 12, true, Status::SUCCESS, 7));
-    posted_with(&mut ctrl, 0, (3, 6, 14, true, Status::SEQUENCE_ERROR, 0), Marks::DO_NOT_RETRY);
+    posted_with(&mut ctrl, 0, (3, 6, 14, true, Status::SEQUENCE_ERROR, 0), StatusFlags::DO_NOT_RETRY);
     posted(&mut ctrl, 0, (4, 6, 13, true, Status::SUCCESS, 3));
     posted(&mut ctrl, 0, (5, 6, 15, true, Status::SUCCESS, 0));
     ctrl.own_opcode(IDENTIFY);
@@ -459,8 +459,8 @@ fn announced_features_are_the_devices_and_a_reset_forgets_them() {
     fetched(&mut ctrl, 0, 0, admin(IDENTIFY, 1, 0, 1, 0));
     fetched(&mut ctrl, 0, 1, admin(GET_FEATURES, 2, 0, EVENTS.into(), 0));
     assert_eq!((carried_out(&mut ctrl), carried_out(&mut ctrl)), (Verdict::Done, Verdict::Done));
-    posted_with(&mut ctrl, 0, (0, 2, 1, true, Status::INVALID_OPCODE, 0), Marks::DO_NOT_RETRY);
-    posted_with(&mut ctrl, 0, (1, 2, 2, true, Status::INVALID_FIELD, 0), Marks::DO_NOT_RETRY);
+    posted_with(&mut ctrl, 0, (0, 2, 1, true, Status::INVALID_OPCODE, 0), StatusFlags::DO_NOT_RETRY);
+    posted_with(&mut ctrl, 0, (1, 2, 2, true, Status::INVALID_FIELD, 0), StatusFlags::DO_NOT_RETRY);
 }
 
 #[test]

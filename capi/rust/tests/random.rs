@@ -1,7 +1,7 @@
 // SPDX-License-Identifier: MIT
 //! Random calls, with random arguments: none panics, and each command gets one completion, its own.
 use nvmearb::{boxed_slots, Pick, Slot, Tag, Verdict, NO_LIMIT};
-use nvmearb::{Admin, Board, Config, Cqe, Marks, Mechanism, Priority, Region, Sqe, Status, Step, Table};
+use nvmearb::{Admin, Board, Config, Cqe, Mechanism, Priority, Region, Sqe, Status, StatusFlags, Step, Table};
 use std::collections::HashMap;
 
 type Controller = nvmearb::Controller<Box<[Slot]>>;
@@ -90,11 +90,11 @@ impl Driven {
         }
     }
 
-    fn complete(&mut self, drawn: &mut Drawn, marks: Option<Marks>) {
+    fn complete(&mut self, drawn: &mut Drawn, flags: Option<StatusFlags>) {
         let (tag, status) = (self.tag(drawn), Status::new(drawn.below(8) as u8 % 8, drawn.below(4) as u8).unwrap());
         let is_out = self.ctrl.command(tag).is_some();
-        let told = match marks {
-            Some(marks) => self.ctrl.complete_with(tag, status, 0, marks),
+        let told = match flags {
+            Some(flags) => self.ctrl.complete_with(tag, status, 0, flags),
             None => self.ctrl.complete(tag, status, 0),
         };
         assert_eq!(told.is_ok(), is_out);
@@ -122,7 +122,7 @@ impl Driven {
         if let Some(post) = post {
             let entry = self.open.remove(&post.cookie).expect("its command has no other completion");
             let mut bytes = post.bytes;
-            bytes[15] &= 0x3f; // without its marks
+            bytes[15] &= 0x3f; // without its flags
             let cqe = Cqe::from_bytes(&bytes).unwrap();
             assert_eq!(cqe.cid, entry.cid);
             self.posts[usize::from(cqe.sqid > 0)] += 1;
@@ -149,7 +149,7 @@ impl Driven {
                 }
             }
             7 => self.complete(drawn, None),
-            8 => self.complete(drawn, Some(Marks { more: a % 2 == 1, do_not_retry: b % 2 == 1 })),
+            8 => self.complete(drawn, Some(StatusFlags { more: a % 2 == 1, do_not_retry: b % 2 == 1 })),
             9 | 10 => self.post(a),
             11 if a == 0 => {
                 self.ctrl.own_opcode(b as u8);

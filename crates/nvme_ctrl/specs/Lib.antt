@@ -1,6 +1,6 @@
 pub mod Notes
 pub mod Doorbells
-pub mod Marks
+pub mod StatusFlags
 pub mod Tags
 pub mod Rings
 pub mod Generations

@@ -2,7 +2,7 @@
 ghost use Rattle.std.specs.Prelude.{◌≡◌, ◌+◌, ◌%◌, slice_set};
 ghost use Rattle.nvme_ctrl.specs.kept.Pool.{slot_at, put_next, put_item};
 
-use crate::marks::Marks;
+use crate::status_flags::StatusFlags;
 use nvme_entry::{Sqe, Status};
 
 /// Nothing is in the slot.
@@ -41,14 +41,14 @@ pub struct Slot {
     pub sqid: u8,
     /// What it is used for, one of the constants above.
     pub state: u8,
-    /// The marks of its completion, where it ended: each 1 or 0.
+    /// The flags of its completion, where it ended: each 1 or 0.
     pub more: u8,
     pub do_not_retry: u8,
 }
 
 impl Slot {
     ghost use Rattle.std.specs.Prelude.{◌≡◌};
-    ghost use Rattle.nvme_ctrl.specs.kept.Pool.{no_slot, marks_in};
+    ghost use Rattle.nvme_ctrl.specs.kept.Pool.{no_slot, flags_in};
 
     /// A free slot.
     pub fn free() -> Slot
@@ -85,11 +85,11 @@ impl Slot {
         }
     }
 
-    /// The marks of its completion.
-    pub fn marks(&self) -> Marks
-        ensures { result ≡ marks_in self.now }
+    /// The flags of its completion.
+    pub fn flags(&self) -> StatusFlags
+        ensures { result ≡ flags_in self.now }
     {
-        Marks {
+        StatusFlags {
             more: self.more == 1,
             do_not_retry: self.do_not_retry == 1,
         }

@@ -5,10 +5,10 @@ use Rattle.nvme_capi.proofs.ctrl.commands.nvmearb_ctrl_post.Goals as goal
 pub returns-in-Some-clause-stands : goal.returns-in-Some-clause-stands
 returns-in-Some-clause-stands c = λ rules late notes s _. record {
   cqe = c.in-Some.it.cqe;
-  marks = c.in-Some.it.marks;
+  flags = c.in-Some.it.flags;
   layout = c.fields_of_post.ensures.layout;
-  posted = subst (λ (slot : ℕ). HasPosted rules late notes c.args.cqid slot c.in-Some.it.cqe c.fields_of_post.result.cookie c.in-Some.it.marks c.post.new.self c.post.new.slots) (sym c.fields_of_post.ensures.slot)
-      (subst (λ (kept : ℕ). HasPosted rules late notes c.args.cqid c.in-Some.it.slot c.in-Some.it.cqe kept c.in-Some.it.marks c.post.new.self c.post.new.slots) (sym c.fields_of_post.ensures.cookie)
+  posted = subst (λ (slot : ℕ). HasPosted rules late notes c.args.cqid slot c.in-Some.it.cqe c.fields_of_post.result.cookie c.in-Some.it.flags c.post.new.self c.post.new.slots) (sym c.fields_of_post.ensures.slot)
+      (subst (λ (kept : ℕ). HasPosted rules late notes c.args.cqid c.in-Some.it.slot c.in-Some.it.cqe kept c.in-Some.it.flags c.post.new.self c.post.new.slots) (sym c.fields_of_post.ensures.cookie)
       (c.in-Some.ensures.stands rules late notes s));
 }
 

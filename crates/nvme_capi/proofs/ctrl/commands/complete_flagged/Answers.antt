@@ -5,7 +5,7 @@ use Rattle.nvme_ctrl.specs.Generations.{tag_of}
 use Rattle.nvme_capi.specs.Controllers.{is_ctrl, has_slots}
 use Rattle.nvme_capi.proofs.Refusals.{no_refusal}
 use Rattle.nvme_capi.proofs.SlotsOfTags.{out_under, not_out_under, slot_is, found_slot}
-use Rattle.nvme_capi.proofs.ctrl.commands.complete_marked.Goals as goal
+use Rattle.nvme_capi.proofs.ctrl.commands.complete_flagged.Goals as goal
 
 pub returns-then-complete-clause-bad_argument : goal.returns-then-complete-clause-bad_argument
 returns-then-complete-clause-bad_argument c =
@@ -20,9 +20,9 @@ returns-then-complete-clause-was_out c = λ rules late notes s _.
 
 pub returns-then-complete-clause-stands : goal.returns-then-complete-clause-stands
 returns-then-complete-clause-stands c = λ rules late notes s _.
-    subst (λ (code : StatusCode). HasAnswered rules late notes (tag_of c.args.tag).slot (record { status = code; dw0 = c.args.dw0 }) c.args.marks c.complete.new.self c.complete.new.slots)
+    subst (λ (code : StatusCode). HasAnswered rules late notes (tag_of c.args.tag).slot (record { status = code; dw0 = c.args.dw0 }) c.args.flags c.complete.new.self c.complete.new.slots)
     c.in-Some.ensures.some
-    (subst (λ (slot : ℕ). HasAnswered rules late notes slot (record { status = c.in-Some.status; dw0 = c.args.dw0 }) c.args.marks c.complete.new.self c.complete.new.slots)
+    (subst (λ (slot : ℕ). HasAnswered rules late notes slot (record { status = c.in-Some.status; dw0 = c.args.dw0 }) c.args.flags c.complete.new.self c.complete.new.slots)
     (slot_is c.args.slots.now c.args.tag c.in-Some-slot_in.slot (found_slot c.args.slots.now c.args.tag c.of_number.result c.slot_in.result c.in-Some-slot_in.slot c.of_number.ensures c.slot_in.ensures c.in-Some-slot_in.is)) (c.complete.ensures.stands rules late notes s c.if-complete.true))
 
 pub returns-else-complete-clause-bad_argument : goal.returns-else-complete-clause-bad_argument

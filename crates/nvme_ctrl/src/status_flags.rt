@@ -1,6 +1,6 @@
-// The marks of a completion. (Base Specification, Completion Queue Entry: Status Field)
+// The flags of a completion. (Base Specification, Completion Queue Entry: Status Field)
 ghost use Rattle.std.specs.Prelude.{◌≡◌};
-ghost use Rattle.nvme_ctrl.specs.Marks.{is_status, is_final, own_marks};
+ghost use Rattle.nvme_ctrl.specs.StatusFlags.{is_status, is_final, own_flags};
 ghost use Rattle.nvme_ctrl.specs.kept.Pool.{bit};
 
 use nvme_entry::Status;
@@ -8,7 +8,7 @@ use nvme_placing::{INVALID_INTERRUPT_VECTOR, PRP_OFFSET_INVALID};
 
 /// What the status field of a completion says beside its status.
 #[derive(Clone, Copy, Debug, PartialEq, Eq)]
-pub struct Marks {
+pub struct StatusFlags {
     /// More (M): the Error Information log page has more of this command.
     pub more: bool,
     /// Do Not Retry (DNR): the same command would fail again.
@@ -37,19 +37,19 @@ fn is_final(status: Status) -> bool
         || is_status(status, INVALID_INTERRUPT_VECTOR)
 }
 
-impl Marks {
+impl StatusFlags {
     /// Neither mark.
-    pub const NONE: Marks = Marks {
+    pub const NONE: StatusFlags = StatusFlags {
         more: false,
         do_not_retry: false,
     };
 
-    /// The marks of what the controller answers itself, by its status: Do Not Retry where no retry changes it, and never
+    /// The flags of what the controller answers itself, by its status: Do Not Retry where no retry changes it, and never
     /// More.
-    pub fn of(status: Status) -> Marks
-        ensures { result ≡ own_marks status }
+    pub fn of(status: Status) -> StatusFlags
+        ensures { result ≡ own_flags status }
     {
-        Marks {
+        StatusFlags {
             more: false,
             do_not_retry: is_final(status),
         }

@@ -1,12 +1,12 @@
--- The bytes of a completion queue entry with its marks.
+-- The bytes of a completion queue entry with its flags.
 use Rattle.std.proofs.Common.{◌≡◌, ℕ, zero, suc, ◌+◌, ◌*◌, ◌%◌, ◌<◌, ◌≤◌, Bool, true, false, if◌then◌else◌, List, length, slice_index, refl, sym, ap, ◌∙◌, arith}
 use Rattle.std.specs.Prelude.{slice_set}
 use Rattle.std.proofs.lemmas.List.{get_or-set_same, get_or-set_other, length-set}
 use Rattle.nvme_entry.specs.Bits.{bits_of, bytes_at, dword}
 use Rattle.nvme_entry.specs.Completion.{IsCompletionEntry}
 use Rattle.nvme_entry.specs.declared.completion.Cqe.{Cqe}
-use Rattle.nvme_ctrl.specs.declared.marks.Marks.{Marks}
-use Rattle.nvme_capi.specs.Controllers.{IsMarkedEntry}
+use Rattle.nvme_ctrl.specs.declared.status_flags.StatusFlags.{StatusFlags}
+use Rattle.nvme_capi.specs.Controllers.{IsFlaggedEntry}
 
 -- a number in bytes that are left
 left : (n p : ℕ) (xs ys : List ℕ) → ((k : ℕ) → k < 15 → slice_index xs k ≡ slice_index ys k) → p + n ≤ 15 → bytes_at p n xs ≡ bytes_at p n ys
@@ -25,7 +25,7 @@ at_most_one : (mark : Bool) → (if mark then 1 else 0) ≤ 1
 at_most_one true = omega arith
 at_most_one false = omega arith
 
--- Dword 3 with the marks above it
+-- Dword 3 with the flags above it
 module _ (x y a b : ℕ) (few : x < 268435456) (one : a ≤ 1) (other : b ≤ 1) (is : y ≡ x + 1073741824 * a + 2147483648 * b) where
   cid_left : bits_of 15 0 x ≡ bits_of 15 0 y
   cid_left = omega (arith, few, one, other, is)
@@ -48,11 +48,11 @@ module _ (x y a b : ℕ) (few : x < 268435456) (one : a ≤ 1) (other : b ≤ 1)
   do_not_retry_is : b ≡ bits_of 31 31 y
   do_not_retry_is = omega (arith, few, one, other, is)
 
-pub marked_entry : (plain bytes : List ℕ) (v : ℕ) (marks : Marks) (cqe : Cqe)
+pub flagged_entry : (plain bytes : List ℕ) (v : ℕ) (flags : StatusFlags) (cqe : Cqe)
     → slice_index plain 12 < 256 → slice_index plain 13 < 256 → slice_index plain 14 < 256 → slice_index plain 15 < 256
-    → bytes ≡ slice_set plain 15 v → v ≡ slice_index plain 15 % 16 + (if marks.more then 64 else 0) + (if marks.do_not_retry then 128 else 0)
-    → IsCompletionEntry plain cqe → IsMarkedEntry bytes cqe marks
-marked_entry plain bytes v marks cqe f12 f13 f14 f15 set is h = record {
+    → bytes ≡ slice_set plain 15 v → v ≡ slice_index plain 15 % 16 + (if flags.more then 64 else 0) + (if flags.do_not_retry then 128 else 0)
+    → IsCompletionEntry plain cqe → IsFlaggedEntry bytes cqe flags
+flagged_entry plain bytes v flags cqe f12 f13 f14 f15 set is h = record {
   whole = size;
   dw0 = h.dw0 ∙ sym (left 4 0 bytes plain same (omega arith));
   reserved = left 4 4 bytes plain same (omega arith) ∙ h.reserved;
@@ -73,16 +73,16 @@ marked_entry plain bytes v marks cqe f12 f13 f14 f15 set is h = record {
   y = dword 3 bytes
 
   a : ℕ
-  a = if marks.more then 1 else 0
+  a = if flags.more then 1 else 0
 
   b : ℕ
-  b = if marks.do_not_retry then 1 else 0
+  b = if flags.do_not_retry then 1 else 0
 
   one : a ≤ 1
-  one = at_most_one marks.more
+  one = at_most_one flags.more
 
   other : b ≤ 1
-  other = at_most_one marks.do_not_retry
+  other = at_most_one flags.do_not_retry
 
   size : length bytes ≡ 16
   size = ap (λ (xs : List ℕ). length xs) set ∙ length-set plain 15 v ∙ h.whole
@@ -100,4 +100,4 @@ marked_entry plain bytes v marks cqe f12 f13 f14 f15 set is h = record {
   few = omega (arith, h.never_set, f12, f13, f14, f15)
 
   sum : y ≡ x + 1073741824 * a + 2147483648 * b
-  sum = omega (arith, few, same 12 (omega arith), same 13 (omega arith), same 14 (omega arith), last, is, as_bit 64 marks.more, as_bit 128 marks.do_not_retry, f12, f13, f14, f15)
+  sum = omega (arith, few, same 12 (omega arith), same 13 (omega arith), same 14 (omega arith), last, is, as_bit 64 flags.more, as_bit 128 flags.do_not_retry, f12, f13, f14, f15)

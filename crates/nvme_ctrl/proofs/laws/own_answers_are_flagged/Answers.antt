@@ -1,5 +1,5 @@
 use Rattle.std.proofs.Common.{refl}
-use Rattle.nvme_ctrl.proofs.laws.own_answers_are_marked.Goals as goal
+use Rattle.nvme_ctrl.proofs.laws.own_answers_are_flagged.Goals as goal
 
 pub returns : goal.returns
 returns c = record {
