@@ -16,6 +16,3 @@ pub use mix::{Mix, MixFault, Operation};
 pub use phases::{Phases, PhasesFault};
 pub use places::{Extent, ExtentFault, MAX_BLOCKS, Order, Places};
 pub use services::{Distribution, Service, Services};
-
-#[cfg(test)]
-mod tests;

@@ -10,6 +10,3 @@ pub use file::{model_in, simulation_in};
 pub use nvme_model_form::{
     Fault, Key, Kind, ModelError, Owner, Place, Refusal, Target, is_simulation, model_of,
 };
-
-#[cfg(test)]
-mod tests;

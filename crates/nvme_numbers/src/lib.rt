@@ -19,6 +19,3 @@ pub use names::class_name;
 pub use numbers::Numbers;
 pub use nvme_output::WriteFault;
 pub use row::{Row, Spread};
-
-#[cfg(test)]
-mod tests;

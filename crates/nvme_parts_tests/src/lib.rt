@@ -1,4 +1,4 @@
-//! Tests of entries, arbitration, rings and lanes, admin commands, workers, workload files, reports and the rings of
+//! Tests of entries, arbitration, rings and lanes, admin commands, queues anywhere, workers, workload files, reports and the rings of
 //! a controller. Each test uses the public names of one crate.
 #![tactic(auto)]
 
@@ -12,6 +12,8 @@ mod ctrl;
 mod entry;
 #[cfg(test)]
 mod lane;
+#[cfg(test)]
+mod placing;
 #[cfg(test)]
 mod pool;
 #[cfg(test)]

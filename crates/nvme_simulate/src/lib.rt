@@ -15,6 +15,7 @@ mod watch;
 
 pub use digest::Digest;
 pub use fault::{SimulateFault, Stream};
+pub use lengths::is_too_long;
 pub use loads::{Overload, overload_of};
 pub use nvme_model::Model;
 pub use nvme_model_file::{ModelFault, Told, model_in, simulation_in};
@@ -23,6 +24,3 @@ pub use progress::Progress;
 pub use runs::{Form, Measured, measure, simulate};
 pub use streams::Streams;
 pub use trace::{put_pick, put_trace_head};
-
-#[cfg(test)]
-mod tests;

@@ -18,6 +18,3 @@ mod simulation;
 pub use fault::{Broken, SimulationFault};
 pub use happening::{Happening, Picked};
 pub use simulation::Simulation;
-
-#[cfg(test)]
-mod tests;

@@ -1,11 +1,11 @@
 // A few commands whose numbers were worked out by hand.
-use crate::{About, Numbers, log_header, log_line};
 use nvme_arbiter::{Class, Mechanism, Settings};
 use nvme_channels::{Channel, Placement, Stripe};
 use nvme_load::{
     Arrivals, Closed, Distribution, Extent, Mix, Operation, Order, Places, Service, Services,
 };
 use nvme_model::{Device, End, Finished, Model, Pauses, Queue, Times};
+use nvme_numbers::{About, Numbers, log_header, log_line};
 use std::alloc::Global;
 use std::test::Fail;
 

@@ -1,4 +1,4 @@
-use crate::{Occupancy, OccupancyFault};
+use nvme_occupancy::{Occupancy, OccupancyFault};
 use std::test::Fail;
 
 // Stays from 0 to 3, from 1 to 2 and from 1 to 5.

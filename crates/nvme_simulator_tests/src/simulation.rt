@@ -1,13 +1,13 @@
 // Expected numbers are worked out by hand.
 ghost use Rattle.nvme_simulation.specs.Simulations.{IsSimulation};
 
-use crate::{Happening, Simulation};
 use nvme_arbiter::{Class, Mechanism, Seen, Settings};
 use nvme_channels::Placement;
 use nvme_load::{
     Arrivals, Closed, Distribution, Extent, Gap, Mean, Mix, Order, Places, Service, Services,
 };
 use nvme_model::{Device, End, Model, Pauses, Queue};
+use nvme_simulation::{Happening, Simulation};
 use std::test::Fail;
 
 const MICROSECOND: u64 = 1_000_000;

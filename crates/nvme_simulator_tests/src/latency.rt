@@ -1,5 +1,5 @@
 // Expected numbers are those of the worked examples in specs/Examples.antt, and of the numbers from 1 on.
-use crate::Latencies;
+use nvme_latency::Latencies;
 use std::alloc::{AllocError, Global};
 use std::test::Fail;
 

@@ -1,6 +1,6 @@
 // Expected words and times are those of a second reading in Python of the published generators and of von Neumann's
 // method. The bounds of the statistics are four standard errors around what an exponential time of this mean has.
-use crate::{
+use nvme_clock::{
     EventQueue, Purpose, PushFault, Quantiles, TableFault, TwoPoints, duration_in, exponential,
     stream, uniform,
 };

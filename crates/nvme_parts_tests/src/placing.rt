@@ -1,7 +1,7 @@
-use crate::{PlacedTable, Placement};
 use nvme_admin::{AdminError, Effect, Limits, SqEntry};
 use nvme_arbiter::{Class, Settings};
 use nvme_entry::{Sqe, Status};
+use nvme_placing::{PlacedTable, Placement};
 use std::process::Abort;
 use std::test::Fail;
 

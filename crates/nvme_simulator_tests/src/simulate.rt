@@ -1,9 +1,4 @@
 // The digest of `abc` is that of FIPS 180-4. Loads are worked out by hand.
-use crate::lengths::is_too_long;
-use crate::{
-    Digest, Form, OverrideFault, Overrides, Progress, SimulateFault, Stream, Streams, overload_of,
-    put_pick, put_trace_head, simulate,
-};
 use nvme_arbiter::{Class, Mechanism, Pick, Seen, Settings};
 use nvme_channels::Placement;
 use nvme_load::{
@@ -11,6 +6,10 @@ use nvme_load::{
     Services,
 };
 use nvme_model::{Device, End, Model, Pauses, Queue};
+use nvme_simulate::{
+    Digest, Form, OverrideFault, Overrides, Progress, SimulateFault, Stream, Streams, is_too_long,
+    overload_of, put_pick, put_trace_head, simulate,
+};
 use nvme_simulation::Picked;
 use std::test::Fail;
 

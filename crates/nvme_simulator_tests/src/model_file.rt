@@ -1,9 +1,9 @@
 // Expected values are worked out by hand: 10^12 / 11667 = 85711837.2.., 80us are 80 * 10^6 picoseconds.
-use crate::{ModelFault, Told, model_in, simulation_in};
 use nvme_arbiter::{Class, Mechanism};
 use nvme_channels::Placement;
 use nvme_load::{Arrivals, Distribution, Order};
 use nvme_model::Model;
+use nvme_model_file::{ModelFault, Told, model_in, simulation_in};
 use std::process::Abort;
 use std::test::Fail;
 

@@ -1,5 +1,5 @@
 // Expected times are those of the worked examples in specs/Examples.antt, and of queues by hand.
-use crate::{
+use nvme_channels::{
     Channels, ChannelsFault, MAX_CHANNELS, Placement, Start, StepFault, Stripe, StripeFault,
 };
 use std::test::Fail;

@@ -1,9 +1,9 @@
 // The bounds of the sums are four standard errors around what the distributions have.
-use crate::{
+use nvme_clock::{Purpose, Quantiles, TwoPoints, stream};
+use nvme_load::{
     Arrivals, ArrivalsFault, Closed, Distribution, Extent, ExtentFault, Gap, Mean, MeanFault, Mix,
     MixFault, Operation, Order, Phases, PhasesFault, Places, Service, Services,
 };
-use nvme_clock::{Purpose, Quantiles, TwoPoints, stream};
 use std::test::Fail;
 
 #[test]

@@ -1,10 +1,6 @@
 // Means and widths are worked out by hand, with quantiles of a printed table of Student's t.
-use crate::axis::axes_of;
-use crate::commands::CommandWords;
-use crate::estimates::{Estimate, estimate_of};
-use crate::fault::SweepFault;
-use crate::sweep::Sweep;
 use nvme_simulate::Overrides;
+use nvme_sweep::{CommandWords, Estimate, Sweep, SweepFault, axes_of, estimate_of};
 use std::alloc::Global;
 use std::test::Fail;
 
