@@ -93,19 +93,6 @@ const UNSEEN: Row = Row {
     end: 0,
 };
 
-impl Row {
-    // Notes a pick of this number, which saw the row.
-    fn note_pick(&mut self, number: u64, lives: bool) {
-        self.seen = true;
-        if lives {
-            if self.begin == 0 {
-                self.begin = number;
-            }
-            self.end = number;
-        }
-    }
-}
-
 /// A picture of a trace. With bars it has a row for each queue and class, and a bar for each pick from left to right;
 /// with curves it has one of the share of each, window by window. Neither its memory nor its text grows with the trace.
 #[derive(Drop)]
@@ -142,23 +129,21 @@ fn note_rows(
             && let Some(row) = row_of(mechanism, queue)
             && let Some(row) = rows.get_mut(row)
         {
-            row.note_pick(number, queue.count > 0 || queue.qid == picked);
+            row.seen = true;
+            if queue.count > 0 || queue.qid == picked {
+                row.begin = if row.begin == 0 { number } else { row.begin };
+                row.end = number;
+            }
         }
     }
-}
-
-// The most windows of the curves of a series.
-fn most_points(series: &Series) -> u64 {
-    let picks = (series.all.len() as u64).saturating_mul(series.step);
-    let points = picks.saturating_add(STEP - 1) / STEP;
-    points.max(FEW_POINTS).min(POINTS as u64)
 }
 
 // Sums up windows until the bars of so many rows have room, or the points of curves.
 fn fit(series: &mut Series, curves: bool, rows: u64) {
     if curves {
-        let most = most_points(series);
-        series.fit(most);
+        let picks = (series.all.len() as u64).saturating_mul(series.step);
+        let points = picks.saturating_add(STEP - 1) / STEP;
+        series.fit(points.max(FEW_POINTS).min(POINTS as u64));
         series.join_rest();
     } else {
         series.fit(BARS / rows.max(1));
@@ -335,22 +320,10 @@ impl Watch for Picture {
     fn pass(&mut self) {}
 }
 
-/// Draws the picks of a selection of a trace in the common style, as `chart_in` does.
-pub fn chart<R: Read + Drop>(
-    alloc: Global,
-    reader: R,
-    selection: Selection,
-) -> Result<Picture, TraceError>
-    ensures pictured { IfOk result (λ picture. IfSome (R.remaining reader) (λ text. IsShownBy Specification text (λ head past. IsPicturedPart selection head past picture))) }
-    ensures fault { IfErr result (λ error. IfSome (R.remaining reader) (λ text. IsReadFaultBy Specification text error)) }
-{
-    chart_in(alloc, reader, selection, Style::COMMON)
-}
-
 /// Draws the picks of a selection of a trace. It is read as a stream, and its picks aren't judged. `fresh` may be
 /// missing: no round is marked at such a pick. Refused with the first faulty line, a failed read or no memory, as
 /// `nvme_trace::check_by` is where the specification alone judges.
-pub fn chart_in<R: Read + Drop>(
+pub fn chart<R: Read + Drop>(
     alloc: Global,
     reader: R,
     selection: Selection,

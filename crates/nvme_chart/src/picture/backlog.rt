@@ -50,12 +50,6 @@ impl Weights {
             .saturating_add(self.medium)
             .saturating_add(self.low)
     }
-
-    // Whether a level waits beside another. A single one gets all commands, whatever its weight.
-    fn compete(&self) -> bool {
-        let levels = [self.high, self.medium, self.low];
-        levels.iter().filter(|weight| **weight > 0).count() > 1
-    }
 }
 
 /// A stretch of picks at each of which the same levels wait with the same weights, and nothing that outranks them.
@@ -77,9 +71,10 @@ const NO_STRETCH: Stretch = Stretch {
 };
 
 impl Stretch {
-    /// The number of its picks, or 0 where its levels don't compete.
+    /// The number of its picks. 0 where fewer than two levels wait: one alone gets all commands, whatever its weight.
     pub fn picks(&self) -> u64 {
-        if !self.weights.compete() {
+        let (total, weights) = (self.weights.total(), self.weights);
+        if total == weights.high || total == weights.medium || total == weights.low {
             return 0;
         }
         self.last.saturating_sub(self.first).saturating_add(1)

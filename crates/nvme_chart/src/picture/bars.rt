@@ -2,8 +2,8 @@
 use super::Picture;
 use super::colours::ROUND;
 use super::frame::{
-    numbers_in, put_begin, put_change, put_change_mark, put_colours, put_mark, put_nothing,
-    put_number, put_title, stride_of, width_of,
+    numbers_in, put_begin, put_change, put_change_mark, put_colours, put_left_out, put_mark,
+    put_nothing, put_number, put_title, stride_of, width_of,
 };
 use nvme_stats::{Window, plural};
 use std::io::{self, Write};
@@ -17,7 +17,7 @@ const COLUMNS: u64 = 1_200;
 
 const WIDE: u64 = 24;
 
-const LEAST: u64 = 760;
+const LEAST: u64 = 800;
 
 // The least width from one mark of a round to the next.
 const APART: u64 = 12;
@@ -78,11 +78,6 @@ struct Chooser {
 }
 
 impl Chooser {
-    // None is chosen yet.
-    fn new(apart: u64) -> Chooser {
-        Chooser { apart, last: None }
-    }
-
     // Whether the next one, at x, is chosen.
     fn takes(&mut self, x: u64) -> bool {
         let apart = self.apart;
@@ -109,7 +104,10 @@ enum Rounds {
 // Which starts of rounds have a mark.
 fn rounds_of(picture: &Picture) -> Rounds {
     let (mut rounds, mut marks) = (0u64, 0u64);
-    let mut chooser = Chooser::new(APART);
+    let mut chooser = Chooser {
+        apart: APART,
+        last: None,
+    };
     for (at, window) in picture.series.all.iter().enumerate() {
         if window.fresh {
             rounds = rounds.saturating_add(1);
@@ -237,7 +235,10 @@ fn put_rows<W: Write>(picture: &Picture, writer: &mut W) -> io::Result<()> {
 
 // Writes the marks: where a round starts, and where settings change. A change after the last pick is at the end.
 fn put_marks<W: Write>(picture: &Picture, rounds: Rounds, writer: &mut W) -> io::Result<()> {
-    let mut chooser = Chooser::new(APART);
+    let mut chooser = Chooser {
+        apart: APART,
+        last: None,
+    };
     let bottom = bottom_of(picture);
     for (at, window) in picture.series.all.iter().enumerate() {
         let x = left_of(picture, at);
@@ -259,7 +260,10 @@ fn put_numbers<W: Write>(picture: &Picture, writer: &mut W) -> io::Result<()> {
     let (first, last) = picture.ends();
     let width = right_of(picture).saturating_sub(LEFT);
     let stride = stride_of(last.saturating_sub(first), numbers_in(width, last)).max(1);
-    let mut chooser = Chooser::new(width_of(last));
+    let mut chooser = Chooser {
+        apart: width_of(last),
+        last: None,
+    };
     let (y, half) = (
         bottom_of(picture).saturating_add(16),
         column_width(picture) / 2,
@@ -283,20 +287,22 @@ fn put_numbers<W: Write>(picture: &Picture, writer: &mut W) -> io::Result<()> {
 
 // Writes what a bar is.
 fn put_meaning<W: Write>(picture: &Picture, writer: &mut W) -> io::Result<()> {
-    let (step, most) = (picture.series.step, most_of(picture));
     if picture.series.all.is_empty() {
-        put_nothing(picture, writer)
-    } else if step == 1 {
-        writeln!(
-            writer,
-            "<text x=\"8\" y=\"40\">A bar is one pick, as high as its number of commands; the highest has {most}.</text>"
-        )
-    } else {
-        writeln!(
-            writer,
-            "<text x=\"8\" y=\"40\">A bar sums up {step} picks in a row, as high as their number of commands of its queue; the highest has {most}.</text>"
-        )
+        return put_nothing(picture, writer);
     }
+    let (step, most) = (picture.series.step, most_of(picture));
+    writer.write_all(b"<text x=\"8\" y=\"40\">")?;
+    if step == 1 {
+        writer.write_all(b"A bar is one pick, as high as its number of commands;")?;
+    } else {
+        write!(
+            writer,
+            "A bar sums up {step} picks in a row, as high as their number of commands of its queue;"
+        )?;
+    }
+    write!(writer, " the highest has {most}.")?;
+    put_left_out(picture, writer)?;
+    writer.write_all(b"</text>\n")
 }
 
 // Writes the legend: the colours of the classes and the marks that occur.

@@ -1,6 +1,6 @@
 // The curves of a picture: what each is of, and how it looks.
 use super::Picture;
-use super::colours::{DASHES, colour_of_class, darker_of_class, dashes_of};
+use super::colours::{DASHES, colour_of_class, darker_of_class};
 use arrayvec::ArrayVec;
 use nvme_arbiter::{Class, Mechanism};
 use nvme_stats::{CLASSES, IO_QUEUES, Window, class_of_lane, queue_of_lane, share};
@@ -24,6 +24,8 @@ pub struct Curve {
     pub nth: usize,
     // Which of those of its class it is, from 0 on.
     nth_of_class: usize,
+    /// Whether it is a thin one of many queues.
+    pub is_thin: bool,
     /// The number of the first pick at which a row of it lives, or 0.
     pub begin: u64,
     // The number of the last such pick, or 0.
@@ -34,25 +36,22 @@ pub struct Curve {
 pub type Curves = ArrayVec<Curve, CURVES>;
 
 impl Curve {
-    // Whether it is of a row, beside others or not.
-    fn has(&self, row: usize) -> bool {
-        match self.row {
-            Some(own) => own == row,
-            None => class_of_lane(row) == self.class,
-        }
-    }
-
-    // The same curve, with the picks from which and up to which its rows live.
-    fn over(self, picture: &Picture) -> Curve {
+    // The nth curve of a picture, of all rows of a class.
+    fn of_class(picture: &Picture, class: Class, nth: usize) -> Curve {
         let (mut begin, mut end) = (u64::MAX, 0u64);
         for (at, row) in picture.rows.iter().enumerate() {
-            if row.begin > 0 && self.has(at) {
+            if row.begin > 0 && class_of_lane(at) == class {
                 begin = begin.min(row.begin);
                 end = end.max(row.end);
             }
         }
-        let begin = if end == 0 { 0 } else { begin };
-        Curve { begin, end, ..self }
+        Curve {
+            class,
+            nth,
+            begin: if end == 0 { 0 } else { begin },
+            end,
+            ..Curve::default()
+        }
     }
 
     /// Whether it goes through a window: it lives at a pick of it, or at one before and one behind it.
@@ -62,10 +61,16 @@ impl Curve {
 
     /// Its commands in a window.
     pub fn commands(&self, window: &Window) -> u64 {
-        match self.row {
-            Some(row) => window.rows.get(row).copied().unwrap_or(0),
-            None => commands_of(window, self.class),
+        if let Some(row) = self.row {
+            return window.rows.get(row).copied().unwrap_or(0);
         }
+        let mut sum = 0u64;
+        for (row, commands) in window.rows.iter().enumerate() {
+            if class_of_lane(row) == self.class {
+                sum = sum.saturating_add(*commands);
+            }
+        }
+        sum
     }
 
     /// Its share of the commands of a window, in hundredths of a percent.
@@ -84,45 +89,22 @@ impl Curve {
 
     /// The colour.
     pub fn colour(&self, picture: &Picture) -> &'static str {
+        let is_darker = picture.mechanism == Mechanism::Weighted && self.nth_of_class >= DASHES;
         match self.row {
-            Some(row) if picture.mechanism == Mechanism::RoundRobin || self.nth_of_class < DASHES =>
-                { picture.colour_of(row, self.nth_of_class) }
+            Some(row) if !is_darker => picture.colour_of(row, self.nth_of_class),
             Some(_) => darker_of_class(self.class),
             None => colour_of_class(self.class),
         }
     }
 
-    /// The dashes.
-    pub fn dashes(&self) -> &'static str {
-        dashes_of(self.nth)
-    }
-
     /// Writes the name.
     pub fn put_name<W: Write>(&self, picture: &Picture, writer: &mut W) -> io::Result<()> {
         match self.row {
+            Some(row) if self.is_thin => write!(writer, "q{}", queue_of_lane(row).qid),
             Some(row) => picture.put_name(row, writer),
             None => writer.write_all(class_name(self.class).as_bytes()),
         }
     }
-
-    /// Writes the name in a few characters: that of the queue alone, or of the class.
-    pub fn put_short_name<W: Write>(&self, writer: &mut W) -> io::Result<()> {
-        match self.row {
-            Some(row) => write!(writer, "q{}", queue_of_lane(row).qid),
-            None => writer.write_all(class_name(self.class).as_bytes()),
-        }
-    }
-}
-
-// The commands of a class in a window.
-fn commands_of(window: &Window, class: Class) -> u64 {
-    let mut sum = 0u64;
-    for (row, commands) in window.rows.iter().enumerate() {
-        if class_of_lane(row) == class {
-            sum = sum.saturating_add(*commands);
-        }
-    }
-    sum
 }
 
 // A curve for each class that was seen.
@@ -130,19 +112,15 @@ fn curves_of_classes(picture: &Picture) -> Curves {
     let mut curves = ArrayVec::new();
     for class in CLASSES {
         if picture.has_class(class) {
-            let curve = Curve {
-                class,
-                nth: curves.len(),
-                ..Curve::default()
-            };
-            let _fits = curves.try_push(curve.over(picture));
+            let curve = Curve::of_class(picture, class, curves.len());
+            let _fits = curves.try_push(curve);
         }
     }
     curves
 }
 
-// A curve for each row that was seen.
-fn curves_of_rows(picture: &Picture) -> Curves {
+// A curve for each row that was seen, thin or not.
+fn curves_of_rows(picture: &Picture, is_thin: bool) -> Curves {
     let mut curves = ArrayVec::new();
     let (mut class, mut nth_of_class) = (Class::Admin, 0usize);
     for (at, row) in picture.rows.iter().enumerate() {
@@ -158,6 +136,7 @@ fn curves_of_rows(picture: &Picture) -> Curves {
             class,
             nth: curves.len(),
             nth_of_class,
+            is_thin,
             begin: row.begin,
             end: row.end,
         };
@@ -167,23 +146,14 @@ fn curves_of_rows(picture: &Picture) -> Curves {
     curves
 }
 
-// Whether the rows of I/O queues are so few that each has a curve which is told apart.
-fn has_few_rows(picture: &Picture) -> bool {
+/// The curves of a picture. Where the rows of I/O queues are few, there is one of each. Where they are many, there is one
+/// of each class, or under round robin a thin one of each row.
+pub fn curves_of(picture: &Picture) -> Curves {
     let of_admin = picture.rows.first().is_some_and(|row| row.seen);
     let most = if of_admin { ROWS + 1 } else { ROWS };
-    picture.row_count() <= most
-}
-
-/// Whether the curves are thin ones of many queues.
-pub fn are_many(picture: &Picture) -> bool {
-    picture.mechanism == Mechanism::RoundRobin && !has_few_rows(picture)
-}
-
-/// The curves of a picture: of each row, or under the weighted mechanism of each class where the rows are many.
-pub fn curves_of(picture: &Picture) -> Curves {
-    if picture.mechanism == Mechanism::Weighted && !has_few_rows(picture) {
-        curves_of_classes(picture)
-    } else {
-        curves_of_rows(picture)
+    let are_many = picture.row_count() > most;
+    match picture.mechanism {
+        Mechanism::Weighted if are_many => curves_of_classes(picture),
+        _ => curves_of_rows(picture, are_many),
     }
 }

@@ -1,9 +1,11 @@
 // The picture of a long trace: a curve of the share of each queue, or where they are many of each class, window by
 // window.
 use super::Picture;
-use super::colours::{INK, darker_of_class};
-use super::curve::{Curve, are_many, curves_of};
-use super::frame::{LEGEND, put_begin, put_change, put_change_mark, put_nothing, put_title};
+use super::colours::{INK, darker_of_class, dashes_of};
+use super::curve::{Curve, curves_of};
+use super::frame::{
+    LEGEND, put_begin, put_change, put_change_mark, put_left_out, put_nothing, put_title,
+};
 use super::plane::{BOTTOM, LEFT, Plane, TOP, WIDTH};
 use nvme_arbiter::{Class, Mechanism};
 use nvme_stats::{Window, plural, share};
@@ -39,19 +41,10 @@ fn put_whole<W: Write>(picture: &Picture, curve: &Curve, writer: &mut W) -> io::
     put_share(curve.all_commands(picture), commands_of(picture), writer)
 }
 
-// Writes what a curve is of, and its share in all commands, where the pointer rests on it.
-fn put_tip<W: Write>(picture: &Picture, curve: &Curve, writer: &mut W) -> io::Result<()> {
-    writer.write_all(b"<title>")?;
-    curve.put_name(picture, writer)?;
-    writer.write_all(b" ")?;
-    put_whole(picture, curve, writer)?;
-    writer.write_all(b"</title>")
-}
-
 // Writes the strokes of a curve.
 fn put_strokes<W: Write>(picture: &Picture, curve: &Curve, writer: &mut W) -> io::Result<()> {
-    let (stroke, dashes) = (curve.colour(picture), curve.dashes());
-    let width = if are_many(picture) { 1 } else { 2 };
+    let (stroke, dashes) = (curve.colour(picture), dashes_of(curve.nth));
+    let width = if curve.is_thin { 1 } else { 2 };
     write!(
         writer,
         "stroke=\"{stroke}\" stroke-width=\"{width}\" stroke-dasharray=\"{dashes}\""
@@ -74,9 +67,11 @@ fn put_line<W: Write>(
             write!(writer, "{x},{y}.{tenths} ")?;
         }
     }
-    writer.write_all(b"\">")?;
-    put_tip(picture, curve, writer)?;
-    writer.write_all(b"</polyline>\n")
+    writer.write_all(b"\"><title>")?;
+    curve.put_name(picture, writer)?;
+    writer.write_all(b" ")?;
+    put_whole(picture, curve, writer)?;
+    writer.write_all(b"</title></polyline>\n")
 }
 
 // Writes what a curve tells of a window, where the pointer rests on its point there.
@@ -145,22 +140,11 @@ fn put_end<W: Write>(
     if points > 1 && !ends(picture, curve) {
         return Ok(());
     }
-    let (fill, r) = (curve.colour(picture), if are_many(picture) { 2 } else { 4 });
+    let (fill, r) = (curve.colour(picture), if curve.is_thin { 2 } else { 4 });
     writeln!(
         writer,
         "<circle cx=\"{x}\" cy=\"{y}.{tenths}\" r=\"{r}\" fill=\"{fill}\"/>"
     )
-}
-
-// Writes a curve with its end.
-fn put_curve<W: Write>(
-    picture: &Picture,
-    plane: &Plane,
-    curve: &Curve,
-    writer: &mut W,
-) -> io::Result<()> {
-    put_line(picture, plane, curve, writer)?;
-    put_end(picture, plane, curve, writer)
 }
 
 // Writes the entry of a curve beside the plane, at y.
@@ -231,7 +215,8 @@ fn put_few<W: Write>(
 ) -> io::Result<()> {
     let mut y = TOP + 10;
     for curve in curves {
-        put_curve(picture, plane, curve, writer)?;
+        put_line(picture, plane, curve, writer)?;
+        put_end(picture, plane, curve, writer)?;
         put_points(picture, plane, curve, writer)?;
         put_entry(picture, curve, y, writer)?;
         if let Some(part) = part_by_weight(picture, curves, curve) {
@@ -260,7 +245,7 @@ fn put_small_entry<W: Write>(
     write!(writer, "<path d=\"M{x} {mark}h20\" ")?;
     put_strokes(picture, curve, writer)?;
     write!(writer, "/><text x=\"{text}\" y=\"{y}\">")?;
-    curve.put_short_name(writer)?;
+    curve.put_name(picture, writer)?;
     write!(
         writer,
         "</text><text x=\"{right}\" y=\"{y}\" text-anchor=\"end\">"
@@ -278,7 +263,8 @@ fn put_many<W: Write>(
 ) -> io::Result<()> {
     writer.write_all(b"<g font-size=\"10\">\n")?;
     for curve in curves {
-        put_curve(picture, plane, curve, writer)?;
+        put_line(picture, plane, curve, writer)?;
+        put_end(picture, plane, curve, writer)?;
         put_small_entry(picture, curve, curve.nth as u64, writer)?;
     }
     writer.write_all(b"</g>\n")
@@ -303,10 +289,12 @@ fn put_meaning<W: Write>(picture: &Picture, writer: &mut W) -> io::Result<()> {
         return put_nothing(picture, writer);
     }
     let (step, of_picks) = (picture.series.step, plural(picture.series.step));
-    writeln!(
+    write!(
         writer,
-        "<text x=\"8\" y=\"40\">A curve is the share of the commands of a window of {step} pick{of_picks}. Curves that are close are drawn side by side.</text>"
-    )
+        "<text x=\"8\" y=\"40\">A curve is the share of the commands of a window of {step} pick{of_picks}. Close curves lie side by side."
+    )?;
+    put_left_out(picture, writer)?;
+    writer.write_all(b"</text>\n")
 }
 
 // Writes what a dot means, in the line of the legend, at x, where a curve ends before the picture does.
@@ -335,9 +323,10 @@ pub fn put_curves_picture<W: Write>(picture: &Picture, writer: &mut W) -> io::Re
     put_meaning(picture, writer)?;
     let x = put_change_mark(8, picture, writer)?;
     put_end_mark(x, picture, curves.as_slice(), writer)?;
-    plane.put_axes(writer)?;
+    plane.put_shares(writer)?;
+    plane.put_picks(writer)?;
     put_changes(picture, &plane, writer)?;
-    if are_many(picture) {
+    if curves.iter().any(|curve| curve.is_thin) {
         put_many(picture, &plane, curves.as_slice(), writer)?;
     } else {
         put_few(picture, &plane, curves.as_slice(), writer)?;

@@ -95,6 +95,15 @@ pub fn put_nothing<W: Write>(picture: &Picture, writer: &mut W) -> io::Result<()
     writer.write_all(b"</text>\n")
 }
 
+/// Writes what a picture leaves out, behind what it means.
+pub fn put_left_out<W: Write>(picture: &Picture, writer: &mut W) -> io::Result<()> {
+    if picture.style.admin {
+        Ok(())
+    } else {
+        writer.write_all(b" The admin queue is left out.")
+    }
+}
+
 /// Writes the title: how many picks and commands there are, and under which settings.
 pub fn put_title<W: Write>(picture: &Picture, writer: &mut W) -> io::Result<()> {
     writer.write_all(b"<text x=\"8\" y=\"22\" font-size=\"14\">")?;

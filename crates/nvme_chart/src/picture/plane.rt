@@ -1,6 +1,6 @@
 // The plane of the curves: picks from left to right, shares from the bottom up.
 use super::Picture;
-use super::curve::{Curve, are_many};
+use super::curve::Curve;
 use super::frame::{numbers_in, put_number, stride_of};
 use super::heights::{Heights, tenths_down};
 use nvme_stats::Window;
@@ -37,9 +37,9 @@ fn highest_in(window: &Window, curves: &[Curve]) -> u64 {
     highest
 }
 
-// The share at the top, in hundredths of a percent: 100 %, or for many curves the least of a few that is above none.
+// The share at the top, in hundredths of a percent: 100 %, or for thin curves the least of a few that none exceeds.
 fn highest_of(picture: &Picture, curves: &[Curve]) -> u64 {
-    if !are_many(picture) {
+    if curves.iter().all(|curve| !curve.is_thin) {
         return 10_000;
     }
     let mut highest = 0u64;
@@ -97,8 +97,8 @@ impl Plane {
         )
     }
 
-    // Writes the axis of the shares.
-    fn put_shares<W: Write>(&self, writer: &mut W) -> io::Result<()> {
+    /// Writes the axis of the shares.
+    pub fn put_shares<W: Write>(&self, writer: &mut W) -> io::Result<()> {
         let (right, text) = (LEFT + WIDTH, LEFT - 8);
         let stride = stride_of(self.highest / 100, 5);
         for step in 0..6u64 {
@@ -119,8 +119,8 @@ impl Plane {
         )
     }
 
-    // Writes the axis of the picks.
-    fn put_picks<W: Write>(&self, writer: &mut W) -> io::Result<()> {
+    /// Writes the axis of the picks.
+    pub fn put_picks<W: Write>(&self, writer: &mut W) -> io::Result<()> {
         let most = numbers_in(WIDTH, self.last).min(10);
         let stride = stride_of(self.last.saturating_sub(self.first), most);
         let mut number = (self.first / stride.max(1)).saturating_mul(stride);
@@ -142,11 +142,5 @@ impl Plane {
             writer,
             "<text x=\"{middle}\" y=\"{low}\" text-anchor=\"middle\">picks</text>"
         )
-    }
-
-    /// Writes the axes.
-    pub fn put_axes<W: Write>(&self, writer: &mut W) -> io::Result<()> {
-        self.put_shares(writer)?;
-        self.put_picks(writer)
     }
 }
