@@ -36,13 +36,13 @@ const WINDOWS: usize = 512;
 // From so many picks on a picture has curves: each of fewer bars has 4 pixels of its width.
 const LONG: u64 = 300;
 
-// The most windows of curves. So many, or fewer, may have few picks each.
+// The most windows of curves.
 const POINTS: usize = 64;
 
-const FEW_POINTS: u64 = 16;
+// How many picks a window has at least where there are more than this many windows: shares of fewer picks are jagged.
+const STEP: u64 = 32;
 
-// How many picks each of more windows has at least: of fewer the shares are jagged.
-const STEP: u64 = 16;
+const FEW_POINTS: u64 = 20;
 
 // The most places for bars in all rows.
 const BARS: u64 = 65_536;

@@ -166,10 +166,11 @@ fn put_entry<W: Write>(picture: &Picture, curve: &Curve, y: u64, writer: &mut W)
 // and the level waits beside others over a long stretch.
 fn part_by_weight(picture: &Picture, curves: &[Curve], curve: &Curve) -> Option<(u64, u64)> {
     let stretch = &picture.backlog.longest;
-    let alike = curves.iter().filter(|other| other.class == curve.class);
-    let weight = stretch.weights.of_class(curve.class);
+    let class = curve.class;
+    let alike = curves.iter().filter(|other| other.class == class).count();
+    let weight = stretch.weights.of_class(class);
     let is_long = stretch.picks() >= STRETCH.saturating_mul(picture.series.step);
-    if picture.mechanism == Mechanism::Weighted && is_long && weight > 0 && alike.count() == 1 {
+    if picture.mechanism == Mechanism::Weighted && is_long && weight > 0 && alike == 1 {
         Some((weight, stretch.weights.total()))
     } else {
         None

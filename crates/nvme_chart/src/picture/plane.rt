@@ -6,15 +6,19 @@ use super::heights::{Heights, tenths_down};
 use nvme_stats::Window;
 use std::io::{self, Write};
 
-// Measures of the plane, in pixels.
+/// The left edge of the plane, in pixels.
 pub const LEFT: u64 = 80;
 
+/// Its upper edge.
 pub const TOP: u64 = 84;
 
+/// Its width.
 pub const WIDTH: u64 = 880;
 
+/// Its height.
 pub const HEIGHT: u64 = 360;
 
+/// Its lower edge.
 pub const BOTTOM: u64 = TOP + HEIGHT;
 
 /// What a plane shows.
