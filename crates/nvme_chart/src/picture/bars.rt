@@ -95,9 +95,9 @@ enum Rounds {
     // There are none.
     Absent,
     All,
-    // All but some that would be too close.
+    // All but some that would be too close, at most half of them.
     Most,
-    // None, since most would be too close.
+    // None, since more would be too close.
     TooMany,
 }
 
@@ -120,7 +120,7 @@ fn rounds_of(picture: &Picture) -> Rounds {
         Rounds::Absent
     } else if marks == rounds {
         Rounds::All
-    } else if marks >= rounds / 2 {
+    } else if marks.saturating_mul(2) >= rounds {
         Rounds::Most
     } else {
         Rounds::TooMany
