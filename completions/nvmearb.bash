@@ -26,7 +26,7 @@ _nvmearb() {
                     simulate) words="--seed --commands --time --warm-up --sweep --seeds --points --no-head --format --log --trace --output --help" files=toml ;;
                     lint | expand) words="--help" files=toml ;;
                     check) words="--spec --all --quiet --format --help" files=any ;;
-                    chart) words="--from --to --output --help" files=any ;;
+                    chart) words="--from --to --no-admin --output --help" files=any ;;
                     stats) words="--from --to --backlogged --window --format --help" files=any ;;
                     loaded | live) words="--workers --help" ;;
                     once) words="--blocks --help" ;;

@@ -45,6 +45,7 @@ complete -c nvmearb -n '__fish_seen_subcommand_from stats' -l backlogged -d 'Cou
 complete -c nvmearb -n '__fish_seen_subcommand_from stats' -l window -x -d 'Tell shares by windows of so many picks'
 complete -c nvmearb -n '__fish_seen_subcommand_from stats chart' -l from -x -d 'Number of the first pick to look at'
 complete -c nvmearb -n '__fish_seen_subcommand_from stats chart' -l to -x -d 'Number of the last pick to look at'
+complete -c nvmearb -n '__fish_seen_subcommand_from chart' -l no-admin -d 'Leave the admin queue out, with its picks'
 complete -c nvmearb -n '__fish_seen_subcommand_from chart trace simulate' -s o -l output -r -F -d 'File that is written'
 complete -c nvmearb -n '__fish_seen_subcommand_from once' -l blocks -x -d 'Size of namespace 1 in logical blocks'
 complete -c nvmearb -n '__fish_seen_subcommand_from settings' -l burst -x -a '1 2 4 8 16 32 64 none' -d 'Most commands of a pick'

@@ -2,7 +2,7 @@
 use crate::examples::CHANGED;
 use crate::runs::random_log;
 use nvme_arbiter::{Mechanism, Settings};
-use nvme_chart::{Form, Style, chart, chart_in};
+use nvme_chart::{Form, Style, chart};
 use nvme_stats::{Selection, stats};
 use nvme_tracer::write_trace;
 use std::alloc::Global;
@@ -215,7 +215,7 @@ q3    low              1         1  33.3333%            0     64
 
 // The picture of a text.
 fn drawn(alloc: Global, text: &[u8]) -> Result<String, Fail> {
-    let Ok(picture) = chart(alloc, text, Selection::ALL) else {
+    let Ok(picture) = chart(alloc, text, Selection::ALL, Style::COMMON) else {
         return Err(Fail::from(std::alloc::AllocError));
     };
     let mut svg = Vec::new(alloc);
@@ -298,13 +298,13 @@ fn wide_trace(alloc: Global, picks: u32) -> Result<String, Fail> {
 
 #[test]
 fn charts_of_many_rows_have_fewer_columns(rt: HostRuntime) -> Result<(), Fail> {
-    let text = wide_trace(rt.alloc(), 517)?;
+    let text = wide_trace(rt.alloc(), 280)?;
     let svg = drawn(rt.alloc(), text.as_bytes())?;
-    assert!(rt; svg.as_str().contains("weighted: 517 picks, 517 commands"));
-    assert!(rt; svg.as_str().contains("A bar sums up 4 picks in a row"));
-    // (a bar for each of its picks' rows, since four picks in a row are of four queues, and the four classes and the
+    assert!(rt; svg.as_str().contains("weighted: 280 picks, 280 commands"));
+    assert!(rt; svg.as_str().contains("A bar sums up 2 picks in a row"));
+    // (a bar for each of its picks' rows, since two picks in a row are of two queues, and the four classes and the
     // ground)
-    assert_eq!(rt; svg.as_str().matches("<rect ").count(), 517 + 5);
+    assert_eq!(rt; svg.as_str().matches("<rect ").count(), 280 + 5);
     Ok(())
 }
 
@@ -329,7 +329,7 @@ fn long_charts(rt: HostRuntime) -> Result<(), Fail> {
 
 // The picture of picks of a text in a style.
 fn drawn_in(alloc: Global, text: &str, selection: Selection, style: Style) -> Result<String, Fail> {
-    let Ok(picture) = chart_in(alloc, text.as_bytes(), selection, style) else {
+    let Ok(picture) = chart(alloc, text.as_bytes(), selection, style) else {
         return Err(Fail::from(std::alloc::AllocError));
     };
     let mut svg = Vec::new(alloc);
@@ -400,7 +400,8 @@ fn charts_of_few_picks_have_curves_where_asked(rt: HostRuntime) -> Result<(), Fa
         assert!(rt; svg.as_str().contains(part), "{part}: {svg}");
     }
     // (neither the row of the admin queue, nor its pick)
-    assert!(rt; !svg.as_str().contains("admin"), "{svg}");
+    assert!(rt; svg.as_str().contains("The admin queue is left out."));
+    assert!(rt; !svg.as_str().contains("q0"), "{svg}");
     assert!(rt; !svg.as_str().contains("<title>pick 1:"), "{svg}");
     Ok(())
 }
@@ -448,11 +449,14 @@ fn curves_end_where_queues_end(rt: HostRuntime) -> Result<(), Fail> {
         form: Form::Curves,
         admin: true,
     };
-    // (windows of four picks, of which the last queue waits in 16)
+    // (windows of 16 picks, of which the last queue waits in four)
     let text = turns(rt.alloc(), 2, 256)?;
     let svg = drawn_in(rt.alloc(), text.as_str(), Selection::ALL, style)?;
-    assert_eq!(rt; points_of(svg.as_str(), "\"><title>q1 87.50 %<"), Some(64));
-    assert_eq!(rt; points_of(svg.as_str(), "\"><title>q2 12.50 %<"), Some(16));
+    assert_eq!(rt; points_of(svg.as_str(), "\"><title>q1 87.50 %<"), Some(16));
+    assert_eq!(rt; points_of(svg.as_str(), "\"><title>q2 12.50 %<"), Some(4));
+    // (and a dot ends its curve)
+    assert_eq!(rt; svg.as_str().matches("<circle ").count(), 16 + 4 + 1 + 1);
+    assert!(rt; svg.as_str().contains(">no more commands<"));
     Ok(())
 }
 
@@ -469,7 +473,8 @@ fn many_queues_have_names(rt: HostRuntime) -> Result<(), Fail> {
         assert!(rt; svg.as_str().contains(part), "{part}: {svg}");
     }
     assert_eq!(rt; svg.as_str().matches("<polyline").count(), 10);
-    assert_eq!(rt; svg.as_str().matches("<circle").count(), 0);
+    // (a dot where the tenth queue ends, and one in the legend)
+    assert_eq!(rt; svg.as_str().matches("<circle").count(), 2);
     Ok(())
 }
 
@@ -477,9 +482,39 @@ fn many_queues_have_names(rt: HostRuntime) -> Result<(), Fail> {
 fn axes_have_round_numbers(rt: HostRuntime) -> Result<(), Fail> {
     let text = turns(rt.alloc(), 2, 1_200)?;
     let svg = drawn_in(rt.alloc(), text.as_str(), Selection::ALL, Style::COMMON)?;
-    for part in [">100</text>", ">1,000</text>", ">1,200</text>"] {
+    for part in [">200</text>", ">1,000</text>", ">1,200</text>"] {
         assert!(rt; svg.as_str().contains(part), "{part}");
     }
-    assert!(rt; !svg.as_str().contains(">101</text>"));
+    assert!(rt; !svg.as_str().contains(">201</text>"));
+    Ok(())
+}
+
+#[test]
+fn curves_begin_at_300_picks(rt: HostRuntime) -> Result<(), Fail> {
+    for (picks, curves) in [(299, 0), (300, 2)] {
+        let text = turns(rt.alloc(), 2, picks)?;
+        let svg = drawn_in(rt.alloc(), text.as_str(), Selection::ALL, Style::COMMON)?;
+        assert_eq!(rt;
+            svg.as_str().matches("<polyline").count(),
+            curves,
+            "{picks}"
+        );
+    }
+    Ok(())
+}
+
+#[test]
+fn equal_curves_are_apart(rt: HostRuntime) -> Result<(), Fail> {
+    // (windows of 16 picks of four queues, which have a quarter each: 270 pixels below the top at 84)
+    let text = turns(rt.alloc(), 5, 320)?;
+    let part = from(65);
+    let style = Style {
+        form: Form::Curves,
+        admin: true,
+    };
+    let svg = drawn_in(rt.alloc(), text.as_str(), part, style)?;
+    for y in [",349.5 ", ",352.5 ", ",355.5 ", ",358.5 "] {
+        assert_eq!(rt; svg.as_str().matches(y).count(), 16, "{y}");
+    }
     Ok(())
 }

@@ -124,8 +124,12 @@ check = with_rule (with_rule (with_rule (with_rule (trace (codes "check")) spec)
 abbrev pub ranged : Text → App
 ranged name = with_rule (with_rule (trace name) first) last
 
+-- the admin queue is left out
+abbrev pub no_admin : Rule
+no_admin = record (new_rule (codes "no-admin")) { long = Some (codes "no-admin"); action = Some SetTrue }
+
 abbrev pub chart : App
-chart = with_rule (ranged (codes "chart")) output
+chart = with_rule (with_rule (ranged (codes "chart")) no_admin) output
 
 abbrev pub stats : Names → App
 stats names = with_rule (with_rule (with_rule (ranged (codes "stats")) backlogged) window) (format names)

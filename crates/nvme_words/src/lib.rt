@@ -18,6 +18,6 @@ pub use laws::{
     one_request,
 };
 pub use nvme_version::VERSION;
-pub use requests::{Format, Numbers, OptionsFault, Range, Request, WordsError, asked_of};
+pub use requests::{Drawing, Format, Numbers, OptionsFault, Range, Request, WordsError, asked_of};
 pub use simulations::{SimulationWords, simulation_asked};
 pub use words::reads_input_alone;

@@ -1,7 +1,7 @@
 // The command line of the program, by `clap`.
 ghost use Rattle.std.specs.Prelude.{◌≡◌, IfOk, codes};
 ghost use Rattle.clap.specs.Words.{App, app_of};
-ghost use Rattle.nvme_words.specs.CommandLine.{OnCommandLine, all, backlogged, blocks, bounded, chart, check, dword, expand, file, first, format, last, lint, mode, number, once, option, ranged, reported, run, output, quiet, settings, simulate, stats, text_option, trace, traced, window, with_file, with_input, with_run, with_trace, workers, seeds, sweep, swept};
+ghost use Rattle.nvme_words.specs.CommandLine.{OnCommandLine, all, backlogged, blocks, bounded, chart, check, dword, expand, file, first, format, last, lint, mode, no_admin, number, once, option, ranged, reported, run, output, quiet, settings, simulate, stats, text_option, trace, traced, window, with_file, with_input, with_run, with_trace, workers, seeds, sweep, swept};
 ghost use Rattle.nvme_words.specs.inside.Built.{AddsIfMade, HasApp, HasRule};
 
 use clap::builder::ValueParser;
@@ -312,12 +312,24 @@ fn ranged_command<'a>(
         .arg(last_arg(alloc))
 }
 
+// Whether the admin queue is left out of a picture.
+fn no_admin_arg<'a>(alloc: Global) -> Arg<'a>
+    ensures { HasRule no_admin result }
+{
+    Arg::new(alloc, "no-admin")
+        .long("no-admin")
+        .help("Leave the admin queue out, with its picks")
+        .action(ArgAction::SetTrue)
+}
+
 // The subcommand that draws a trace.
 fn chart_command<'a>(alloc: Global) -> Result<Command<'a>, AllocError>
     ensures { IfOk result (HasApp chart) }
 {
     let about = "Prints a picture of a trace as SVG, or writes it to a file";
-    ranged_command(alloc, "chart", about)?.arg(output_arg(alloc))
+    ranged_command(alloc, "chart", about)?
+        .arg(no_admin_arg(alloc))?
+        .arg(output_arg(alloc))
 }
 
 // How numbers are written.

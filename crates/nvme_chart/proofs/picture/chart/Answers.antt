@@ -8,7 +8,7 @@ use Rattle.nvme_stats.specs.Chosen.{IsPart, chosen}
 use Rattle.nvme_stats.specs.declared.selection.Part.{Part}
 use Rattle.nvme_chart.specs.Pictured.{IsPictured, IsPicturedPart}
 use Rattle.nvme_stats.proofs.ShowLemmas.{shown_at, fault_at, head_fault_at}
-use Rattle.nvme_chart.proofs.picture.chart_in.Goals as goal
+use Rattle.nvme_chart.proofs.picture.chart.Goals as goal
 
 pub returns-in_err-head-clause-fault : goal.returns-in_err-head-clause-fault
 returns-in_err-head-clause-fault g c =
