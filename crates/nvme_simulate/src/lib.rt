@@ -1,20 +1,24 @@
 //! The word `simulate` over streams: it runs a model to its end, writes the log of the finished commands, the trace of the
-//! picks and the answer, and says of a model whether more commands come than its device can run.
+//! picks, the answer and a picture of the latencies, and says of a model whether more commands come than its device can run.
 #![tactic(auto)]
 
 mod digest;
+mod distributions;
 mod fault;
+mod groups;
 mod lengths;
 mod loads;
 mod overrides;
 mod progress;
 mod runs;
 mod streams;
+mod tails;
 mod trace;
 mod watch;
 
 pub use digest::Digest;
 pub use fault::{SimulateFault, Stream};
+pub use groups::style_of;
 pub use loads::{Overload, overload_of};
 pub use nvme_model::Model;
 pub use nvme_model_file::{ModelFault, Told, model_in, simulation_in};
