@@ -40,6 +40,7 @@ complete -c nvmearb -n '__fish_seen_subcommand_from simulate' -l points -d 'Prin
 complete -c nvmearb -n '__fish_seen_subcommand_from simulate' -l no-head -d 'Leave the line of names of a sweep out'
 complete -c nvmearb -n '__fish_seen_subcommand_from simulate' -l log -r -F -d 'File that gets the finished commands'
 complete -c nvmearb -n '__fish_seen_subcommand_from simulate' -l trace -r -F -d 'File that gets the trace of the picks'
+complete -c nvmearb -n '__fish_seen_subcommand_from simulate' -l chart -r -F -d 'File that gets a picture of the latencies'
 complete -c nvmearb -n '__fish_seen_subcommand_from stats simulate' -l format -x -a 'text json csv' -d 'How the numbers are written'
 complete -c nvmearb -n '__fish_seen_subcommand_from stats' -l backlogged -d 'Count only picks at which each I/O queue has waiting commands'
 complete -c nvmearb -n '__fish_seen_subcommand_from stats' -l window -x -d 'Tell shares by windows of so many picks'

@@ -25,8 +25,8 @@ fn until_end(queue: &Queue) -> u128 {
     }
 }
 
-/// Whether fewer commands come until the clock ends, by their mean times, than are to come. A model of this kind isn't run.
-pub fn is_too_long(model: &Model) -> bool {
+// Whether fewer commands come until the clock ends, by their mean times, than are to come.
+pub(crate) fn is_too_long(model: &Model) -> bool {
     if model.end.time.is_some() {
         return false;
     }

@@ -1,21 +1,24 @@
 //! The word `simulate` over streams: it runs a model to its end, writes the log of the finished commands, the trace of the
-//! picks and the answer, and says of a model whether more commands come than its device can run.
+//! picks, the answer and a picture of the latencies, and says of a model whether more commands come than its device can run.
 #![tactic(auto)]
 
 mod digest;
+mod distributions;
 mod fault;
+mod groups;
 mod lengths;
 mod loads;
 mod overrides;
 mod progress;
 mod runs;
 mod streams;
+mod tails;
 mod trace;
 mod watch;
 
 pub use digest::Digest;
 pub use fault::{SimulateFault, Stream};
-pub use lengths::is_too_long;
+pub use groups::style_of;
 pub use loads::{Overload, overload_of};
 pub use nvme_model::Model;
 pub use nvme_model_file::{ModelFault, Told, model_in, simulation_in};
@@ -24,3 +27,6 @@ pub use progress::Progress;
 pub use runs::{Form, Measured, measure, simulate};
 pub use streams::Streams;
 pub use trace::{put_pick, put_trace_head};
+
+#[cfg(test)]
+mod tests;

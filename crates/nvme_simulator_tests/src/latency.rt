@@ -28,6 +28,16 @@ fn worked_quantiles(rt: HostRuntime) -> Result<(), Fail> {
     ] {
         assert_eq!(rt; ranked.quantile(parts), Some(time));
     }
+    for (rank, time) in [
+        (0, None),
+        (1, Some(10)),
+        (3, Some(30)),
+        (5, Some(50)),
+        (6, None),
+    ] {
+        assert_eq!(rt; ranked.at(rank), time);
+    }
+    assert_eq!(rt; ranked.rank(99_000), 5);
     assert_eq!(rt; ranked.longest(), Some(50));
     assert_eq!(rt; ranked.sum(), 150);
     assert_eq!(rt; ranked.mean(), Some(30));
@@ -38,10 +48,20 @@ fn worked_quantiles(rt: HostRuntime) -> Result<(), Fail> {
 }
 
 #[test]
+fn latencies_are_joined(rt: HostRuntime) -> Result<(), Fail> {
+    let mut latencies = of(rt.alloc(), &[50, 10])?;
+    latencies.join(&of(rt.alloc(), &[40, 20, 30])?)?;
+    assert_eq!(rt; latencies.count(), 5);
+    assert_eq!(rt; latencies.ranked().at(2), Some(20));
+    Ok(())
+}
+
+#[test]
 fn no_latency(rt: HostRuntime) {
     let ranked = Latencies::new(rt.alloc()).ranked();
     assert_eq!(rt; ranked.count(), 0);
     assert_eq!(rt; ranked.quantile(50_000), None);
+    assert_eq!(rt; ranked.at(1), None);
     assert_eq!(rt; ranked.longest(), None);
     assert_eq!(rt; ranked.sum(), 0);
     assert_eq!(rt; ranked.mean(), None);

@@ -16,8 +16,6 @@ mod numbers;
 #[cfg(test)]
 mod occupancy;
 #[cfg(test)]
-mod simulate;
-#[cfg(test)]
 mod simulation;
 #[cfg(test)]
 mod sweep;

@@ -220,6 +220,17 @@ fn three_commands(rt: HostRuntime) -> Result<(), Fail> {
     for finished in &FINISHED {
         numbers.add(finished)?;
     }
+    let high = numbers.of_class(Class::High)?;
+    assert_eq!(rt;
+        (high.at(1), high.at(2)),
+        (Some(2_000_000), Some(4_000_000))
+    );
+    assert_eq!(rt; high.count(), 2);
+    let low = numbers.of_queue(2)?;
+    assert_eq!(rt; (low.count(), low.longest()), (1, Some(4_500_400)));
+    for number in [0, 3, 4] {
+        assert_eq!(rt; numbers.of_queue(number)?.count(), 0);
+    }
     let channels = [channel(4_000_400), channel(500_000)];
     let answer = numbers.answer(11_000_000, &channels, ABOUT)?;
     let mut text = Vec::new(rt.alloc());

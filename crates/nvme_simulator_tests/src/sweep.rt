@@ -1,6 +1,6 @@
 // Means and widths are worked out by hand, with quantiles of a printed table of Student's t.
-use nvme_simulate::Overrides;
-use nvme_sweep::{CommandWords, Estimate, Sweep, SweepFault, axes_of, estimate_of};
+use nvme_simulate::{Digest, Form, Overrides};
+use nvme_sweep::{CommandWords, Estimate, Style, Sweep, SweepFault, axes_of, estimate_of};
 use std::alloc::Global;
 use std::test::Fail;
 
@@ -114,6 +114,57 @@ fn bad_words_are_refused(rt: HostRuntime) -> Result<(), Fail> {
         "--sweep burst: the key is swept twice"
     );
     assert_eq!(rt; refused(&rt, &["queue.2.class=low,urgent"])?.as_str(), "");
+    Ok(())
+}
+
+#[test]
+fn eight_lines_are_told_apart(rt: HostRuntime) -> Result<(), Fail> {
+    let alloc = rt.alloc();
+    let eight = ["burst=1,2,4,8", "weights=8:4:2,1:1:1", "device.depth=1,2,4"];
+    let Ok(sweep) = sweep_of(alloc, &eight) else {
+        return Err(Fail::new("refused"));
+    };
+    assert!(rt; sweep.look_at_lines(alloc).is_ok());
+    let Ok(sweep) = sweep_of(
+        alloc,
+        &["device.channels=1,2,3", "burst=1,2,4", "device.depth=4"],
+    ) else {
+        return Err(Fail::new("refused"));
+    };
+    let Err(fault) = sweep.look_at_lines(alloc) else {
+        return Err(Fail::new("nine lines"));
+    };
+    assert_eq!(rt;
+        format!(in alloc; "{fault}")?.as_str(),
+        "--chart: expected at most 8 combinations of the keys before the last one, found 9"
+    );
+    Ok(())
+}
+
+// Both classes are drawn at both values, the high one at 100 us, which nothing delays.
+#[test]
+fn a_sweep_is_drawn(rt: HostRuntime) -> Result<(), Fail> {
+    let Ok(sweep) = sweep_of(rt.alloc(), &["device.channels=1,2"]) else {
+        return Err(Fail::new("refused"));
+    };
+    let style = Style {
+        form: Form::Csv,
+        has_head: true,
+        digest: Digest::of(b"abc"),
+    };
+    let (mut output, mut svg) = (Vec::new(rt.alloc()), Vec::new(rt.alloc()));
+    let mut chart = Some(&mut svg);
+    let done = sweep.answer(rt.alloc(), &style, None::<Vec<u8>>, &mut output, &mut chart);
+    assert!(rt; done.is_ok());
+    let text = std::str::from_utf8(svg.as_slice()).unwrap_or("");
+    for part in [
+        ">Latency over device.channels</text>",
+        "<title>device.channels=2 high: 100.000 us</title>",
+        "<title>low</title>",
+        ", digest ba7816bf8f01cfea414140de5dae2223b00361a396177a9cb410ff61f20015ad</text>",
+    ] {
+        assert!(rt; text.contains(part));
+    }
     Ok(())
 }
 

@@ -1,5 +1,6 @@
 // Why there is no sweep.
 use nvme_model_file::ModelFault;
+use nvme_plot::LINES;
 use nvme_simulate::SimulateFault;
 use std::alloc::AllocError;
 use std::fmt;
@@ -15,6 +16,8 @@ pub enum SweepFault<'a> {
     Twice(&'a str),
     /// There are more than `MAX_POINTS` combinations.
     TooManyPoints,
+    /// A picture would have so many lines, which are more than it tells apart.
+    TooManyLines(usize),
     /// The tables of the file have no such key.
     NoKey(&'a str),
     /// The value of a key isn't one that it takes, as three weights.
@@ -60,6 +63,13 @@ impl fmt::Display for SweepFault<'_> {
             }
             SweepFault::Twice(key) => write!(f, "--sweep {key}: the key is swept twice"),
             SweepFault::TooManyPoints => f.write_str("--sweep: expected at most 100000 points"),
+            SweepFault::TooManyLines(lines) => {
+                let (lines, most) = (*lines, LINES);
+                write!(
+                    f,
+                    "--chart: expected at most {most} combinations of the keys before the last one, found {lines}"
+                )
+            }
             SweepFault::NoKey(key) => {
                 write!(f, "--sweep {key}: the file has no table for such a key")
             }

@@ -3,10 +3,12 @@
 
 mod answer;
 mod axis;
+mod chart;
 mod commands;
 mod estimates;
 mod fault;
 pub mod laws;
+mod lines;
 mod object;
 mod place;
 mod points;

@@ -19,6 +19,11 @@ pub const NAMES: [&str; COUNT] = [
     "latency_max_ps",
 ];
 
+/// The index of the mean of the latencies, and of their 99th percentile.
+pub const MEAN: usize = 1;
+
+pub const P99: usize = 4;
+
 /// Of which commands a row tells.
 #[derive(Clone, Copy, Debug, PartialEq, Eq)]
 pub enum Scope {

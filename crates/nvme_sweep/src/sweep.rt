@@ -53,8 +53,8 @@ impl<'a> Sweep<'a> {
         Ok(values)
     }
 
-    // The name of a point: its keys and values.
-    fn name_of(&self, alloc: Global, values: &[&str]) -> Result<String, AllocError> {
+    /// The name of a point: its keys and values, or the first of them.
+    pub(crate) fn name_of(&self, alloc: Global, values: &[&str]) -> Result<String, AllocError> {
         let mut name = String::new(alloc);
         for (axis, value) in self.axes.iter().zip(values) {
             if !name.is_empty() {

@@ -425,10 +425,12 @@ fn simulate_command<'a>(alloc: Global, formats: &'a [&'a str]) -> Result<Command
 {
     let log = "A file that gets a line of comma-separated values for each finished command";
     let trace = "A file that gets the trace of the picks";
+    let chart = "A file that gets a picture of the latencies as SVG";
     swept_command(alloc)?
         .arg(format_arg(alloc, formats))?
         .arg(text_arg(alloc, "log", "FILE", log))?
         .arg(text_arg(alloc, "trace", "FILE", trace))?
+        .arg(text_arg(alloc, "chart", "FILE", chart))?
         .arg(output_arg(alloc))
 }
 

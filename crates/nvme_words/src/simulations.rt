@@ -30,6 +30,8 @@ pub struct SimulationWords<'a> {
     pub log: Option<&'a str>,
     /// The name of the file that gets the picks.
     pub trace: Option<&'a str>,
+    /// The name of the file that gets the picture.
+    pub chart: Option<&'a str>,
     /// The name of the file that gets the answer. `None` for standard output.
     pub output: Option<&'a str>,
 }
@@ -77,6 +79,7 @@ fn words_of<'a>(
         format: format_of(matches),
         log: matches.get_str("log"),
         trace: matches.get_str("trace"),
+        chart: matches.get_str("chart"),
         output: name_of(matches.get_str("output")),
     })
 }

@@ -9,6 +9,12 @@ use std::fs;
 use std::io::{self, Write};
 use std::rt::Files;
 
+/// Where a simulation or a sweep writes its answer, and its picture where one is wanted.
+pub(crate) struct Answers<'a, W> {
+    pub(crate) output: &'a mut W,
+    pub(crate) chart: &'a mut Option<Kept>,
+}
+
 /// All of a file, or of standard input. Where it can't be read that is told, and the error is the exit status.
 pub(crate) fn taken<R: AllocGlobal + Files + Input, E: Write>(
     rt: &R,

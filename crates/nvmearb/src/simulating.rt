@@ -1,7 +1,7 @@
 // `nvmearb simulate`: the files that it reads and writes, and what is told of them.
 ghost use Rattle.std.specs.Prelude.{◌≤◌, IfErr};
 
-use crate::files::{put_away, taken};
+use crate::files::{Answers, put_away, taken};
 use crate::kept::Kept;
 use crate::noted::{Noted, Notes};
 use crate::sweeping::{File, swept};
@@ -51,14 +51,19 @@ fn clash_of<'a>(line: &SimulationWords<'a>) -> Option<(Named<'a>, Named<'a>)> {
     let file = Named::new("FILE", "the file that is read", line.file);
     let log = Named::new("--log", "the file of --log", line.log);
     let trace = Named::new("--trace", "the file of --trace", line.trace);
+    let chart = Named::new("--chart", "the file of --chart", line.chart);
     let output = Named::new("--output", "the file of --output", line.output);
     let pairs = [
         (log, file),
         (trace, file),
+        (chart, file),
         (output, file),
         (trace, log),
+        (chart, log),
         (output, log),
+        (chart, trace),
         (output, trace),
+        (output, chart),
     ];
     pairs.into_iter().find(|(one, other)| one.is_as(other))
 }
@@ -76,10 +81,11 @@ fn overrides_of<E: Write>(line: &SimulationWords, errors: &mut E) -> Result<Over
         let _ = writeln!(errors, "nvmearb: {fault}");
         return Err(BAD_LINE);
     }
-    if line.log == Some("-") || line.trace == Some("-") {
+    let dash = Some("-");
+    if line.log == dash || line.trace == dash || line.chart == dash {
         let _ = writeln!(
             errors,
-            "nvmearb: --log and --trace want the name of a file, not -"
+            "nvmearb: --log, --trace and --chart want the name of a file, not -"
         );
         return Err(BAD_LINE);
     }
@@ -150,7 +156,7 @@ fn tell_fault<E: Write>(
 {
     match fault {
         SimulateFault::NoMemory => no_memory(errors),
-        SimulateFault::Write(Stream::Answer) => unwritten(errors),
+        SimulateFault::Write(Stream::Answer | Stream::Chart) => unwritten(errors),
         SimulateFault::Write(Stream::Log) => failed_write(line.log, log, errors),
         SimulateFault::Write(Stream::Trace) => failed_write(line.trace, trace, errors),
         SimulateFault::Simulation(fault) => {
@@ -169,18 +175,19 @@ pub(crate) fn form_of(format: Format) -> Form {
     }
 }
 
-// Runs a model, and writes its answer. The answer is the exit status.
+// Runs a model, and writes its answer, and a picture where one is wanted. The answer is the exit status.
 fn ran<R: AllocGlobal + Files, P: Write + Drop, W: Write, E: Write>(
     rt: &R,
     line: &SimulationWords,
     model: Model,
     digest: &Digest,
     terminal: Option<P>,
-    output: &mut W,
+    answers: Answers<'_, W>,
     errors: &mut E,
 ) -> u8
     ensures { result ≤ 4 }
 {
+    let Answers { output, chart } = answers;
     let (log_notes, trace_notes) = (Notes::new(), Notes::new());
     let log = match created(rt, line.log, &log_notes) {
         Ok(log) => log,
@@ -196,32 +203,130 @@ fn ran<R: AllocGlobal + Files, P: Write + Drop, W: Write, E: Write>(
         trace,
         progress,
     };
-    let form = form_of(line.format);
-    match simulate(rt.alloc(), model, digest, form, &mut streams, output) {
+    let (alloc, form) = (rt.alloc(), form_of(line.format));
+    match simulate(alloc, model, digest, form, &mut streams, output, chart) {
         Ok(()) => 0,
         Err(fault) => tell_fault(line, fault, &log_notes, &trace_notes, errors),
     }
 }
 
-// Simulates what a text says, and writes the answer. The answer is the exit status. Where it isn't 0, the file of the
-// answer isn't touched.
+// What is simulated.
+#[derive(Drop)]
+enum Task<'a> {
+    Run(Model, Digest),
+    Sweep(Overrides, File<'a>),
+}
+
+// Simulates what is asked for, and writes the answer and the picture. The answer is the exit status.
+fn done<R: AllocGlobal + Files, P: Write + Drop, W: Write, E: Write>(
+    rt: &R,
+    line: &SimulationWords,
+    task: Task,
+    terminal: Option<P>,
+    answers: Answers<'_, W>,
+    errors: &mut E,
+) -> u8
+    ensures { result ≤ 4 }
+{
+    match task {
+        Task::Run(model, digest) => ran(rt, line, model, &digest, terminal, answers, errors),
+        Task::Sweep(overrides, file) => {
+            swept(rt, line, overrides, &file, terminal, answers, errors)
+        }
+    }
+}
+
+// Writes a picture to its file. The answer is the exit status.
+fn put_chart<R: Files, E: Write>(rt: &R, line: &SimulationWords, chart: &Kept, errors: &mut E) -> u8
+    ensures { result ≤ 4 }
+{
+    match line.chart {
+        Some(name) => put_away(rt, name, chart, errors),
+        None => 0,
+    }
+}
+
+// Writes an answer to a file, and then a picture to its own where one was drawn, so that a picture that can't be written loses
+// no answer. The answer is the exit status.
+fn put_both<R: Files, E: Write>(
+    rt: &R,
+    line: &SimulationWords,
+    name: &str,
+    answer: &Kept,
+    chart: &Option<Kept>,
+    errors: &mut E,
+) -> u8
+    ensures { result ≤ 4 }
+{
+    let Some(chart) = chart else {
+        return put_away(rt, name, answer, errors);
+    };
+    if chart.answer().is_none() {
+        return no_memory(errors);
+    }
+    match put_away(rt, name, answer, errors) {
+        0 => put_chart(rt, line, chart, errors),
+        status => status,
+    }
+}
+
+// The same, where the answer went to the standard output and may rest in its buffer.
+fn put_behind<R: Files, W: Write, E: Write>(
+    rt: &R,
+    line: &SimulationWords,
+    output: &mut W,
+    chart: &Option<Kept>,
+    errors: &mut E,
+) -> u8
+    ensures { result ≤ 4 }
+{
+    let Some(chart) = chart else {
+        return 0;
+    };
+    if chart.answer().is_none() {
+        return no_memory(errors);
+    }
+    match output.flush() {
+        Ok(()) => put_chart(rt, line, chart, errors),
+        Err(_) => unwritten(errors),
+    }
+}
+
+// Simulates what is asked for, and writes the answer to where it belongs and then the picture. The answer is the exit status.
+// Where the simulation fails, no file is touched, and the picture's isn't either where the answer can't be written.
 fn answered<R: AllocGlobal + Files, P: Write + Drop, W: Write, E: Write>(
     rt: &R,
     line: &SimulationWords,
-    model: Model,
-    digest: &Digest,
+    task: Task,
     terminal: Option<P>,
     output: &mut W,
     errors: &mut E,
 ) -> u8
     ensures { result ≤ 4 }
 {
-    let Some(name) = line.output else {
-        return ran(rt, line, model, digest, terminal, output, errors);
+    let alloc = rt.alloc();
+    let mut chart = if line.chart.is_some() {
+        Some(Kept::new(alloc))
+    } else {
+        None
     };
-    let mut kept = Kept::new(rt.alloc());
-    match ran(rt, line, model, digest, terminal, &mut kept, errors) {
-        0 => put_away(rt, name, &kept, errors),
+    let Some(name) = line.output else {
+        let answers = Answers {
+            output: &mut *output,
+            chart: &mut chart,
+        };
+        return match done(rt, line, task, terminal, answers, errors) {
+            0 => put_behind(rt, line, output, &chart, errors),
+            status => status,
+        };
+    };
+    let mut kept = Kept::new(alloc);
+    let answers = Answers {
+        output: &mut kept,
+        chart: &mut chart,
+    };
+    match done(rt, line, task, terminal, answers, errors) {
+        0 => put_both(rt, line, name, &kept, &chart, errors),
         status => status,
     }
 }
@@ -236,6 +341,9 @@ fn sweep_words(line: &SimulationWords) -> Result<(), &'static str> {
     }
     if line.log.is_some() || line.trace.is_some() {
         return Err("--log and --trace don't go with --sweep and --seeds");
+    }
+    if line.points && line.chart.is_some() {
+        return Err("--chart doesn't go with --points");
     }
     if line.points && line.file.is_none() {
         return Err("--points wants the name of a file");
@@ -270,12 +378,11 @@ where
         Err(status) => return status,
     };
     let digest = Digest::of(text.as_slice());
-    if line.is_sweep() {
-        let file = File {
-            text: text.as_slice(),
-            digest,
-        };
-        return swept(rt, line, overrides, &file, terminal, output, errors);
-    }
-    answered(rt, line, model, &digest, terminal, output, errors)
+    let task = if line.is_sweep() {
+        let text = text.as_slice();
+        Task::Sweep(overrides, File { text, digest })
+    } else {
+        Task::Run(model, digest)
+    };
+    answered(rt, line, task, terminal, output, errors)
 }

@@ -1,7 +1,7 @@
 // `nvmearb simulate` with `--sweep` or `--seeds`: the points, and what is told of them.
 ghost use Rattle.std.specs.Prelude.{◌≤◌, IfErr};
 
-use crate::files::put_away;
+use crate::files::Answers;
 use crate::kept::Kept;
 use crate::simulating::form_of;
 use crate::telling::{no_memory, unwritten};
@@ -9,7 +9,6 @@ use nvme_program::{Format, SimulationWords};
 use nvme_simulate::{Digest, Overrides};
 use nvme_sweep::{CommandWords, Style, Sweep, SweepFault, axes_of};
 use std::io::Write;
-use std::rt::Files;
 
 // The exit statuses of a fault of the input, of the command line and at run time.
 const INPUT: u8 = 1;
@@ -73,6 +72,7 @@ fn ran<'a, R: AllocGlobal, P: Write + Drop, W: Write>(
     digest: Digest,
     terminal: Option<P>,
     output: &mut W,
+    chart: &mut Option<Kept>,
 ) -> Result<(), SweepFault<'a>> {
     if line.points {
         return sweep.put_commands(rt.alloc(), &command_words(line), output);
@@ -82,7 +82,7 @@ fn ran<'a, R: AllocGlobal, P: Write + Drop, W: Write>(
         has_head: !line.no_head,
         digest,
     };
-    sweep.answer(rt.alloc(), &style, terminal, output)
+    sweep.answer(rt.alloc(), &style, terminal, output, chart)
 }
 
 // The sweep of a line over a file, at each of whose points the file has no fault.
@@ -101,51 +101,32 @@ fn sweep_of<'a, R: AllocGlobal>(
         overrides,
         text,
     };
+    if line.chart.is_some() {
+        sweep.look_at_lines(rt.alloc())?;
+    }
     sweep.look(rt.alloc())?;
     Ok(sweep)
 }
 
-// The answer as it stands, or the exit status.
-fn answered<R: AllocGlobal, P: Write + Drop, W: Write, E: Write>(
+/// Does what a line of `simulate` says of a sweep. A terminal is told how far each run is. The answer is the exit status.
+pub(crate) fn swept<R: AllocGlobal, P: Write + Drop, W: Write, E: Write>(
     rt: &R,
     line: &SimulationWords,
     overrides: Overrides,
     file: &File,
     terminal: Option<P>,
-    output: &mut W,
+    answers: Answers<'_, W>,
     errors: &mut E,
 ) -> u8
     ensures { result ≤ 4 }
 {
+    let Answers { output, chart } = answers;
     let sweep = match sweep_of(rt, line, overrides, file.text) {
         Ok(sweep) => sweep,
         Err(fault) => return told(&fault, errors),
     };
-    match ran(rt, line, &sweep, file.digest, terminal, output) {
+    match ran(rt, line, &sweep, file.digest, terminal, output, chart) {
         Ok(()) => 0,
         Err(fault) => told(&fault, errors),
-    }
-}
-
-/// Does what a line of `simulate` says of a sweep. A terminal is told how far each run is. The answer is the exit status.
-/// Where it isn't 0, the file of the answer isn't touched.
-pub(crate) fn swept<R: AllocGlobal + Files, P: Write + Drop, W: Write, E: Write>(
-    rt: &R,
-    line: &SimulationWords,
-    overrides: Overrides,
-    file: &File,
-    terminal: Option<P>,
-    output: &mut W,
-    errors: &mut E,
-) -> u8
-    ensures { result ≤ 4 }
-{
-    let Some(name) = line.output else {
-        return answered(rt, line, overrides, file, terminal, output, errors);
-    };
-    let mut kept = Kept::new(rt.alloc());
-    match answered(rt, line, overrides, file, terminal, &mut kept, errors) {
-        0 => put_away(rt, name, &kept, errors),
-        status => status,
     }
 }

@@ -1,15 +1,19 @@
-// The digest of `abc` is that of FIPS 180-4. Loads are worked out by hand.
+// The digest of `abc` is that of FIPS 180-4. Loads are worked out by hand, and tails by a few lines of Python.
+use crate::groups::groups_of;
+use crate::lengths::is_too_long;
+use crate::tails::{Reached, percentiles_of, tail_of};
+use crate::{
+    Digest, Form, OverrideFault, Overrides, Progress, SimulateFault, Stream, Streams, overload_of,
+    put_pick, put_trace_head, simulate,
+};
 use nvme_arbiter::{Class, Mechanism, Pick, Seen, Settings};
 use nvme_channels::Placement;
+use nvme_latency::Latencies;
 use nvme_load::{
     Arrivals, Closed, Distribution, Extent, Gap, Mean, Mix, Order, Phases, Places, Service,
     Services,
 };
 use nvme_model::{Device, End, Model, Pauses, Queue};
-use nvme_simulate::{
-    Digest, Form, OverrideFault, Overrides, Progress, SimulateFault, Stream, Streams, is_too_long,
-    overload_of, put_pick, put_trace_head, simulate,
-};
 use nvme_simulation::Picked;
 use std::test::Fail;
 
@@ -165,6 +169,7 @@ fn a_model_is_simulated(rt: HostRuntime) -> Result<(), Fail> {
     let end = End::after(10)?;
     let mut trace = Vec::new(rt.alloc());
     let mut output = Vec::new(rt.alloc());
+    let mut chart = Vec::new(rt.alloc());
     let mut streams = Streams {
         log: None::<&mut [u8]>,
         trace: Some(&mut trace),
@@ -172,6 +177,7 @@ fn a_model_is_simulated(rt: HostRuntime) -> Result<(), Fail> {
     };
     let model = model(&rt, arrivals, None)?;
     let digest = Digest::of(b"");
+    let mut picture = Some(&mut chart);
     let done = simulate(
         rt.alloc(),
         model,
@@ -179,9 +185,79 @@ fn a_model_is_simulated(rt: HostRuntime) -> Result<(), Fail> {
         Form::Csv,
         &mut streams,
         &mut output,
+        &mut picture,
     );
     assert!(rt; done.is_ok());
     assert!(rt; trace.as_slice().starts_with(b"{\"version\":1,"));
+    assert!(rt; chart.as_slice().starts_with(b"<svg "));
+    assert!(rt; chart.as_slice().ends_with(b"</svg>\n"));
+    Ok(())
+}
+
+// The latencies are 1 to 1000.
+#[test]
+fn tails_pass_a_twentieth(rt: HostRuntime) -> Result<(), Fail> {
+    let mut latencies = Latencies::new(rt.alloc());
+    for time in 1..=1_000u64 {
+        latencies.add(time)?;
+    }
+    let ranked = latencies.ranked();
+    let percentiles = percentiles_of(rt.alloc(), &ranked)?;
+    for (at, name, time) in [(0, "p50", 500), (1, "p99", 990), (2, "p99.9", 999)] {
+        let found = percentiles.get(at).map(|it| (it.level.name, it.time));
+        assert_eq!(rt; found, Some((name, time)));
+    }
+    let tail = tail_of(rt.alloc(), &ranked, &percentiles)?;
+    assert_eq!(rt; tail.len(), 107);
+    for (at, count, time) in [
+        (0, 1_000, 1),
+        (1, 950, 51),
+        (13, 518, 483),
+        (14, 501, 500),
+        (15, 476, 525),
+        (69, 38, 963),
+        (70, 37, 964),
+        (106, 1, 1_000),
+    ] {
+        assert_eq!(rt; tail.get(at).copied(), Some(Reached { time, count }));
+    }
+    Ok(())
+}
+
+// Beyond the 99th percentile of 60 commands there is none, so it isn't marked.
+#[test]
+fn percentiles_have_a_command_beyond(rt: HostRuntime) -> Result<(), Fail> {
+    let mut latencies = Latencies::new(rt.alloc());
+    for time in 1..=60u64 {
+        latencies.add(time)?;
+    }
+    let percentiles = percentiles_of(rt.alloc(), &latencies.ranked())?;
+    assert_eq!(rt; percentiles.len(), 1);
+    let nothing = Latencies::new(rt.alloc()).ranked();
+    assert!(rt; percentiles_of(rt.alloc(), &nothing)?.is_empty());
+    assert!(rt; tail_of(rt.alloc(), &nothing, &[])?.is_empty());
+    Ok(())
+}
+
+#[test]
+fn queues_of_one_class_have_curves(rt: HostRuntime) -> Result<(), Fail> {
+    let poisson = Arrivals::Poisson(Mean::new(MICROSECOND)?);
+    let mut model = model(&rt, poisson, None)?;
+    let names = ["q1 high", "q2 high"];
+    let groups = groups_of(rt.alloc(), &model)?;
+    assert_eq!(rt; groups.len(), 2);
+    for (group, name) in groups.iter().zip(&names) {
+        assert_eq!(rt; group.name(rt.alloc())?.as_str(), *name);
+    }
+    for _ in 0..7 {
+        model.queues.push(queue(poisson)?)?;
+    }
+    let groups = groups_of(rt.alloc(), &model)?;
+    assert_eq!(rt; groups.len(), 1);
+    for group in &groups {
+        assert_eq!(rt; group.name(rt.alloc())?.as_str(), "high");
+        assert_eq!(rt; group.style(), 1);
+    }
     Ok(())
 }
 
@@ -221,6 +297,7 @@ fn a_log_that_fails_is_told(rt: HostRuntime) -> Result<(), Fail> {
         Form::Text,
         &mut streams,
         &mut output,
+        &mut None::<Vec<u8>>,
     );
     assert!(rt; matches!(done, Err(SimulateFault::Write(Stream::Log))));
     assert!(rt; output.is_empty());
