@@ -1,9 +1,11 @@
-//! Sweeps: a simulation at each combination of values of keys of its file, with several seeds, and what is told of them.
+//! Sweeps: a simulation at each combination of values of keys of its file and of its load, with several seeds, on several
+//! threads, and what is told of them.
 #![tactic(auto)]
 
 mod answer;
 mod axis;
 mod commands;
+mod crew;
 mod estimates;
 mod fault;
 pub mod laws;
@@ -14,6 +16,7 @@ mod rows;
 mod sheet;
 mod sweep;
 mod table;
+mod tally;
 
 pub use answer::Style;
 pub use axis::{Axis, MAX_POINTS, axes_of};

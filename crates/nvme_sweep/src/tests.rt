@@ -1,10 +1,12 @@
 // Means and widths are worked out by hand, with quantiles of a printed table of Student's t.
+use crate::answer::Style;
 use crate::axis::axes_of;
 use crate::commands::CommandWords;
 use crate::estimates::{Estimate, estimate_of};
 use crate::fault::SweepFault;
 use crate::sweep::Sweep;
-use nvme_simulate::Overrides;
+use crate::tally::Tally;
+use nvme_simulate::{Digest, Form, Overrides};
 use std::alloc::Global;
 use std::test::Fail;
 
@@ -27,7 +29,7 @@ arrivals = { every = "1ms" }
 
 // The sweep of words over the file.
 fn sweep_of<'a>(alloc: Global, words: &[&'a str]) -> Result<Sweep<'a>, SweepFault<'a>> {
-    let Ok(overrides) = Overrides::new(None, None, None, None) else {
+    let Ok(overrides) = Overrides::new(None, None, None, None, None) else {
         return Err(SweepFault::NotToml);
     };
     let sweep = Sweep {
@@ -50,7 +52,7 @@ fn refused(rt: &HostRuntime, words: &[&str]) -> Result<String, Fail> {
 
 #[test]
 fn the_last_key_is_the_fastest(rt: HostRuntime) -> Result<(), Fail> {
-    let words = ["weights=8:4:2,1:1:1", "device.channels=1,2"];
+    let words = ["weights=8:4:2,1:1:1", "load=0.50,0.7"];
     let Ok(sweep) = sweep_of(rt.alloc(), &words) else {
         return Err(Fail::new("refused"));
     };
@@ -60,7 +62,9 @@ fn the_last_key_is_the_fastest(rt: HostRuntime) -> Result<(), Fail> {
         commands: None,
         time: None,
         warm_up: None,
+        load: None,
         seeds: None,
+        jobs: Some(2),
         format: "csv",
         has_head: true,
     };
@@ -68,10 +72,10 @@ fn the_last_key_is_the_fastest(rt: HostRuntime) -> Result<(), Fail> {
     assert!(rt; sweep.put_commands(rt.alloc(), &words, &mut lines).is_ok());
     assert_eq!(rt;
         lines.as_slice(),
-        b"nvmearb simulate 'a b.toml' --sweep weights=8:4:2 --sweep device.channels=1 --seed 7 --format csv
-nvmearb simulate 'a b.toml' --sweep weights=8:4:2 --sweep device.channels=2 --seed 7 --format csv --no-head
-nvmearb simulate 'a b.toml' --sweep weights=1:1:1 --sweep device.channels=1 --seed 7 --format csv --no-head
-nvmearb simulate 'a b.toml' --sweep weights=1:1:1 --sweep device.channels=2 --seed 7 --format csv --no-head
+        b"nvmearb simulate 'a b.toml' --sweep weights=8:4:2 --sweep load=0.50 --seed 7 --jobs 2 --format csv
+nvmearb simulate 'a b.toml' --sweep weights=8:4:2 --sweep load=0.7 --seed 7 --jobs 2 --format csv --no-head
+nvmearb simulate 'a b.toml' --sweep weights=1:1:1 --sweep load=0.50 --seed 7 --jobs 2 --format csv --no-head
+nvmearb simulate 'a b.toml' --sweep weights=1:1:1 --sweep load=0.7 --seed 7 --jobs 2 --format csv --no-head
 "
             .as_slice()
     );
@@ -109,6 +113,22 @@ fn bad_words_are_refused(rt: HostRuntime) -> Result<(), Fail> {
             "weights=8:4",
             "--sweep weights=8:4: expected three weights, as 8:4:2, or a number of 63 bits",
         ),
+        (
+            "load=0,7",
+            "--sweep load=0: expected a load above 0 and at most 4",
+        ),
+        (
+            "load=0.7,4.1",
+            "--sweep load=4.1: expected a load above 0 and at most 4",
+        ),
+        (
+            "load=high",
+            "--sweep load=high: expected digits, or digits, a point and one to six digits, as 0.7",
+        ),
+        (
+            "load.high=1",
+            "--sweep load.high: the file has no table for such a key",
+        ),
     ];
     for (words, told) in rows {
         assert_eq!(rt; refused(&rt, &[words])?.as_str(), told);
@@ -118,6 +138,51 @@ fn bad_words_are_refused(rt: HostRuntime) -> Result<(), Fail> {
         "--sweep burst: the key is swept twice"
     );
     assert_eq!(rt; refused(&rt, &["queue.2.class=low,urgent"])?.as_str(), "");
+    Ok(())
+}
+
+// The answer of a sweep on so many threads.
+fn answer_on(rt: &HostRuntime, sweep: &Sweep, jobs: usize, form: Form) -> Result<Vec<u8>, Fail> {
+    let style = Style {
+        form,
+        has_head: true,
+        digest: Digest::of(b""),
+        jobs,
+    };
+    let mut answer = Vec::new(rt.alloc());
+    let done = sweep.answer(rt, rt.alloc(), &style, None::<Vec<u8>>, &mut answer);
+    assert!(rt; done.is_ok());
+    Ok(answer)
+}
+
+#[test]
+fn answers_are_the_same_on_any_number_of_threads(rt: HostRuntime) -> Result<(), Fail> {
+    let words = ["load=0.5,0.9", "device.channels=1,2,3"];
+    let Ok(mut sweep) = sweep_of(rt.alloc(), &words) else {
+        return Err(Fail::new("refused"));
+    };
+    sweep.seeds = 3;
+    for form in [Form::Text, Form::Json, Form::Csv] {
+        let alone = answer_on(&rt, &sweep, 1, form)?;
+        for jobs in [2, 5, 64] {
+            let answer = answer_on(&rt, &sweep, jobs, form)?;
+            assert_eq!(rt; answer.as_slice(), alone.as_slice());
+        }
+    }
+    Ok(())
+}
+
+#[test]
+fn runs_are_counted_on_a_terminal(rt: HostRuntime) -> Result<(), Fail> {
+    let mut terminal = Vec::new(rt.alloc());
+    let tally = Tally::new(Some(&mut terminal), 12);
+    tally.add();
+    tally.add();
+    tally.end();
+    assert_eq!(rt;
+        terminal.as_slice(),
+        b"\r1 of 12 runs\r2 of 12 runs\r\x1b[K".as_slice()
+    );
     Ok(())
 }
 

@@ -14,6 +14,7 @@ use nvme_simulate::{
 use std::fs;
 use std::io::{self, BufWriter, Write};
 use std::rt::Files;
+use std::thread::Threads;
 
 // How many bytes of a log or a trace are written at a time.
 const ROOM: usize = 65_536;
@@ -72,7 +73,7 @@ fn overrides_of<E: Write>(line: &SimulationWords, errors: &mut E) -> Result<Over
         let _ = writeln!(errors, "nvmearb: {option} {name:?} is {role}");
         return Err(BAD_LINE);
     }
-    if let Err(fault) = sweep_words(line) {
+    if let Some(fault) = line.unfit_for_sweep() {
         let _ = writeln!(errors, "nvmearb: {fault}");
         return Err(BAD_LINE);
     }
@@ -83,7 +84,7 @@ fn overrides_of<E: Write>(line: &SimulationWords, errors: &mut E) -> Result<Over
         );
         return Err(BAD_LINE);
     }
-    match Overrides::new(line.seed, line.commands, line.time, line.warm_up) {
+    match Overrides::new(line.seed, line.commands, line.time, line.warm_up, line.load) {
         Ok(overrides) => Ok(overrides),
         Err(fault) => {
             let _ = writeln!(errors, "nvmearb: {fault}");
@@ -226,26 +227,9 @@ fn answered<R: AllocGlobal + Files, P: Write + Drop, W: Write, E: Write>(
     }
 }
 
-// What of the options of a sweep doesn't go together.
-fn sweep_words(line: &SimulationWords) -> Result<(), &'static str> {
-    if !line.is_sweep() {
-        return match line.points || line.no_head {
-            true => Err("--points and --no-head go with --sweep or --seeds"),
-            false => Ok(()),
-        };
-    }
-    if line.log.is_some() || line.trace.is_some() {
-        return Err("--log and --trace don't go with --sweep and --seeds");
-    }
-    if line.points && line.file.is_none() {
-        return Err("--points wants the name of a file");
-    }
-    Ok(())
-}
-
 /// Does what a line of `simulate` says. A terminal is told how far it is. The answer is the exit status.
 #[inline(never)]
-pub(crate) fn simulated<R, P: Write + Drop, W: Write, E: Write>(
+pub(crate) fn simulated<R, P: Write + Drop + Send, W: Write, E: Write>(
     rt: &R,
     line: &SimulationWords,
     terminal: Option<P>,
@@ -254,7 +238,7 @@ pub(crate) fn simulated<R, P: Write + Drop, W: Write, E: Write>(
     errors: &mut E,
 ) -> u8
 where
-    R: AllocGlobal + Files + Input,
+    R: AllocGlobal + Files + Input + Threads + Sync,
     ensures { result ≤ 4 }
 {
     let overrides = match overrides_of(line, errors) {
@@ -266,7 +250,7 @@ where
         Err(status) => return status,
     };
     let model = match model_of(rt, line.file, text.as_slice(), errors) {
-        Ok(model) => overrides.applied(model),
+        Ok(model) => model,
         Err(status) => return status,
     };
     let digest = Digest::of(text.as_slice());
@@ -277,5 +261,11 @@ where
         };
         return swept(rt, line, overrides, &file, terminal, output, errors);
     }
-    answered(rt, line, model, &digest, terminal, output, errors)
+    match overrides.applied(model) {
+        Ok(model) => answered(rt, line, model, &digest, terminal, output, errors),
+        Err(fault) => {
+            let _ = writeln!(errors, "nvmearb: --load: {fault}");
+            BAD_LINE
+        }
+    }
 }

@@ -1,0 +1,18 @@
+-- What queues ask for where their gaps are multiplied by a ratio. (profile)
+use Rattle.std.specs.Prelude.{ℕ, ◌+◌, ◌*◌, ◌/◌, max}
+use Rattle.nvme_model_form.specs.Views.{Asking, Coming, ByPoisson, ByGap, InBursts, BehindOthers}
+
+-- the nearest whole number of picoseconds, and at least 1
+abbrev pub scaled_gap : (offered target gap : ℕ) → ℕ
+scaled_gap offered target gap = max 1 ((gap * offered * 2 + target) / (target * 2))
+
+-- phases stay, and closed hosts
+abbrev pub scaled_coming : (offered target : ℕ) → Coming → Coming
+scaled_coming offered target (ByPoisson mean) = ByPoisson (scaled_gap offered target mean)
+scaled_coming offered target (ByGap gap) = ByGap (scaled_gap offered target gap)
+scaled_coming offered target (InBursts mean on off) = InBursts (scaled_gap offered target mean) on off
+scaled_coming offered target (BehindOthers depth think) = BehindOthers depth think
+
+-- all else stays
+abbrev pub scaled_asking : (offered target : ℕ) → Asking → Asking
+scaled_asking offered target asking = record asking { coming = scaled_coming offered target asking.coming }
