@@ -5,7 +5,8 @@ use nvme_load::{Arrivals, Distribution, Mix, Service};
 use nvme_model::{Device, Model, Queue};
 use std::fmt;
 
-const MILLIONTHS: u128 = 1_000_000;
+// The millionths of a load of 1, or of a channel.
+pub(crate) const MILLIONTHS: u128 = 1_000_000;
 
 // Millionths in a thousandth.
 const PER_THOUSANDTH: u128 = 1_000;

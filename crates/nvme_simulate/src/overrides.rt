@@ -1,5 +1,6 @@
 // What a command line says in place of a simulation file.
-ghost use Rattle.std.specs.Prelude.{◌≡◌, None, IfOk, unwrap_or};
+ghost use Rattle.std.specs.Prelude.{◌≡◌, ◌≢◌, None, IfOk, unwrap_or};
+ghost use Rattle.nvme_simulate.specs.Scaling.{AreScaled};
 
 use crate::scaling::scaled;
 use crate::target::{Load, LoadFault};
@@ -119,6 +120,7 @@ impl Overrides {
         ensures settings { IfOk result (λ m. m.settings ≡ model.settings) }
         ensures device { IfOk result (λ m. m.device ≡ model.device) }
         ensures queues { self.now.load ≡ None → IfOk result (λ m. m.queues ≡ model.queues) }
+        ensures scaling { IfOk result (λ m. self.now.load ≢ None → AreScaled model.queues.items m.queues.items) }
     {
         let model = self.replaced(model);
         match self.load {

@@ -1,18 +1,15 @@
 // Scales the gaps of open queues, so that these ask for a part of what a device can do.
-ghost use Rattle.std.specs.Prelude.{◌≡◌, ℕ, IfOk, IfSome, OnOk, map};
+ghost use Rattle.std.specs.Prelude.{◌≡◌, IfOk, IfSome, OnOk, map};
 ghost use Rattle.nvme_model_form.specs.Views.{asking_of, coming_of};
-ghost use Rattle.nvme_simulate.specs.Scaling.{scaled_gap, scaled_coming, scaled_asking};
+ghost use Rattle.nvme_simulate.specs.Scaling.{AreScaled, scaled_gap, scaled_coming, scaled_asking};
 
-use crate::loads::{capacity_of, offered_to, part};
+use crate::loads::{MILLIONTHS, capacity_of, offered_to, part};
 use crate::target::{Load, LoadFault};
 use nvme_load::{Arrivals, Gap, Mean, Phases};
 use nvme_model::{Model, Queue};
 
 // The parts of a channel in which loads are told here.
 const PARTS: u128 = 1_000_000_000_000_000;
-
-// The millionths of a load of 1.
-const MILLION: u128 = 1_000_000;
 
 // By what gaps are multiplied: what open queues ask for, divided by what they are to ask for, in parts of a channel.
 #[derive(Clone, Copy)]
@@ -28,7 +25,7 @@ fn ratio_of(model: &Model, load: Load) -> Result<Ratio, LoadFault> {
         Some(0) => Err(LoadFault::NoService),
         Some(offered) => {
             let capacity = capacity_of(&model.device, PARTS);
-            let target = part(capacity, u128::from(load.millionths), MILLION);
+            let target = part(capacity, u128::from(load.millionths), MILLIONTHS);
             Ok(Ratio { offered, target })
         }
     }
@@ -77,9 +74,11 @@ impl Ratio {
 fn scale(queues: &mut [Queue], ratio: Ratio) -> Result<(), LoadFault>
     ensures { OnOk result (map asking_of queues.new ≡ map (scaled_asking ratio.offered ratio.target) (map asking_of queues.old)) }
 {
-    for (index, queue) in queues.iter_mut().enumerate() {
+    let mut number = 0usize;
+    for queue in queues.iter_mut() {
+        number = number.saturating_add(1);
         let Some(arrivals) = ratio.arrivals(queue.arrivals) else {
-            return Err(LoadFault::LongGap(index.saturating_add(1)));
+            return Err(LoadFault::LongGap(number));
         };
         queue.arrivals = arrivals;
     }
@@ -96,7 +95,7 @@ pub(crate) fn scaled(model: Model, load: Load) -> Result<Model, LoadFault>
     ensures mechanism { IfOk result (λ m. m.mechanism ≡ model.mechanism) }
     ensures settings { IfOk result (λ m. m.settings ≡ model.settings) }
     ensures device { IfOk result (λ m. m.device ≡ model.device) }
-    ensures queues { IfOk result (λ m. (offered : ℕ) × ((target : ℕ) × (map asking_of m.queues.items ≡ map (scaled_asking offered target) (map asking_of model.queues.items)))) }
+    ensures queues { IfOk result (λ m. AreScaled model.queues.items m.queues.items) }
     ensures seed { IfOk result (λ m. m.seed ≡ model.seed) }
     ensures end { IfOk result (λ m. m.end ≡ model.end) }
     ensures warm_up { IfOk result (λ m. m.warm_up ≡ model.warm_up) }

@@ -1,5 +1,5 @@
 // Runs all points, and writes the answer.
-use crate::crew::{Batch, Outcome, made};
+use crate::crew::{Batch, Outcome, outcomes_of};
 use crate::fault::{SweepFault, add};
 use crate::object::{put_end, put_point as put_object, put_start};
 use crate::rows::Run;
@@ -132,7 +132,7 @@ impl<'a> Sweep<'a> {
         tally: &Tally<P>,
         output: &mut W,
     ) -> Result<(), SweepFault<'a>> {
-        let mut outcomes = made(rt, alloc, self, batch, style.jobs, tally)?;
+        let mut outcomes = outcomes_of(rt, alloc, self, batch, style.jobs, tally)?;
         let count = self.runs_of_each();
         for index in 0..batch.points {
             let place = index.saturating_mul(count);

@@ -103,7 +103,7 @@ fn put_made<'a>(outcomes: &mut [Option<Outcome<'a>>], made: Vec<Made<'a>>) {
 /// Makes the runs of a batch on so many threads at most; where one can't be started, the others make all. What a run came to
 /// stands in its place: point behind point, and of each seed behind seed. Behind one that failed others may be missing, and
 /// none before it.
-pub fn made<'a, R: Threads + Sync, P: Write + Drop + Send>(
+pub fn outcomes_of<'a, R: Threads + Sync, P: Write + Drop + Send>(
     rt: &R,
     alloc: Global,
     sweep: &Sweep<'a>,
@@ -123,7 +123,10 @@ pub fn made<'a, R: Threads + Sync, P: Write + Drop + Send>(
     let shares = thread::map_indices(rt, alloc, jobs.min(runs), &|_| shift.work(alloc))?;
     let mut outcomes = places(alloc, runs)?;
     for share in shares {
-        put_made(outcomes.as_mut_slice(), share?);
+        match share {
+            Ok(made) => put_made(outcomes.as_mut_slice(), made),
+            Err(error) => return Err(error),
+        }
     }
     Ok(outcomes)
 }
