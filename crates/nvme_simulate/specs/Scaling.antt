@@ -5,7 +5,7 @@ use Rattle.nvme_model_form.specs.Views.{Asking, Coming, ByPoisson, ByGap, InBurs
 
 -- the nearest whole number of picoseconds, and at least 1
 abbrev pub scaled_gap : (offered target gap : ℕ) → ℕ
-scaled_gap offered target gap = max 1 ((gap * offered * 2 + target) / (target * 2))
+scaled_gap offered target gap = max ((gap * offered * 2 + target) / (target * 2)) 1
 
 -- phases stay, and closed hosts
 abbrev pub scaled_coming : (offered target : ℕ) → Coming → Coming

@@ -1,5 +1,5 @@
 // Scales the gaps of open queues, so that these ask for a part of what a device can do.
-ghost use Rattle.std.specs.Prelude.{◌≡◌, IfOk, IfSome, OnOk, map};
+ghost use Rattle.std.specs.Prelude.{◌≡◌, IfOk, IfSome, OnOk, OnSome, map};
 ghost use Rattle.nvme_model_form.specs.Views.{asking_of, coming_of};
 ghost use Rattle.nvme_simulate.specs.Scaling.{AreScaled, scaled_gap, scaled_coming, scaled_asking};
 
@@ -32,22 +32,28 @@ fn ratio_of(model: &Model, load: Load) -> Result<Ratio, LoadFault> {
 }
 
 impl Ratio {
-    // A gap times the ratio, rounded to the nearest picosecond, and at least 1. `None` where it is 2^64 picoseconds or
-    // longer; as long ones as 2^63 picoseconds may be told to be so.
+    // A gap times the ratio, rounded to the nearest picosecond, and at least 1. `None` where it would be 2^64 picoseconds or
+    // longer. (From 2^62 picoseconds on others may be refused too, whose product has more than 128 bits.)
     fn gap(self, gap: u64) -> Option<u64>
         ensures { IfSome result (λ g. g ≡ scaled_gap self.offered self.target gap) }
     {
         let product = u128::from(gap).checked_mul(self.offered)?;
         let twice = product.checked_mul(2)?.checked_add(self.target)?;
         let nearest = twice.checked_div(self.target.checked_mul(2)?)?;
-        u64::try_from(nearest.max(1)).ok()
+        match u64::try_from(nearest) {
+            Ok(nearest) => Some(nearest.max(1)),
+            Err(_) => None,
+        }
     }
 
     // The mean of exponential gaps times the ratio.
     fn mean(self, mean: Mean) -> Option<Mean>
         ensures { IfSome result (λ m. m.picoseconds ≡ scaled_gap self.offered self.target mean.picoseconds) }
     {
-        Mean::new(self.gap(mean.picoseconds)?).ok()
+        match Mean::new(self.gap(mean.picoseconds)?) {
+            Ok(mean) => Some(mean),
+            Err(_) => None,
+        }
     }
 
     // Arrivals with their gaps times the ratio. On and off phases stay, and so do closed hosts.
@@ -56,18 +62,27 @@ impl Ratio {
     {
         match arrivals {
             Arrivals::Poisson(mean) => Some(Arrivals::Poisson(self.mean(mean)?)),
-            Arrivals::Regular(gap) => {
-                let gap = Gap::new(self.gap(gap.picoseconds)?).ok()?;
-                Some(Arrivals::Regular(gap))
-            }
+            Arrivals::Regular(gap) => match Gap::new(self.gap(gap.picoseconds)?) {
+                Ok(gap) => Some(Arrivals::Regular(gap)),
+                Err(_) => None,
+            },
             Arrivals::OnOff(phases) => {
-                let mean = self.mean(phases.mean)?;
-                let phases = Phases::new(mean, phases.on, phases.off).ok()?;
-                Some(Arrivals::OnOff(phases))
+                match Phases::new(self.mean(phases.mean)?, phases.on, phases.off) {
+                    Ok(phases) => Some(Arrivals::OnOff(phases)),
+                    Err(_) => None,
+                }
             }
             Arrivals::Closed(host) => Some(Arrivals::Closed(host)),
         }
     }
+}
+
+// Scales the gaps of a queue. `None` where they would be too long, and the queue stays as it is.
+fn scale_one(queue: &mut Queue, ratio: Ratio) -> Option<()>
+    ensures { OnSome result (asking_of queue.new ≡ scaled_asking ratio.offered ratio.target (asking_of queue.old)) }
+{
+    queue.arrivals = ratio.arrivals(queue.arrivals)?;
+    Some(())
 }
 
 // Scales the gaps of queues. After an error some of them are scaled.
@@ -77,10 +92,9 @@ fn scale(queues: &mut [Queue], ratio: Ratio) -> Result<(), LoadFault>
     let mut number = 0usize;
     for queue in queues.iter_mut() {
         number = number.saturating_add(1);
-        let Some(arrivals) = ratio.arrivals(queue.arrivals) else {
+        if scale_one(queue, ratio).is_none() {
             return Err(LoadFault::LongGap(number));
-        };
-        queue.arrivals = arrivals;
+        }
     }
     Ok(())
 }
