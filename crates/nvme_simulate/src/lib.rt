@@ -1,5 +1,6 @@
 //! The word `simulate` over streams: it runs a model to its end, writes the log of the finished commands, the trace of the
-//! picks, the answer and a picture of the latencies, and says of a model whether more commands come than its device can run.
+//! picks, the answer and a picture of the latencies, says of a model whether more commands come than its device can run, and
+//! scales it to a load.
 #![tactic(auto)]
 
 mod digest;
@@ -11,8 +12,10 @@ mod loads;
 mod overrides;
 mod progress;
 mod runs;
+mod scaling;
 mod streams;
 mod tails;
+mod target;
 mod trace;
 mod watch;
 
@@ -26,6 +29,7 @@ pub use overrides::{OverrideFault, Overrides};
 pub use progress::Progress;
 pub use runs::{Form, Measured, measure, simulate};
 pub use streams::Streams;
+pub use target::{Load, LoadFault, MAX_LOAD};
 pub use trace::{put_pick, put_trace_head};
 
 #[cfg(test)]

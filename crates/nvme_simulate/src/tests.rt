@@ -1,10 +1,12 @@
-// The digest of `abc` is that of FIPS 180-4. Loads are worked out by hand, and tails by a few lines of Python.
+// The digest of `abc` is that of FIPS 180-4. Loads, and the gaps that are scaled to them, are worked out by hand, and tails by
+// a few lines of Python.
 use crate::groups::groups_of;
 use crate::lengths::is_too_long;
+use crate::scaling::scaled;
 use crate::tails::{Reached, percentiles_of, tail_of};
 use crate::{
-    Digest, Form, OverrideFault, Overrides, Progress, SimulateFault, Stream, Streams, overload_of,
-    put_pick, put_trace_head, simulate,
+    Digest, Form, Load, LoadFault, OverrideFault, Overrides, Progress, SimulateFault, Stream,
+    Streams, overload_of, put_pick, put_trace_head, simulate,
 };
 use nvme_arbiter::{Class, Mechanism, Pick, Seen, Settings};
 use nvme_channels::Placement;
@@ -84,28 +86,126 @@ fn loads_above_the_channels_are_told(rt: HostRuntime) -> Result<(), Fail> {
 }
 
 #[test]
+fn loads_are_decimals(rt: HostRuntime) -> Result<(), Fail> {
+    for (text, millionths) in [
+        ("1", 1_000_000),
+        ("0.7", 700_000),
+        ("00.75", 750_000),
+        ("0.000001", 1),
+        ("4.000000", 4_000_000),
+    ] {
+        assert_eq!(rt; Load::new(text)?.millionths, millionths);
+    }
+    for text in [
+        "",
+        ".5",
+        "1.",
+        "0.1234567",
+        "-1",
+        "+1",
+        "1e0",
+        "0.5.0",
+        "0x1",
+        " 1",
+    ] {
+        assert!(rt; matches!(Load::new(text), Err(LoadFault::Digits)), "{text}");
+    }
+    for text in ["0", "0.000000", "4.000001", "5", "99999999999999999999"] {
+        assert!(rt; matches!(Load::new(text), Err(LoadFault::Range)), "{text}");
+    }
+    Ok(())
+}
+
+// The arrivals of the second queue of a model that is scaled to a load. Those of the first one, which is closed, stay.
+fn arrivals_at(rt: &HostRuntime, load: &str, model: Model) -> Result<Arrivals, Fail> {
+    let model = scaled(model, Load::new(load)?)?;
+    let (Some(closed), Some(open)) = (model.queues.first(), model.queues.get(1)) else {
+        return Err(Fail::new("two queues"));
+    };
+    assert_eq!(rt; closed.arrivals, Arrivals::Closed(Closed::new(8, 0)?));
+    assert_eq!(rt; open.slots, 64);
+    Ok(open.arrivals)
+}
+
+// Reads of 100 us ask for 2 channels where one comes each 50 us.
+#[test]
+fn gaps_are_scaled_to_a_load(rt: HostRuntime) -> Result<(), Fail> {
+    let regular = |gap: u64| -> Result<Arrivals, Fail> { Ok(Arrivals::Regular(Gap::new(gap)?)) };
+    for (load, gap) in [
+        ("1", 50_000_000),
+        ("0.5", 100_000_000),
+        ("0.7", 71_428_571),
+        ("4", 12_500_000),
+    ] {
+        let two = model(&rt, regular(50 * MICROSECOND)?, None)?;
+        assert_eq!(rt; arrivals_at(&rt, load, two)?, regular(gap)?);
+    }
+    let pauses = Some(Pauses::new(4_000, 1_000)?);
+    let paused = model(&rt, regular(50 * MICROSECOND)?, pauses)?;
+    assert_eq!(rt; arrivals_at(&rt, "1", paused)?, regular(66_666_667)?);
+    let poisson = |mean: u64| -> Result<Arrivals, Fail> { Ok(Arrivals::Poisson(Mean::new(mean)?)) };
+    let slow = model(&rt, poisson(500 * MICROSECOND)?, None)?;
+    assert_eq!(rt; arrivals_at(&rt, "0.8", slow)?, poisson(62_500_000)?);
+    let bursts = |mean: u64| -> Result<Arrivals, Fail> {
+        Ok(Arrivals::OnOff(Phases::new(Mean::new(mean)?, 1_000, 3_000)?))
+    };
+    let phases = model(&rt, bursts(50 * MICROSECOND)?, None)?;
+    assert_eq!(rt; arrivals_at(&rt, "0.5", phases)?, bursts(25 * MICROSECOND)?);
+    Ok(())
+}
+
+#[test]
+fn what_cant_be_scaled_is_refused(rt: HostRuntime) -> Result<(), Fail> {
+    let load = Load::new("0.000001")?;
+    let closed = model(&rt, Arrivals::Closed(Closed::new(1, 0)?), None)?;
+    assert!(rt; matches!(scaled(closed, load), Err(LoadFault::NoOpenQueue)));
+    let mut idle = model(&rt, Arrivals::Regular(Gap::new(1)?), None)?;
+    for queue in idle.queues.iter_mut() {
+        queue.mix = Mix::new(0, 0, 1)?;
+    }
+    assert!(rt; matches!(scaled(idle, load), Err(LoadFault::NoService)));
+    let mut queues = Vec::new(rt.alloc());
+    queues.push(queue(Arrivals::Regular(Gap::new(1)?))?)?;
+    queues.push(queue(Arrivals::Poisson(Mean::new(1 << 57)?))?)?;
+    let device = Device::new(2, 4, Placement::Pool, None)?;
+    let settings = Settings::from_cdw11(0x0703_0103);
+    let end = End::after(10)?;
+    let long = Model::new(Mechanism::Weighted, settings, device, queues, 7, end, 0)?;
+    assert!(rt; matches!(scaled(long, load), Err(LoadFault::LongGap(2))));
+    Ok(())
+}
+
+#[test]
 fn options_stand_in_place_of_the_file(rt: HostRuntime) -> Result<(), Fail> {
     let poisson = Arrivals::Poisson(Mean::new(MICROSECOND)?);
-    let overrides = match Overrides::new(Some(9), None, Some("30s"), None) {
+    let overrides = match Overrides::new(Some(9), None, Some("30s"), None, Some("0.5")) {
         Ok(overrides) => overrides,
         Err(_) => return Err(Fail::new("refused")),
     };
-    let changed = overrides.applied(model(&rt, poisson, None)?);
+    let changed = overrides.applied(model(&rt, poisson, None)?)?;
     assert_eq!(rt; changed.seed, 9);
     assert_eq!(rt; changed.end, End::at(30_000_000_000_000));
     assert_eq!(rt; changed.warm_up, 0);
-    let both = Overrides::new(None, Some(1), Some("30s"), None);
+    let (queue, mean) = (changed.queues.get(1), Mean::new(100 * MICROSECOND)?);
+    assert!(rt; queue.is_some_and(|queue| queue.arrivals == Arrivals::Poisson(mean)));
+    let both = Overrides::new(None, Some(1), Some("30s"), None, None);
     assert!(rt; matches!(both, Err(OverrideFault::TwoEnds)));
     assert!(rt;
         matches!(
-            Overrides::new(None, Some(0), None, None),
+            Overrides::new(None, Some(0), None, None, None),
             Err(OverrideFault::Commands(_))
         )
     );
     assert!(rt;
         matches!(
-            Overrides::new(None, None, Some("30"), None),
+            Overrides::new(None, None, Some("30"), None, None),
             Err(OverrideFault::Time(_))
+        )
+    );
+    assert!(rt;
+        matches!(
+            Overrides::new(None, None, None, None, Some("none")),
+            Err(OverrideFault::Load(LoadFault::Digits))
         )
     );
     Ok(())

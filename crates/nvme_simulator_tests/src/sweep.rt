@@ -23,7 +23,7 @@ arrivals = { every = "1ms" }
 
 // The sweep of words over the file.
 fn sweep_of<'a>(alloc: Global, words: &[&'a str]) -> Result<Sweep<'a>, SweepFault<'a>> {
-    let Ok(overrides) = Overrides::new(None, None, None, None) else {
+    let Ok(overrides) = Overrides::new(None, None, None, None, None) else {
         return Err(SweepFault::NotToml);
     };
     let sweep = Sweep {
@@ -46,7 +46,7 @@ fn refused(rt: &HostRuntime, words: &[&str]) -> Result<String, Fail> {
 
 #[test]
 fn the_last_key_is_the_fastest(rt: HostRuntime) -> Result<(), Fail> {
-    let words = ["weights=8:4:2,1:1:1", "device.channels=1,2"];
+    let words = ["weights=8:4:2,1:1:1", "load=0.50,0.7"];
     let Ok(sweep) = sweep_of(rt.alloc(), &words) else {
         return Err(Fail::new("refused"));
     };
@@ -56,7 +56,9 @@ fn the_last_key_is_the_fastest(rt: HostRuntime) -> Result<(), Fail> {
         commands: None,
         time: None,
         warm_up: None,
+        load: None,
         seeds: None,
+        jobs: Some(2),
         format: "csv",
         has_head: true,
     };
@@ -64,10 +66,10 @@ fn the_last_key_is_the_fastest(rt: HostRuntime) -> Result<(), Fail> {
     assert!(rt; sweep.put_commands(rt.alloc(), &words, &mut lines).is_ok());
     assert_eq!(rt;
         lines.as_slice(),
-        b"nvmearb simulate 'a b.toml' --sweep weights=8:4:2 --sweep device.channels=1 --seed 7 --format csv
-nvmearb simulate 'a b.toml' --sweep weights=8:4:2 --sweep device.channels=2 --seed 7 --format csv --no-head
-nvmearb simulate 'a b.toml' --sweep weights=1:1:1 --sweep device.channels=1 --seed 7 --format csv --no-head
-nvmearb simulate 'a b.toml' --sweep weights=1:1:1 --sweep device.channels=2 --seed 7 --format csv --no-head
+        b"nvmearb simulate 'a b.toml' --sweep weights=8:4:2 --sweep load=0.50 --seed 7 --jobs 2 --format csv
+nvmearb simulate 'a b.toml' --sweep weights=8:4:2 --sweep load=0.7 --seed 7 --jobs 2 --format csv --no-head
+nvmearb simulate 'a b.toml' --sweep weights=1:1:1 --sweep load=0.50 --seed 7 --jobs 2 --format csv --no-head
+nvmearb simulate 'a b.toml' --sweep weights=1:1:1 --sweep load=0.7 --seed 7 --jobs 2 --format csv --no-head
 "
             .as_slice()
     );
@@ -105,6 +107,22 @@ fn bad_words_are_refused(rt: HostRuntime) -> Result<(), Fail> {
             "weights=8:4",
             "--sweep weights=8:4: expected three weights, as 8:4:2, or a number of 63 bits",
         ),
+        (
+            "load=0,7",
+            "--sweep load=0: expected a load above 0 and at most 4",
+        ),
+        (
+            "load=0.7,4.1",
+            "--sweep load=4.1: expected a load above 0 and at most 4",
+        ),
+        (
+            "load=high",
+            "--sweep load=high: expected digits, or digits, a point and one to six digits, as 0.7",
+        ),
+        (
+            "load.high=1",
+            "--sweep load.high: the file has no table for such a key",
+        ),
     ];
     for (words, told) in rows {
         assert_eq!(rt; refused(&rt, &[words])?.as_str(), told);
@@ -114,6 +132,40 @@ fn bad_words_are_refused(rt: HostRuntime) -> Result<(), Fail> {
         "--sweep burst: the key is swept twice"
     );
     assert_eq!(rt; refused(&rt, &["queue.2.class=low,urgent"])?.as_str(), "");
+    Ok(())
+}
+
+// The answer of a sweep on so many threads, and behind it the picture.
+fn answer_on(rt: &HostRuntime, sweep: &Sweep, jobs: usize, form: Form) -> Result<Vec<u8>, Fail> {
+    let style = Style {
+        form,
+        has_head: true,
+        digest: Digest::of(b""),
+        jobs,
+    };
+    let (mut answer, mut svg) = (Vec::new(rt.alloc()), Vec::new(rt.alloc()));
+    let mut chart = Some(&mut svg);
+    let terminal = None::<Vec<u8>>;
+    let done = sweep.answer(rt, rt.alloc(), &style, terminal, &mut answer, &mut chart);
+    assert!(rt; done.is_ok());
+    answer.extend_from_slice(svg.as_slice())?;
+    Ok(answer)
+}
+
+#[test]
+fn answers_are_the_same_on_any_number_of_threads(rt: HostRuntime) -> Result<(), Fail> {
+    let words = ["load=0.5,0.9", "device.channels=1,2,3"];
+    let Ok(mut sweep) = sweep_of(rt.alloc(), &words) else {
+        return Err(Fail::new("refused"));
+    };
+    sweep.seeds = 3;
+    for form in [Form::Text, Form::Json, Form::Csv] {
+        let alone = answer_on(&rt, &sweep, 1, form)?;
+        for jobs in [2, 5, 64] {
+            let answer = answer_on(&rt, &sweep, jobs, form)?;
+            assert_eq!(rt; answer.as_slice(), alone.as_slice());
+        }
+    }
     Ok(())
 }
 
@@ -151,10 +203,12 @@ fn a_sweep_is_drawn(rt: HostRuntime) -> Result<(), Fail> {
         form: Form::Csv,
         has_head: true,
         digest: Digest::of(b"abc"),
+        jobs: 1,
     };
     let (mut output, mut svg) = (Vec::new(rt.alloc()), Vec::new(rt.alloc()));
     let mut chart = Some(&mut svg);
-    let done = sweep.answer(rt.alloc(), &style, None::<Vec<u8>>, &mut output, &mut chart);
+    let (alloc, terminal) = (rt.alloc(), None::<Vec<u8>>);
+    let done = sweep.answer(&rt, alloc, &style, terminal, &mut output, &mut chart);
     assert!(rt; done.is_ok());
     let text = std::str::from_utf8(svg.as_slice()).unwrap_or("");
     for part in [

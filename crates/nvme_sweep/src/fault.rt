@@ -1,7 +1,7 @@
 // Why there is no sweep.
 use nvme_model_file::ModelFault;
 use nvme_plot::LINES;
-use nvme_simulate::SimulateFault;
+use nvme_simulate::{LoadFault, SimulateFault};
 use std::alloc::AllocError;
 use std::fmt;
 
@@ -26,6 +26,10 @@ pub enum SweepFault<'a> {
     NotToml,
     /// At this point, whose values are told, the file has this fault.
     Point(String, ModelFault),
+    /// At this point, whose values are told, the load is none, or its open queues can't be scaled to it.
+    Load(String, LoadFault),
+    /// The load is swept, and said beside that.
+    TwoLoads,
     /// The simulation of this point, whose values are told, has no answer.
     Stopped(String, SimulateFault),
     /// A write failed.
@@ -81,6 +85,9 @@ impl fmt::Display for SweepFault<'_> {
             }
             SweepFault::NotToml => f.write_str("expected a TOML document"),
             SweepFault::Point(point, fault) => write!(f, "{point}: {fault}"),
+            SweepFault::Load(point, fault) if point.is_empty() => write!(f, "--load: {fault}"),
+            SweepFault::Load(point, fault) => write!(f, "--sweep {point}: {fault}"),
+            SweepFault::TwoLoads => f.write_str("--load and --sweep load don't go together"),
             SweepFault::Stopped(point, fault) => write!(f, "simulation: {point}: {fault}"),
             SweepFault::Write => f.write_str("write failed"),
             SweepFault::NoMemory => f.write_str("out of memory"),

@@ -56,6 +56,17 @@ pub enum Format {
     Csv,
 }
 
+impl Format {
+    /// The name of the form on a command line.
+    pub fn name(self) -> &'static str {
+        match self {
+            Format::Text => "text",
+            Format::Json => "json",
+            Format::Csv => "csv",
+        }
+    }
+}
+
 /// Which options of a subcommand don't go together.
 #[derive(Clone, Copy, Debug, PartialEq, Eq, Error)]
 pub enum OptionsFault {

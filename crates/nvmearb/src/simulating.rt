@@ -14,6 +14,7 @@ use nvme_simulate::{
 use std::fs;
 use std::io::{self, BufWriter, Write};
 use std::rt::Files;
+use std::thread::Threads;
 
 // How many bytes of a log or a trace are written at a time.
 const ROOM: usize = 65_536;
@@ -77,7 +78,7 @@ fn overrides_of<E: Write>(line: &SimulationWords, errors: &mut E) -> Result<Over
         let _ = writeln!(errors, "nvmearb: {option} {name:?} is {role}");
         return Err(BAD_LINE);
     }
-    if let Err(fault) = sweep_words(line) {
+    if let Some(fault) = line.unfit_for_sweep() {
         let _ = writeln!(errors, "nvmearb: {fault}");
         return Err(BAD_LINE);
     }
@@ -89,7 +90,7 @@ fn overrides_of<E: Write>(line: &SimulationWords, errors: &mut E) -> Result<Over
         );
         return Err(BAD_LINE);
     }
-    match Overrides::new(line.seed, line.commands, line.time, line.warm_up) {
+    match Overrides::new(line.seed, line.commands, line.time, line.warm_up, line.load) {
         Ok(overrides) => Ok(overrides),
         Err(fault) => {
             let _ = writeln!(errors, "nvmearb: {fault}");
@@ -217,8 +218,31 @@ enum Task<'a> {
     Sweep(Overrides, File<'a>),
 }
 
+// What a line asks for, with what stands in place of what its file says. A load to which the model can't be scaled is told,
+// and the error is the exit status.
+fn task_of<'a, E: Write>(
+    line: &SimulationWords,
+    overrides: Overrides,
+    model: Model,
+    file: File<'a>,
+    errors: &mut E,
+) -> Result<Task<'a>, u8>
+    ensures { IfErr result (λ status. status ≤ 4) }
+{
+    if line.is_sweep() {
+        return Ok(Task::Sweep(overrides, file));
+    }
+    match overrides.applied(model) {
+        Ok(model) => Ok(Task::Run(model, file.digest)),
+        Err(fault) => {
+            let _ = writeln!(errors, "nvmearb: --load: {fault}");
+            Err(BAD_LINE)
+        }
+    }
+}
+
 // Simulates what is asked for, and writes the answer and the picture. The answer is the exit status.
-fn done<R: AllocGlobal + Files, P: Write + Drop, W: Write, E: Write>(
+fn done<R, P: Write + Drop + Send, W: Write, E: Write>(
     rt: &R,
     line: &SimulationWords,
     task: Task,
@@ -226,6 +250,8 @@ fn done<R: AllocGlobal + Files, P: Write + Drop, W: Write, E: Write>(
     answers: Answers<'_, W>,
     errors: &mut E,
 ) -> u8
+where
+    R: AllocGlobal + Files + Threads + Sync,
     ensures { result ≤ 4 }
 {
     match task {
@@ -294,7 +320,7 @@ fn put_behind<R: Files, W: Write, E: Write>(
 
 // Simulates what is asked for, and writes the answer to where it belongs and then the picture. The answer is the exit status.
 // Where the simulation fails, no file is touched, and the picture's isn't either where the answer can't be written.
-fn answered<R: AllocGlobal + Files, P: Write + Drop, W: Write, E: Write>(
+fn answered<R, P: Write + Drop + Send, W: Write, E: Write>(
     rt: &R,
     line: &SimulationWords,
     task: Task,
@@ -302,6 +328,8 @@ fn answered<R: AllocGlobal + Files, P: Write + Drop, W: Write, E: Write>(
     output: &mut W,
     errors: &mut E,
 ) -> u8
+where
+    R: AllocGlobal + Files + Threads + Sync,
     ensures { result ≤ 4 }
 {
     let alloc = rt.alloc();
@@ -331,29 +359,9 @@ fn answered<R: AllocGlobal + Files, P: Write + Drop, W: Write, E: Write>(
     }
 }
 
-// What of the options of a sweep doesn't go together.
-fn sweep_words(line: &SimulationWords) -> Result<(), &'static str> {
-    if !line.is_sweep() {
-        return match line.points || line.no_head {
-            true => Err("--points and --no-head go with --sweep or --seeds"),
-            false => Ok(()),
-        };
-    }
-    if line.log.is_some() || line.trace.is_some() {
-        return Err("--log and --trace don't go with --sweep and --seeds");
-    }
-    if line.points && line.chart.is_some() {
-        return Err("--chart doesn't go with --points");
-    }
-    if line.points && line.file.is_none() {
-        return Err("--points wants the name of a file");
-    }
-    Ok(())
-}
-
 /// Does what a line of `simulate` says. A terminal is told how far it is. The answer is the exit status.
 #[inline(never)]
-pub(crate) fn simulated<R, P: Write + Drop, W: Write, E: Write>(
+pub(crate) fn simulated<R, P: Write + Drop + Send, W: Write, E: Write>(
     rt: &R,
     line: &SimulationWords,
     terminal: Option<P>,
@@ -362,7 +370,7 @@ pub(crate) fn simulated<R, P: Write + Drop, W: Write, E: Write>(
     errors: &mut E,
 ) -> u8
 where
-    R: AllocGlobal + Files + Input,
+    R: AllocGlobal + Files + Input + Threads + Sync,
     ensures { result ≤ 4 }
 {
     let overrides = match overrides_of(line, errors) {
@@ -374,15 +382,15 @@ where
         Err(status) => return status,
     };
     let model = match model_of(rt, line.file, text.as_slice(), errors) {
-        Ok(model) => overrides.applied(model),
+        Ok(model) => model,
         Err(status) => return status,
     };
-    let digest = Digest::of(text.as_slice());
-    let task = if line.is_sweep() {
-        let text = text.as_slice();
-        Task::Sweep(overrides, File { text, digest })
-    } else {
-        Task::Run(model, digest)
+    let file = File {
+        text: text.as_slice(),
+        digest: Digest::of(text.as_slice()),
     };
-    answered(rt, line, task, terminal, output, errors)
+    match task_of(line, overrides, model, file, errors) {
+        Ok(task) => answered(rt, line, task, terminal, output, errors),
+        Err(status) => status,
+    }
 }

@@ -5,10 +5,11 @@ use crate::files::Answers;
 use crate::kept::Kept;
 use crate::simulating::form_of;
 use crate::telling::{no_memory, unwritten};
-use nvme_program::{Format, SimulationWords};
+use nvme_program::{MAX_JOBS, SimulationWords};
 use nvme_simulate::{Digest, Overrides};
 use nvme_sweep::{CommandWords, Style, Sweep, SweepFault, axes_of};
 use std::io::Write;
+use std::thread::{Threads, available_parallelism};
 
 // The exit statuses of a fault of the input, of the command line and at run time.
 const INPUT: u8 = 1;
@@ -41,15 +42,6 @@ fn told<E: Write>(fault: &SweepFault, errors: &mut E) -> u8
     }
 }
 
-// The name of a format.
-fn name_of(format: Format) -> &'static str {
-    match format {
-        Format::Text => "text",
-        Format::Json => "json",
-        Format::Csv => "csv",
-    }
-}
-
 // What each command of a point says.
 fn command_words<'a>(line: &SimulationWords<'a>) -> CommandWords<'a> {
     CommandWords {
@@ -58,14 +50,27 @@ fn command_words<'a>(line: &SimulationWords<'a>) -> CommandWords<'a> {
         commands: line.commands,
         time: line.time,
         warm_up: line.warm_up,
+        load: line.load,
         seeds: line.seeds,
-        format: name_of(line.format),
+        jobs: line.jobs,
+        format: line.format.name(),
         has_head: !line.no_head,
     }
 }
 
+// On how many threads a sweep runs: as many as there are processors for it, where the line doesn't say.
+fn jobs_of<R: Threads>(rt: &R, asked: Option<u64>) -> usize {
+    if let Some(jobs) = asked {
+        return jobs as usize;
+    }
+    match available_parallelism(rt) {
+        Ok(processors) => processors.get().min(usize::from(MAX_JOBS)),
+        Err(_) => 1,
+    }
+}
+
 // Runs the points of a sweep, or writes their commands.
-fn ran<'a, R: AllocGlobal, P: Write + Drop, W: Write>(
+fn ran<'a, R: AllocGlobal + Threads + Sync, P: Write + Drop + Send, W: Write>(
     rt: &R,
     line: &SimulationWords,
     sweep: &Sweep<'a>,
@@ -81,8 +86,9 @@ fn ran<'a, R: AllocGlobal, P: Write + Drop, W: Write>(
         form: form_of(line.format),
         has_head: !line.no_head,
         digest,
+        jobs: jobs_of(rt, line.jobs),
     };
-    sweep.answer(rt.alloc(), &style, terminal, output, chart)
+    sweep.answer(rt, rt.alloc(), &style, terminal, output, chart)
 }
 
 // The sweep of a line over a file, at each of whose points the file has no fault.
@@ -108,8 +114,8 @@ fn sweep_of<'a, R: AllocGlobal>(
     Ok(sweep)
 }
 
-/// Does what a line of `simulate` says of a sweep. A terminal is told how far each run is. The answer is the exit status.
-pub(crate) fn swept<R: AllocGlobal, P: Write + Drop, W: Write, E: Write>(
+/// Does what a line of `simulate` says of a sweep. A terminal is told how far it is. The answer is the exit status.
+pub(crate) fn swept<R, P: Write + Drop + Send, W: Write, E: Write>(
     rt: &R,
     line: &SimulationWords,
     overrides: Overrides,
@@ -118,6 +124,8 @@ pub(crate) fn swept<R: AllocGlobal, P: Write + Drop, W: Write, E: Write>(
     answers: Answers<'_, W>,
     errors: &mut E,
 ) -> u8
+where
+    R: AllocGlobal + Threads + Sync,
     ensures { result ≤ 4 }
 {
     let Answers { output, chart } = answers;
