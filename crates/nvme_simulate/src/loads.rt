@@ -84,7 +84,7 @@ fn load(service: u128, gap: u64) -> u128 {
     part(service, MILLIONTHS, u128::from(gap))
 }
 
-// What an open queue asks for. None of a closed host, which waits for completions.
+// What an open queue asks for. None of a closed host, which waits for completions, and of a list, which ends.
 fn offered_by(queue: &Queue) -> Option<u128> {
     let service = mean_service(queue);
     match &queue.arrivals {
@@ -95,7 +95,7 @@ fn offered_by(queue: &Queue) -> Option<u128> {
             let busy = load(service, phases.mean.picoseconds);
             Some(part(busy, u128::from(phases.on), cycle))
         }
-        Arrivals::Closed(_) => None,
+        Arrivals::Closed(_) | Arrivals::Replay(_) => None,
     }
 }
 

@@ -1,8 +1,8 @@
 // The digest of `abc` is that of FIPS 180-4. Loads are worked out by hand.
 use crate::lengths::is_too_long;
 use crate::{
-    Digest, Form, OverrideFault, Overrides, Progress, SimulateFault, Stream, Streams, overload_of,
-    put_pick, put_trace_head, simulate,
+    Digest, Form, Listings, OverrideFault, Overrides, Progress, ReplayError, SimulateFault, Source,
+    Stream, Streams, model_in, overload_of, put_pick, put_trace_head, simulate, sources_in,
 };
 use nvme_arbiter::{Class, Mechanism, Pick, Seen, Settings};
 use nvme_channels::Placement;
@@ -199,6 +199,69 @@ fn commands_come_before_the_clock_ends(rt: HostRuntime) -> Result<(), Fail> {
         let model = Model::new(Mechanism::Weighted, settings, device, queues, 7, end, 0)?;
         assert_eq!(rt; is_too_long(&model), lasts);
     }
+    Ok(())
+}
+
+// A queue that replays a file at twice its speed.
+const REPLAY: &str = "version = 1
+device.read = \"1us\"
+[[queue]]
+arrivals = { replay = \"a.csv\", form = \"msr\", speed = 2 }
+";
+
+// The model of this file, and what its queues replay.
+fn replaying(rt: &HostRuntime) -> Result<(Model, Vec<Source>), Fail> {
+    let model = model_in(rt.alloc(), REPLAY.as_bytes());
+    let sources = sources_in(rt.alloc(), REPLAY.as_bytes());
+    match (model, sources) {
+        (Ok(model), Ok(sources)) => Ok((model, sources)),
+        _ => Err(Fail::new("a fault")),
+    }
+}
+
+// Two reads, of which the second one comes 4 us behind the first one in the file, and so 2 us behind it here.
+#[test]
+fn a_file_is_replayed(rt: HostRuntime) -> Result<(), Fail> {
+    let (model, sources) = replaying(&rt)?;
+    let mut listings = Listings::new(rt.alloc());
+    let unread = listings.put_into(rt.alloc(), &sources, model);
+    assert!(rt;
+        matches!(unread, Err(fault) if fault.file == "a.csv" && fault.error == ReplayError::Unread)
+    );
+    for source in &sources {
+        assert!(rt; !listings.has(source));
+        let bytes = b"7,a,0,Read,0,512,1\n47,a,0,Read,512,1024,1\n";
+        assert!(rt; listings.read(rt.alloc(), source, bytes).is_ok());
+        assert!(rt; listings.has(source));
+    }
+    let (model, sources) = replaying(&rt)?;
+    let Ok(model) = listings.put_into(rt.alloc(), &sources, model) else {
+        return Err(Fail::new("no list"));
+    };
+    assert!(rt; !is_too_long(&model) && overload_of(&model).is_none());
+    let mut log = Vec::new(rt.alloc());
+    let mut output = Vec::new(rt.alloc());
+    let mut streams = Streams {
+        log: Some(&mut log),
+        trace: None::<Vec<u8>>,
+        progress: Progress::new(None::<Vec<u8>>, model.end),
+    };
+    let digest = Digest::of(b"");
+    let done = simulate(
+        rt.alloc(),
+        model,
+        &digest,
+        Form::Text,
+        &mut streams,
+        &mut output,
+    );
+    assert!(rt; done.is_ok());
+    let lines =
+        b"queue,number,operation,block,blocks,channel,came_ps,submitted_ps,picked_ps,started_ps,done_ps
+1,0,read,0,1,0,0,0,0,0,1000000
+1,1,read,1,2,0,2000000,2000000,2000000,2000000,3000000
+";
+    assert_eq!(rt; log.as_slice(), lines.as_slice());
     Ok(())
 }
 

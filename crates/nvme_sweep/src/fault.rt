@@ -1,6 +1,6 @@
 // Why there is no sweep.
 use nvme_model_file::ModelFault;
-use nvme_simulate::SimulateFault;
+use nvme_simulate::{FileFault, ReplayError, SimulateFault};
 use std::alloc::AllocError;
 use std::fmt;
 
@@ -23,6 +23,8 @@ pub enum SweepFault<'a> {
     NotToml,
     /// At this point, whose values are told, the file has this fault.
     Point(String, ModelFault),
+    /// At this point, whose values are told, the file of this name can't be replayed.
+    Replay(String, String, ReplayError),
     /// The simulation of this point, whose values are told, has no answer.
     Stopped(String, SimulateFault),
     /// A write failed.
@@ -71,6 +73,13 @@ impl fmt::Display for SweepFault<'_> {
             }
             SweepFault::NotToml => f.write_str("expected a TOML document"),
             SweepFault::Point(point, fault) => write!(f, "{point}: {fault}"),
+            SweepFault::Replay(point, file, error) => {
+                let fault = FileFault {
+                    file: file.as_str(),
+                    error: *error,
+                };
+                write!(f, "{point}: {fault}")
+            }
             SweepFault::Stopped(point, fault) => write!(f, "simulation: {point}: {fault}"),
             SweepFault::Write => f.write_str("write failed"),
             SweepFault::NoMemory => f.write_str("out of memory"),

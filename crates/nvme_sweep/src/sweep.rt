@@ -4,8 +4,8 @@ use crate::fault::{SweepFault, add};
 use crate::place::put;
 use crate::points::{choices_at, points_of};
 use crate::rows::{SweepRow, rows_of};
-use nvme_model_file::{ModelFault, model_in};
-use nvme_simulate::{Model, Overrides, Progress, SimulateFault, measure};
+use nvme_model_file::{ModelFault, model_in, sources_in};
+use nvme_simulate::{Listings, Model, Overrides, Progress, ReplayError, SimulateFault, measure};
 use nvme_workload::{DocumentError, document};
 use std::alloc::{AllocError, Global};
 use std::io::Write;
@@ -19,6 +19,8 @@ pub struct Sweep<'a> {
     pub seeds: u64,
     /// What stands in place of the file's keys.
     pub overrides: Overrides,
+    /// The requests of the files that the queues of the file replay. A sweep reads no other files.
+    pub listings: Listings,
     /// The file's text.
     pub text: &'a str,
 }
@@ -86,6 +88,37 @@ impl<'a> Sweep<'a> {
         }
     }
 
+    // What is told of a fault of the file at a point.
+    fn fault_at(&self, alloc: Global, values: &[&str], fault: ModelFault) -> SweepFault<'a> {
+        match (fault, self.name_of(alloc, values)) {
+            (ModelFault::NoMemory, _) | (_, Err(_)) => SweepFault::NoMemory,
+            (fault, Ok(name)) => SweepFault::Point(name, fault),
+        }
+    }
+
+    // The model of a text at a point with the lists of the files that its queues replay.
+    fn with_lists(
+        &self,
+        alloc: Global,
+        values: &[&str],
+        text: &str,
+        model: Model,
+    ) -> Result<Model, SweepFault<'a>> {
+        let sources = match sources_in(alloc, text.as_bytes()) {
+            Ok(sources) => sources,
+            Err(fault) => return Err(self.fault_at(alloc, values, fault)),
+        };
+        match self.listings.put_into(alloc, &sources, model) {
+            Ok(model) => Ok(model),
+            Err(fault) if fault.error == ReplayError::NoMemory => Err(SweepFault::NoMemory),
+            Err(fault) => {
+                let name = self.name_of(alloc, values)?;
+                let file = String::from_str(alloc, fault.file)?;
+                Err(SweepFault::Replay(name, file, fault.error))
+            }
+        }
+    }
+
     // The model of a text at a point, with what stands in place of its keys.
     fn model_at(
         &self,
@@ -94,9 +127,8 @@ impl<'a> Sweep<'a> {
         text: &str,
     ) -> Result<Model, SweepFault<'a>> {
         match model_in(alloc, text.as_bytes()) {
-            Ok(model) => Ok(self.overrides.applied(model)),
-            Err(ModelFault::NoMemory) => Err(SweepFault::NoMemory),
-            Err(fault) => Err(SweepFault::Point(self.name_of(alloc, values)?, fault)),
+            Ok(model) => self.with_lists(alloc, values, text, self.overrides.applied(model)),
+            Err(fault) => Err(self.fault_at(alloc, values, fault)),
         }
     }
 
