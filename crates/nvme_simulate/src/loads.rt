@@ -86,7 +86,8 @@ fn load(service: u128, gap: u64, parts: u128) -> u128 {
     part(service, parts, u128::from(gap))
 }
 
-// What an open queue asks for, in so many parts of a channel. None of a closed host, which waits for completions.
+// What an open queue asks for, in so many parts of a channel. None of a closed host, which waits for completions, and of a
+// list, which ends.
 fn offered_by(queue: &Queue, parts: u128) -> Option<u128> {
     let service = mean_service(queue);
     match &queue.arrivals {
@@ -97,7 +98,7 @@ fn offered_by(queue: &Queue, parts: u128) -> Option<u128> {
             let busy = load(service, phases.mean.picoseconds, parts);
             Some(part(busy, u128::from(phases.on), cycle))
         }
-        Arrivals::Closed(_) => None,
+        Arrivals::Closed(_) | Arrivals::Replay(_) => None,
     }
 }
 

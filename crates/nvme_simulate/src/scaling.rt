@@ -56,12 +56,13 @@ impl Ratio {
         }
     }
 
-    // Arrivals with their gaps times the ratio. On and off phases stay, and so do closed hosts.
-    fn arrivals(self, arrivals: Arrivals) -> Option<Arrivals>
-        ensures { IfSome result (λ a. coming_of a ≡ scaled_coming self.offered self.target (coming_of arrivals)) }
+    // Arrivals with their gaps times the ratio. On and off phases stay, and so do closed hosts. `None` where a gap would be too
+    // long, and of a list, which has none.
+    fn arrivals(self, arrivals: &Arrivals) -> Option<Arrivals>
+        ensures { IfSome result (λ a. coming_of a ≡ scaled_coming self.offered self.target (coming_of arrivals.now)) }
     {
         match arrivals {
-            Arrivals::Poisson(mean) => Some(Arrivals::Poisson(self.mean(mean)?)),
+            Arrivals::Poisson(mean) => Some(Arrivals::Poisson(self.mean(*mean)?)),
             Arrivals::Regular(gap) => match Gap::new(self.gap(gap.picoseconds)?) {
                 Ok(gap) => Some(Arrivals::Regular(gap)),
                 Err(_) => None,
@@ -72,16 +73,20 @@ impl Ratio {
                     Err(_) => None,
                 }
             }
-            Arrivals::Closed(host) => Some(Arrivals::Closed(host)),
+            Arrivals::Closed(host) => Some(Arrivals::Closed(*host)),
+            Arrivals::Replay(_) => None,
         }
     }
 }
 
-// Scales the gaps of a queue. `None` where they would be too long, and the queue stays as it is.
+// Scales the gaps of a queue. The times of a list stay. `None` where gaps would be too long, and the queue stays as it is.
 fn scale_one(queue: &mut Queue, ratio: Ratio) -> Option<()>
     ensures { OnSome result (asking_of queue.new ≡ scaled_asking ratio.offered ratio.target (asking_of queue.old)) }
 {
-    queue.arrivals = ratio.arrivals(queue.arrivals)?;
+    if let Arrivals::Replay(_) = &queue.arrivals {
+        return Some(());
+    }
+    queue.arrivals = ratio.arrivals(&queue.arrivals)?;
     Some(())
 }
 
@@ -100,7 +105,7 @@ fn scale(queues: &mut [Queue], ratio: Ratio) -> Result<(), LoadFault>
 }
 
 /// The model with the gaps of its open queues multiplied by one ratio, so that what these ask for is this part of what its
-/// device can do, as `overload_of` reckons both. So the rates keep their proportions.
+/// device can do, as `overload_of` reckons both. So the rates keep their proportions. Closed hosts and lists stay.
 ///
 /// What a queue asks for is reckoned down to 10^-15 of a channel, and each gap is then rounded to the nearest picosecond. So
 /// the load is this part but for half a picosecond in each gap, which is one in 20 million of a gap of 10 microseconds. A gap

@@ -22,7 +22,7 @@ pub enum LoadFault {
     /// It is 0, or above `MAX_LOAD`.
     #[error("expected a load above 0 and at most 4")]
     Range,
-    /// All hosts are closed, so that no rate of arrivals is there to scale.
+    /// All hosts are closed or replay files, so that no rate of arrivals is there to scale.
     #[error("no queue is open: there is nothing to scale")]
     NoOpenQueue,
     /// No rate of their commands is a load, since they take no time, or so little that it can't be told.

@@ -16,6 +16,8 @@ mod numbers;
 #[cfg(test)]
 mod occupancy;
 #[cfg(test)]
+mod replay;
+#[cfg(test)]
 mod simulation;
 #[cfg(test)]
 mod sweep;

@@ -2,7 +2,8 @@
 use nvme_clock::{Purpose, Quantiles, TwoPoints, stream};
 use nvme_load::{
     Arrivals, ArrivalsFault, Closed, Distribution, Extent, ExtentFault, Gap, Mean, MeanFault, Mix,
-    MixFault, Operation, Order, Phases, PhasesFault, Places, Service, Services,
+    MixFault, Operation, Order, Phases, PhasesFault, Places, Replay, ReplayFault, Request, Service,
+    Services,
 };
 use std::test::Fail;
 
@@ -91,7 +92,7 @@ fn last_of(arrivals: &Arrivals) -> Option<(u64, u64)> {
     let mut time = 0u64;
     let mut late = 0u64;
     for _ in 0..10_000 {
-        let Some(at) = arrivals.next_after(time, &mut rng) else {
+        let Some(at) = arrivals.next_after(0, time, &mut rng) else {
             return None;
         };
         time = at;
@@ -117,11 +118,11 @@ fn commands_that_come_too_late(rt: HostRuntime) -> Result<(), Fail> {
     let mut rng = stream(7, 0, Purpose::Arrivals);
     let mean = Mean::new(0x03ff_ffff_ffff_ffff)?;
     let poisson = Arrivals::Poisson(mean);
-    assert_eq!(rt; poisson.next_after(u64::MAX, &mut rng), None);
+    assert_eq!(rt; poisson.next_after(0, u64::MAX, &mut rng), None);
     let long_phases = Arrivals::OnOff(Phases::new(mean, 1 << 63, 1 << 62)?);
-    assert_eq!(rt; long_phases.next_after(u64::MAX, &mut rng), None);
+    assert_eq!(rt; long_phases.next_after(0, u64::MAX, &mut rng), None);
     let short_phases = Arrivals::OnOff(Phases::new(mean, 1, 1_000_000)?);
-    assert_eq!(rt; short_phases.next_after(0, &mut rng), None);
+    assert_eq!(rt; short_phases.next_after(0, 0, &mut rng), None);
     Ok(())
 }
 
@@ -222,5 +223,54 @@ fn faults_of_places_read_well(rt: HostRuntime) -> Result<(), Fail> {
         told.as_str(),
         "expected a namespace with room for one command"
     );
+    Ok(())
+}
+
+// A read of eight blocks.
+fn read(at: u64, block: u64) -> Request {
+    Request {
+        at,
+        operation: Operation::Read,
+        block,
+        blocks: 8,
+    }
+}
+
+#[test]
+fn lists_come_at_their_times(rt: HostRuntime) -> Result<(), Fail> {
+    let requests = vec![in rt.alloc(); read(0, 0), read(7, 92), read(7, 8)]?;
+    let arrivals = Arrivals::Replay(Replay::new(100, requests)?);
+    let mut rng = stream(7, 0, Purpose::Arrivals);
+    assert_eq!(rt; arrivals.at_start(), 0);
+    assert_eq!(rt; arrivals.next_after(0, 0, &mut rng), Some(0));
+    assert_eq!(rt; arrivals.next_after(1, 0, &mut rng), Some(7));
+    assert_eq!(rt; arrivals.next_after(2, 7, &mut rng), Some(7));
+    assert_eq!(rt; arrivals.next_after(3, 7, &mut rng), None);
+    assert_eq!(rt; arrivals.request(1), Some(read(7, 92)));
+    assert_eq!(rt; arrivals.request(3), None);
+    assert!(rt; !arrivals.ends_at(2) && arrivals.ends_at(3));
+    let none = Replay::empty(rt.alloc(), 100);
+    assert!(rt; none.ends_at(0));
+    let drawn = Arrivals::Regular(Gap::new(7)?);
+    assert_eq!(rt; drawn.request(0), None);
+    assert!(rt; !drawn.ends_at(u64::MAX));
+    Ok(())
+}
+
+#[test]
+fn faults_of_lists_read_well(rt: HostRuntime) -> Result<(), Fail> {
+    assert!(rt; read(0, 92).lies_within(100) && !read(0, 93).lies_within(100));
+    assert!(rt; !read(0, u64::MAX).lies_within(u64::MAX));
+    let outside = Replay::new(100, vec![in rt.alloc(); read(0, 0), read(7, 93)]?);
+    assert!(rt; matches!(outside, Err(ReplayFault::Outside)));
+    let told = format!(in rt.alloc(); "{}", ReplayFault::Outside)?;
+    assert_eq!(rt;
+        told.as_str(),
+        "expected commands that lie within the namespace"
+    );
+    let fallen = Replay::new(100, vec![in rt.alloc(); read(7, 0), read(6, 8)]?);
+    assert!(rt; matches!(fallen, Err(ReplayFault::Order)));
+    let told = format!(in rt.alloc(); "{}", ReplayFault::Order)?;
+    assert_eq!(rt; told.as_str(), "expected times that don't fall");
     Ok(())
 }

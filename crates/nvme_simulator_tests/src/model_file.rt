@@ -3,7 +3,8 @@ use nvme_arbiter::{Class, Mechanism};
 use nvme_channels::Placement;
 use nvme_load::{Arrivals, Distribution, Order};
 use nvme_model::Model;
-use nvme_model_file::{ModelFault, Told, model_in, simulation_in};
+use nvme_model_file::{ModelFault, Told, model_in, simulation_in, sources_in};
+use nvme_replay::{Form, Served, Speed, Wanted};
 use std::process::Abort;
 use std::test::Fail;
 
@@ -155,11 +156,19 @@ fn simulation_files_are_told_from_others(rt: HostRuntime) -> Result<(), Fail> {
     Ok(())
 }
 
+// The first fault of a text, of its model or of what its queues replay.
+fn fault_of(rt: &HostRuntime, text: &str) -> Option<ModelFault> {
+    match model_in(rt.alloc(), text.as_bytes()) {
+        Ok(_) => sources_in(rt.alloc(), text.as_bytes()).err(),
+        Err(fault) => Some(fault),
+    }
+}
+
 // What is told of the fault of a text.
 fn told(rt: &HostRuntime, text: &str) -> Result<String, Fail> {
-    match model_in(rt.alloc(), text.as_bytes()) {
-        Ok(_) => Err(Fail::new("no fault")),
-        Err(fault) => Ok(format!(in rt.alloc();
+    match fault_of(rt, text) {
+        None => Err(Fail::new("no fault")),
+        Some(fault) => Ok(format!(in rt.alloc();
             "{told}",
             told = Told {
                 file: "f",
@@ -230,7 +239,7 @@ const FAULTS_OF_THE_QUEUES: &str = r#"
 queue = [] => f:3:9: top, queue: found an empty array, expected 1 to 64 queues
 queue = [3] => f:3:10: top, queue, item 1: found 3, expected a table
 [queue] => f:3:2: top, queue: found a table, expected an array of 1 to 64 tables: queues are written [[queue]]
-[[queue]] => f:3:1: queue 1: arrivals is missing, expected a table of poisson, every, closed or bursts
+[[queue]] => f:3:1: queue 1: arrivals is missing, expected a table of poisson, every, closed, bursts or replay
 "#;
 
 const FAULTS_OF_A_QUEUE: &str = r#"
@@ -239,7 +248,7 @@ slots = 1 => f:4:9: queue 1, slots: found 1, expected a whole number from 2 to 4
 arrivals = 3 => f:4:12: queue 1, arrivals: found 3, expected a table
 arrivals = { poisson = 0 } => f:4:24: queue 1, arrivals, poisson: found 0, expected a whole number from 1 to 1000000000000
 arrivals = { poisson = true } => f:4:24: queue 1, arrivals, poisson: found true, expected commands a second as a whole number, or a duration such as "80us"
-arrivals = { poisson = 5, think = "1us" } => f:4:1: queue 1, arrivals: expected one of poisson, every, closed (with think) and bursts
+arrivals = { poisson = 5, think = "1us" } => f:4:1: queue 1, arrivals: expected one of poisson, every, closed (with think), bursts and replay
 arrivals = { every = "0us" } => f:4:22: queue 1, arrivals, every: found "0us", expected a gap above 0
 arrivals = { closed = 4097 } => f:4:23: queue 1, arrivals, closed: found 4097, expected a whole number from 1 to 4096
 arrivals = { bursts = { poisson = 3, on = "0us", off = "1us" } } => f:4:43: queue 1, arrivals, bursts, on: found "0us", expected on phases longer than 0
@@ -247,6 +256,21 @@ arrivals = { every = 3 }|mix = { read = 0 } => f:5:7: queue 1, mix: found a tabl
 arrivals = { every = 3 }|mix = { write = 1 } => f:3:1: queue 1: write is missing, expected how long it takes, of the queue or of the device
 arrivals = { every = 3 }|blocks = 65537 => f:5:10: queue 1, blocks: found 65537, expected a whole number from 1 to 65536
 arrivals = { every = 3 }|offsets = "sequental" => f:5:11: queue 1, offsets: found "sequental", expected "uniform" or "sequential"; did you mean `sequential`?
+"#;
+
+const FAULTS_OF_A_REPLAY: &str = r#"
+arrivals = { poisson = 5, form = "csv" } => f:4:27: queue 1, arrivals: unknown key "form", expected one of poisson every closed think bursts replay
+arrivals = { replay = "a", poisson = 5 } => f:4:28: queue 1, arrivals: unknown key "poisson", expected one of replay form speed queue
+arrivals = { replay = 3, form = "msr" } => f:4:23: queue 1, arrivals, replay: found 3, expected the name of a file
+arrivals = { replay = "a" } => f:4:1: queue 1, arrivals: form is missing, expected "csv", "msr", "alibaba", "blkparse" or "fio"
+arrivals = { replay = "a", form = "alibab" } => f:4:35: queue 1, arrivals, form: found "alibab", expected "csv", "msr", "alibaba", "blkparse" or "fio"; did you mean `alibaba`?
+arrivals = { replay = "a", form = "msr", speed = "0" } => f:4:50: queue 1, arrivals, speed: found "0", expected a number above 0, as 2 or "0.5"
+arrivals = { replay = "a", form = "msr", speed = -2 } => f:4:50: queue 1, arrivals, speed: found -2, expected a number above 0, as 2 or "0.5"
+arrivals = { replay = "a", form = "msr", queue = 2 } => f:4:42: queue 1, arrivals, queue: has no effect without form = "csv"
+arrivals = { replay = "a", form = "csv", queue = 0 } => f:4:50: queue 1, arrivals, queue: found 0, expected a whole number from 1 to 65535
+arrivals = { replay = "a", form = "msr" }|mix = { read = 1 } => f:5:1: queue 1, mix: can't stand beside replay
+arrivals = { replay = "a", form = "msr" }|blocks = 8 => f:5:1: queue 1, blocks: can't stand beside replay
+arrivals = { replay = "a", form = "msr" }|offsets = "uniform" => f:5:1: queue 1, offsets: can't stand beside replay
 "#;
 
 #[test]
@@ -280,6 +304,69 @@ fn faults_of_a_queue(rt: HostRuntime) -> Result<(), Fail> {
         "version = 1\ndevice.read = \"1us\"\n[[queue]]\n",
         FAULTS_OF_A_QUEUE,
     )
+}
+
+#[test]
+fn faults_of_a_replay(rt: HostRuntime) -> Result<(), Fail> {
+    are_told(
+        &rt,
+        "version = 1\ndevice.read = \"1us\"\n[[queue]]\n",
+        FAULTS_OF_A_REPLAY,
+    )
+}
+
+const REPLAYS: &str = r#"version = 1
+[device]
+size = 64
+read = "1us"
+[[queue]]
+arrivals = { poisson = 5 }
+[[queue]]
+arrivals = { replay = "a.csv", form = "csv", queue = 1, speed = 2 }
+write = "2us"
+[[queue]]
+arrivals = { replay = "b", form = "csv", speed = "0.5" }
+"#;
+
+#[test]
+fn replays_name_their_files(rt: HostRuntime) -> Result<(), Fail> {
+    let model = model_of(&rt, REPLAYS)?;
+    assert_eq!(rt; model.queues.len(), 3);
+    for queue in [&model.queues[1], &model.queues[2]] {
+        assert!(rt;
+            matches!(&queue.arrivals, Arrivals::Replay(list) if list.size == 64 && list.ends_at(0))
+        );
+    }
+    let Ok(sources) = sources_in(rt.alloc(), REPLAYS.as_bytes()) else {
+        return Err(Fail::new("a fault"));
+    };
+    assert_eq!(rt; sources.len(), 2);
+    let one = &sources[0];
+    assert_eq!(rt;
+        (one.file.as_str(), one.form, one.of),
+        ("a.csv", Form::Csv, 1)
+    );
+    let served = Served {
+        read: true,
+        write: true,
+        flush: false,
+    };
+    let wanted = Wanted {
+        queue: 2,
+        speed: Speed::whole(2).unwrap_or(Speed::SAME),
+        size: 64,
+        served,
+    };
+    assert_eq!(rt; one.wanted, wanted);
+    let two = &sources[1];
+    assert_eq!(rt; (two.file.as_str(), two.form, two.of), ("b", Form::Csv, 3));
+    assert!(rt; !two.wanted.served.write);
+    assert_eq!(rt; Some(two.wanted.speed), Speed::parse("0.5"));
+    let Ok(none) = sources_in(rt.alloc(), WHOLE.as_bytes()) else {
+        return Err(Fail::new("a fault"));
+    };
+    assert!(rt; none.is_empty());
+    Ok(())
 }
 
 #[test]

@@ -4,7 +4,8 @@ ghost use Rattle.nvme_simulation.specs.Simulations.{IsSimulation};
 use nvme_arbiter::{Class, Mechanism, Seen, Settings};
 use nvme_channels::Placement;
 use nvme_load::{
-    Arrivals, Closed, Distribution, Extent, Gap, Mean, Mix, Order, Places, Service, Services,
+    Arrivals, Closed, Distribution, Extent, Gap, Mean, Mix, Operation, Order, Places, Replay,
+    Request, Service, Services,
 };
 use nvme_model::{Device, End, Model, Pauses, Queue};
 use nvme_simulation::{Happening, Simulation};
@@ -142,6 +143,49 @@ fn paused_channel_starts_nothing(rt: HostRuntime) -> Result<(), Fail> {
     let mut simulation = Simulation::new(rt.alloc(), model(queues, device, 1, 0)?)?;
     let sums = run(&mut simulation)?;
     assert_eq!(rt; (sums.commands, sums.latencies), (1, 50 * MICROSECOND));
+    Ok(())
+}
+
+// A read of a list.
+fn listed(at: u64, block: u64) -> Request {
+    Request {
+        at,
+        operation: Operation::Read,
+        block,
+        blocks: 8,
+    }
+}
+
+// A list of three commands, two of them at one time, of 10 us each on a channel that pauses from 100 us on for 50 us: all is
+// over then, though more could come.
+#[test]
+fn all_is_over_once_lists_have_ended(rt: HostRuntime) -> Result<(), Fail> {
+    let mut queues = Vec::new(rt.alloc());
+    let requests = vec![in rt.alloc(); listed(0, 0), listed(0, 8), listed(30 * MICROSECOND, 0)]?;
+    let arrivals = Arrivals::Replay(Replay::new(1_048_576, requests)?);
+    let time = Distribution::Fixed(10 * MICROSECOND);
+    queues.push(queue(Class::High, 16, arrivals, time)?)?;
+    let pauses = Pauses::new(100 * MICROSECOND, 50 * MICROSECOND)?;
+    let device = Device::new(1, 1, Placement::Pool, Some(pauses))?;
+    let mut simulation = Simulation::new(rt.alloc(), model(queues, device, 1_000, 0)?)?;
+    let sums = run(&mut simulation)?;
+    // (done at 10 us, 20 us and 40 us)
+    assert_eq!(rt; (sums.commands, sums.latencies), (3, 40 * MICROSECOND));
+    assert_eq!(rt; sums.end, 40 * MICROSECOND);
+    assert_eq!(rt; simulation.time(), 150 * MICROSECOND);
+    Ok(())
+}
+
+// A queue whose list has no command.
+#[test]
+fn an_empty_list_has_no_command(rt: HostRuntime) -> Result<(), Fail> {
+    let mut queues = Vec::new(rt.alloc());
+    let arrivals = Arrivals::Replay(Replay::empty(rt.alloc(), 1_048_576));
+    queues.push(queue(Class::High, 16, arrivals, Distribution::Fixed(1))?)?;
+    let device = Device::new(1, 1, Placement::Pool, None)?;
+    let mut simulation = Simulation::new(rt.alloc(), model(queues, device, 1_000, 0)?)?;
+    let sums = run(&mut simulation)?;
+    assert_eq!(rt; (sums.commands, simulation.time()), (0, 0));
     Ok(())
 }
 

@@ -1,5 +1,5 @@
 // Means and widths are worked out by hand, with quantiles of a printed table of Student's t.
-use nvme_simulate::{Digest, Form, Overrides};
+use nvme_simulate::{Digest, Form, Listings, Overrides, Source, sources_in};
 use nvme_sweep::{CommandWords, Estimate, Style, Sweep, SweepFault, axes_of, estimate_of};
 use std::alloc::Global;
 use std::test::Fail;
@@ -21,8 +21,13 @@ class = "low"
 arrivals = { every = "1ms" }
 "#;
 
-// The sweep of words over the file.
-fn sweep_of<'a>(alloc: Global, words: &[&'a str]) -> Result<Sweep<'a>, SweepFault<'a>> {
+// The sweep of words over a text, whose queues replay these files.
+fn sweep_over<'a>(
+    alloc: Global,
+    words: &[&'a str],
+    listings: Listings,
+    text: &'a str,
+) -> Result<Sweep<'a>, SweepFault<'a>> {
     let Ok(overrides) = Overrides::new(None, None, None, None, None) else {
         return Err(SweepFault::NotToml);
     };
@@ -30,10 +35,16 @@ fn sweep_of<'a>(alloc: Global, words: &[&'a str]) -> Result<Sweep<'a>, SweepFaul
         axes: axes_of(alloc, words)?,
         seeds: 1,
         overrides,
-        text: FILE,
+        listings,
+        text,
     };
     sweep.look(alloc)?;
     Ok(sweep)
+}
+
+// The sweep of words over the file.
+fn sweep_of<'a>(alloc: Global, words: &[&'a str]) -> Result<Sweep<'a>, SweepFault<'a>> {
+    sweep_over(alloc, words, Listings::new(alloc), FILE)
 }
 
 // What is told of words that are refused, empty of others.
@@ -238,5 +249,53 @@ fn widths_are_those_of_student(rt: HostRuntime) -> Result<(), Fail> {
     assert_eq!(rt; estimate_of(&[7], 1).half, None);
     assert_eq!(rt; estimate_of(&[7], 2).mean, None);
     assert_eq!(rt; estimate_of(&[], 0).mean, None);
+    Ok(())
+}
+
+const REPLAY: &str = r#"version = 1
+device.read = "1us"
+[[queue]]
+arrivals = { replay = "a", form = "msr" }
+"#;
+
+// The files that a text replays, each of one read.
+fn listings_of(alloc: Global, text: &str) -> Listings {
+    let mut listings = Listings::new(alloc);
+    let sources: Vec<Source> = match sources_in(alloc, text.as_bytes()) {
+        Ok(sources) => sources,
+        Err(_) => Vec::new(alloc),
+    };
+    for source in &sources {
+        let _ = listings.read(alloc, source, b"1,a,0,Read,0,512,1\n");
+    }
+    listings
+}
+
+#[test]
+fn replays_are_swept(rt: HostRuntime) -> Result<(), Fail> {
+    let alloc = rt.alloc();
+    for (words, told) in [
+        ("queue.1.arrivals.speed=1,2,0.5", ""),
+        ("device.size=1", ""),
+        (
+            "queue.1.arrivals.speed=0",
+            "queue.1.arrivals.speed=0: queue 1, arrivals, speed: found 0, expected a number above 0, as 2 or \"0.5\"",
+        ),
+        (
+            "queue.1.arrivals.replay=b",
+            "queue.1.arrivals.replay=b: b: expected the file, the form and the queue that the simulation file says",
+        ),
+        (
+            "queue.1.arrivals.form=fio",
+            "queue.1.arrivals.form=fio: a: expected the file, the form and the queue that the simulation file says",
+        ),
+    ] {
+        let listings = listings_of(alloc, REPLAY);
+        let found = match sweep_over(alloc, &[words], listings, REPLAY) {
+            Ok(_) => String::new(alloc),
+            Err(fault) => format!(in alloc; "{fault}")?,
+        };
+        assert_eq!(rt; found.as_str(), told);
+    }
     Ok(())
 }

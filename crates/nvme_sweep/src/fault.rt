@@ -1,7 +1,7 @@
 // Why there is no sweep.
 use nvme_model_file::ModelFault;
 use nvme_plot::LINES;
-use nvme_simulate::{LoadFault, SimulateFault};
+use nvme_simulate::{FileFault, LoadFault, ReplayError, SimulateFault};
 use std::alloc::AllocError;
 use std::fmt;
 
@@ -26,6 +26,8 @@ pub enum SweepFault<'a> {
     NotToml,
     /// At this point, whose values are told, the file has this fault.
     Point(String, ModelFault),
+    /// At this point, whose values are told, the file of this name can't be replayed.
+    Replay(String, String, ReplayError),
     /// At this point, whose values are told, the load is none, or its open queues can't be scaled to it.
     Load(String, LoadFault),
     /// The load is swept, and said beside that.
@@ -85,6 +87,13 @@ impl fmt::Display for SweepFault<'_> {
             }
             SweepFault::NotToml => f.write_str("expected a TOML document"),
             SweepFault::Point(point, fault) => write!(f, "{point}: {fault}"),
+            SweepFault::Replay(point, file, error) => {
+                let fault = FileFault {
+                    file: file.as_str(),
+                    error: *error,
+                };
+                write!(f, "{point}: {fault}")
+            }
             SweepFault::Load(point, fault) if point.is_empty() => write!(f, "--load: {fault}"),
             SweepFault::Load(point, fault) => write!(f, "--sweep {point}: {fault}"),
             SweepFault::TwoLoads => f.write_str("--load and --sweep load don't go together"),

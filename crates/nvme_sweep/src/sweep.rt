@@ -6,8 +6,10 @@ use crate::fault::SweepFault;
 use crate::place::{LOAD, put};
 use crate::points::{choices_at, points_of};
 use crate::rows::{Run, SweepRow, rows_of};
-use nvme_model_file::{ModelFault, model_in};
-use nvme_simulate::{Load, LoadFault, Model, Overrides, Progress, SimulateFault, measure};
+use nvme_model_file::{ModelFault, model_in, sources_in};
+use nvme_simulate::{
+    Listings, Load, LoadFault, Model, Overrides, Progress, ReplayError, SimulateFault, measure,
+};
 use nvme_workload::{DocumentError, document};
 use std::alloc::{AllocError, Global};
 use std::io::Write;
@@ -21,6 +23,8 @@ pub struct Sweep<'a> {
     pub seeds: u64,
     /// What stands in place of the file's keys.
     pub overrides: Overrides,
+    /// The requests of the files that the queues of the file replay. A sweep reads no other files.
+    pub listings: Listings,
     /// The file's text.
     pub text: &'a str,
 }
@@ -97,6 +101,37 @@ impl<'a> Sweep<'a> {
         }
     }
 
+    // What is told of a fault of the file at a point.
+    fn fault_at(&self, alloc: Global, values: &[&str], fault: ModelFault) -> SweepFault<'a> {
+        match (fault, self.name_of(alloc, values)) {
+            (ModelFault::NoMemory, _) | (_, Err(_)) => SweepFault::NoMemory,
+            (fault, Ok(name)) => SweepFault::Point(name, fault),
+        }
+    }
+
+    // The model of a text at a point with the lists of the files that its queues replay.
+    fn with_lists(
+        &self,
+        alloc: Global,
+        values: &[&str],
+        text: &str,
+        model: Model,
+    ) -> Result<Model, SweepFault<'a>> {
+        let sources = match sources_in(alloc, text.as_bytes()) {
+            Ok(sources) => sources,
+            Err(fault) => return Err(self.fault_at(alloc, values, fault)),
+        };
+        match self.listings.put_into(alloc, &sources, model) {
+            Ok(model) => Ok(model),
+            Err(fault) if fault.error == ReplayError::NoMemory => Err(SweepFault::NoMemory),
+            Err(fault) => {
+                let name = self.name_of(alloc, values)?;
+                let file = String::from_str(alloc, fault.file)?;
+                Err(SweepFault::Replay(name, file, fault.error))
+            }
+        }
+    }
+
     // What stands in place of what the file says at a point with these values.
     fn overrides_at(&self, values: &[&str]) -> Result<Overrides, LoadFault> {
         let mut overrides = self.overrides;
@@ -113,7 +148,8 @@ impl<'a> Sweep<'a> {
         self.overrides_at(values)?.applied(model)
     }
 
-    // The model of a text at a point, with what stands in place of what the file says.
+    // The model of a text at a point, with the lists of the files that its queues replay, and with what stands in place of
+    // what the file says.
     fn model_at(
         &self,
         alloc: Global,
@@ -121,9 +157,8 @@ impl<'a> Sweep<'a> {
         text: &str,
     ) -> Result<Model, SweepFault<'a>> {
         let model = match model_in(alloc, text.as_bytes()) {
-            Ok(model) => model,
-            Err(ModelFault::NoMemory) => return Err(SweepFault::NoMemory),
-            Err(fault) => return Err(SweepFault::Point(self.name_of(alloc, values)?, fault)),
+            Ok(model) => self.with_lists(alloc, values, text, model)?,
+            Err(fault) => return Err(self.fault_at(alloc, values, fault)),
         };
         match self.replaced(values, model) {
             Ok(model) => Ok(model),

@@ -1,15 +1,15 @@
 // `nvmearb simulate`: the files that it reads and writes, and what is told of them.
 ghost use Rattle.std.specs.Prelude.{◌≤◌, IfErr};
 
-use crate::files::{Answers, put_away, taken};
+use crate::files::{Answers, put_away, taken, whole};
 use crate::kept::Kept;
 use crate::noted::{Noted, Notes};
 use crate::sweeping::{File, swept};
 use crate::telling::{failed, no_memory, unwritten};
 use nvme_program::{Format, SimulationWords};
 use nvme_simulate::{
-    Digest, Form, Model, ModelFault, Overrides, Progress, SimulateFault, Stream, Streams, Told,
-    model_in, simulate,
+    Digest, FileFault, Form, Listings, Model, ModelFault, Overrides, Progress, ReplayError,
+    SimulateFault, Source, Stream, Streams, Told, model_in, simulate, sources_in,
 };
 use std::fs;
 use std::io::{self, BufWriter, Write};
@@ -18,6 +18,9 @@ use std::thread::Threads;
 
 // How many bytes of a log or a trace are written at a time.
 const ROOM: usize = 65_536;
+
+// The most bytes of a file that is replayed: 1 GiB.
+const MAX_REPLAY: u64 = 1_073_741_824;
 
 // The exit statuses of a fault of the input, of the command line and at run time.
 const INPUT: u8 = 1;
@@ -99,26 +102,76 @@ fn overrides_of<E: Write>(line: &SimulationWords, errors: &mut E) -> Result<Over
     }
 }
 
-/// The model that a simulation file says. A fault is told by its place in the file, and the error is the exit status.
-pub(crate) fn model_of<R: AllocGlobal, E: Write>(
+// Tells a fault of a simulation file by its place there. The answer is the exit status.
+fn tell_model<E: Write>(file: Option<&str>, fault: &ModelFault, errors: &mut E) -> u8
+    ensures { result ≤ 4 }
+{
+    if let ModelFault::NoMemory = fault {
+        return no_memory(errors);
+    }
+    let told = Told {
+        file: file.unwrap_or("-"),
+        fault,
+    };
+    let _ = writeln!(errors, "nvmearb: {told}");
+    INPUT
+}
+
+// Tells a fault of a file that is replayed by its line. The answer is the exit status.
+fn tell_replay<E: Write>(fault: &FileFault, errors: &mut E) -> u8
+    ensures { result ≤ 4 }
+{
+    if fault.error == ReplayError::NoMemory {
+        return no_memory(errors);
+    }
+    let _ = writeln!(errors, "nvmearb: {fault}");
+    INPUT
+}
+
+// The requests of the files that queues replay. A fault is told, and the error is the exit status.
+fn listings_of<R: AllocGlobal + Files, E: Write>(
+    rt: &R,
+    sources: &[Source],
+    errors: &mut E,
+) -> Result<Listings, u8>
+    ensures { IfErr result (λ status. status ≤ 4) }
+{
+    let mut listings = Listings::new(rt.alloc());
+    for source in sources {
+        let file = source.file.as_str();
+        if listings.has(source) {
+            continue;
+        }
+        let bytes = whole(rt, file, MAX_REPLAY, errors)?;
+        if let Err(error) = listings.read(rt.alloc(), source, bytes.as_slice()) {
+            return Err(tell_replay(&FileFault { file, error }, errors));
+        }
+    }
+    Ok(listings)
+}
+
+/// The model that a simulation file says, with the lists of the files that its queues replay, and the requests of these. A
+/// fault is told by its place in its file, and the error is the exit status.
+pub(crate) fn model_of<R: AllocGlobal + Files, E: Write>(
     rt: &R,
     file: Option<&str>,
     text: &[u8],
     errors: &mut E,
-) -> Result<Model, u8>
+) -> Result<(Model, Listings), u8>
     ensures { IfErr result (λ status. status ≤ 4) }
 {
-    match model_in(rt.alloc(), text) {
-        Ok(model) => Ok(model),
-        Err(ModelFault::NoMemory) => Err(no_memory(errors)),
-        Err(fault) => {
-            let told = Told {
-                file: file.unwrap_or("-"),
-                fault: &fault,
-            };
-            let _ = writeln!(errors, "nvmearb: {told}");
-            Err(INPUT)
-        }
+    let model = match model_in(rt.alloc(), text) {
+        Ok(model) => model,
+        Err(fault) => return Err(tell_model(file, &fault, errors)),
+    };
+    let sources = match sources_in(rt.alloc(), text) {
+        Ok(sources) => sources,
+        Err(fault) => return Err(tell_model(file, &fault, errors)),
+    };
+    let listings = listings_of(rt, sources.as_slice(), errors)?;
+    match listings.put_into(rt.alloc(), sources.as_slice(), model) {
+        Ok(model) => Ok((model, listings)),
+        Err(fault) => Err(tell_replay(&fault, errors)),
     }
 }
 
@@ -256,9 +309,7 @@ where
 {
     match task {
         Task::Run(model, digest) => ran(rt, line, model, &digest, terminal, answers, errors),
-        Task::Sweep(overrides, file) => {
-            swept(rt, line, overrides, &file, terminal, answers, errors)
-        }
+        Task::Sweep(overrides, file) => swept(rt, line, overrides, file, terminal, answers, errors),
     }
 }
 
@@ -381,13 +432,14 @@ where
         Ok(text) => text,
         Err(status) => return status,
     };
-    let model = match model_of(rt, line.file, text.as_slice(), errors) {
-        Ok(model) => model,
+    let (model, listings) = match model_of(rt, line.file, text.as_slice(), errors) {
+        Ok(read) => read,
         Err(status) => return status,
     };
     let file = File {
         text: text.as_slice(),
         digest: Digest::of(text.as_slice()),
+        listings,
     };
     match task_of(line, overrides, model, file, errors) {
         Ok(task) => answered(rt, line, task, terminal, output, errors),

@@ -6,7 +6,7 @@ use crate::kept::Kept;
 use crate::simulating::form_of;
 use crate::telling::{no_memory, unwritten};
 use nvme_program::{MAX_JOBS, SimulationWords};
-use nvme_simulate::{Digest, Overrides};
+use nvme_simulate::{Digest, Listings, Overrides};
 use nvme_sweep::{CommandWords, Style, Sweep, SweepFault, axes_of};
 use std::io::Write;
 use std::thread::{Threads, available_parallelism};
@@ -18,11 +18,12 @@ const BAD_LINE: u8 = 2;
 
 const RUN: u8 = 3;
 
-/// A simulation file that has no fault.
-#[derive(Clone, Copy)]
+/// A simulation file that has no fault, and the requests of the files that its queues replay.
+#[derive(Drop)]
 pub(crate) struct File<'a> {
     pub(crate) text: &'a [u8],
     pub(crate) digest: Digest,
+    pub(crate) listings: Listings,
 }
 
 // Tells why there is no answer. The answer is the exit status.
@@ -36,7 +37,7 @@ fn told<E: Write>(fault: &SweepFault, errors: &mut E) -> u8
     }
     let _ = writeln!(errors, "nvmearb: {fault}");
     match fault {
-        SweepFault::Point(..) | SweepFault::NotToml => INPUT,
+        SweepFault::Point(..) | SweepFault::Replay(..) | SweepFault::NotToml => INPUT,
         SweepFault::Stopped(..) => RUN,
         _ => BAD_LINE,
     }
@@ -96,6 +97,7 @@ fn sweep_of<'a, R: AllocGlobal>(
     rt: &R,
     line: &SimulationWords<'a>,
     overrides: Overrides,
+    listings: Listings,
     text: &'a [u8],
 ) -> Result<Sweep<'a>, SweepFault<'a>> {
     let Ok(text) = std::str::from_utf8(text) else {
@@ -105,6 +107,7 @@ fn sweep_of<'a, R: AllocGlobal>(
         axes: axes_of(rt.alloc(), &line.sweeps)?,
         seeds: line.seeds.unwrap_or(1),
         overrides,
+        listings,
         text,
     };
     if line.chart.is_some() {
@@ -119,7 +122,7 @@ pub(crate) fn swept<R, P: Write + Drop + Send, W: Write, E: Write>(
     rt: &R,
     line: &SimulationWords,
     overrides: Overrides,
-    file: &File,
+    file: File,
     terminal: Option<P>,
     answers: Answers<'_, W>,
     errors: &mut E,
@@ -129,11 +132,16 @@ where
     ensures { result ≤ 4 }
 {
     let Answers { output, chart } = answers;
-    let sweep = match sweep_of(rt, line, overrides, file.text) {
+    let File {
+        text,
+        digest,
+        listings,
+    } = file;
+    let sweep = match sweep_of(rt, line, overrides, listings, text) {
         Ok(sweep) => sweep,
         Err(fault) => return told(&fault, errors),
     };
-    match ran(rt, line, &sweep, file.digest, terminal, output, chart) {
+    match ran(rt, line, &sweep, digest, terminal, output, chart) {
         Ok(()) => 0,
         Err(fault) => told(&fault, errors),
     }

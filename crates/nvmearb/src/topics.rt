@@ -78,6 +78,13 @@ poisson         exponential gaps of this mean                          { poisson
 every           equal gaps                                             { every = 10000 }
 closed          1 to 4096 out, each again a think behind its end       { closed = 32, think = "10us" }
 bursts          poisson in the on phases alone                         { bursts = { poisson = 20000, on = "2ms", off = "3ms" } }
+replay          those of a file, with the keys below                   { replay = "run.csv", form = "csv", speed = 2 }
+
+A replay, which says what mix, blocks and offsets say else, until its file ends:
+replay          (required)     the name of a file                      replay = "trace.csv"
+form            (required)     "csv","msr","alibaba","blkparse","fio"  form = "msr"
+speed           1              a number above 0                        speed = "0.5"
+queue                          1 to 65535, whose lines of a csv        queue = 2
 
 A service is a duration, or a table with one of these, and per_block, a duration for each block:
 fixed           always this long                                       { fixed = "80us", per_block = "500ns" }
