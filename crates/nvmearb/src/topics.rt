@@ -96,7 +96,7 @@ A duration is a number and its unit, ps, ns, us, ms or s: "80us", "1.5ms".
 
   nvmearb lint FILE              what of a file is at fault, or more than the device can do
   nvmearb simulate FILE          latencies, throughput and shares
-  nvmearb simulate --help        seeds, ends, logs, traces, pictures and sweeps
+  nvmearb simulate --help        seeds, ends, loads, logs, traces, pictures and sweeps
 "#;
 
 const TRACE: &str =
