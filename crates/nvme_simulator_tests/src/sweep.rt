@@ -278,6 +278,10 @@ fn replays_are_swept(rt: HostRuntime) -> Result<(), Fail> {
         ("queue.1.arrivals.speed=1,2,0.5", ""),
         ("device.size=1", ""),
         (
+            "load=0.5",
+            "--sweep load=0.5: no queue is open: there is nothing to scale",
+        ),
+        (
             "queue.1.arrivals.speed=0",
             "queue.1.arrivals.speed=0: queue 1, arrivals, speed: found 0, expected a number above 0, as 2 or \"0.5\"",
         ),
