@@ -129,7 +129,7 @@ impl Model {
 
     /// Puts arrivals in the place of those of a queue, by its identifier. Nothing changes where there is no such queue.
     pub fn put_arrivals(&mut self, number: usize, arrivals: Arrivals)
-        ensures rest { self.new ≡ record self.old { queues = self.new.queues } }
+        ensures rest { self.new ≡ record self.old { queues = self.new.queues; some = self.new.some; at_most = self.new.at_most } }
         ensures count { length self.new.queues.items ≡ length self.old.queues.items }
     {
         let Some(place) = number.checked_sub(1) else {
