@@ -271,6 +271,18 @@ enum Task<'a> {
     Sweep(Overrides, File<'a>),
 }
 
+// Notes that no command is left for the answer, where no more come than the warm-up takes.
+fn note_warm_up<E: Write>(overrides: &Overrides, model: &Model, errors: &mut E) {
+    let commands = overrides.end.unwrap_or(model.end).commands;
+    let warm_up = overrides.warm_up.unwrap_or(model.warm_up);
+    if commands <= warm_up {
+        let _ = writeln!(
+            errors,
+            "nvmearb: note: the warm-up of {warm_up} commands leaves none of {commands} for the answer"
+        );
+    }
+}
+
 // What a line asks for, with what stands in place of what its file says. A load to which the model can't be scaled is told,
 // and the error is the exit status.
 fn task_of<'a, E: Write>(
@@ -282,6 +294,7 @@ fn task_of<'a, E: Write>(
 ) -> Result<Task<'a>, u8>
     ensures { IfErr result (λ status. status ≤ 4) }
 {
+    note_warm_up(&overrides, &model, errors);
     if line.is_sweep() {
         return Ok(Task::Sweep(overrides, file));
     }
