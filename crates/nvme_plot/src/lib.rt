@@ -24,6 +24,3 @@ pub use picture::Picture;
 pub use pixels::{SPAN, span_of};
 pub use scale::{Range, Scale};
 pub use words::{Grouped, Micros};
-
-#[cfg(test)]
-mod tests;

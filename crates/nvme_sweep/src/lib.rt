@@ -28,6 +28,3 @@ pub use fault::SweepFault;
 pub use points::{choices_at, points_of};
 pub use rows::{Scope, SweepRow};
 pub use sweep::{Point, Sweep};
-
-#[cfg(test)]
-mod tests;
