@@ -207,7 +207,11 @@ void nvme_turn(struct nvme *d)
 {
     nvmearb_ctrl *ctrl = &d->state.ctrl;
     nvmearb_slot *slots = d->state.slots;
-    uint16_t qid = NVME_QUEUES, cqid = NVME_QUEUES, slot, gone; /* the queues behind, 0, have the first turns */
+    /*
+     * Each call begins with the admin queue, and goes on until no queue has an entry to fetch or a completion to post.
+     * With fewer slots than the depths have together, keep these two between calls, so that queues share the slots.
+     */
+    uint16_t qid = NVME_QUEUES, cqid = NVME_QUEUES, slot, gone;
     nvme_stop(d);
     for (int goes_on = 1; goes_on && !has_failed(d);) {
         while (!has_failed(d) && nvmearb_ctrl_next_fetch(ctrl, &qid, &slot) == NVMEARB_OK)
