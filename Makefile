@@ -7,17 +7,17 @@ DESTDIR =
 TO = $(DESTDIR)$(abspath $(PREFIX))
 PROGRAM =
 LIBRARY =
-# What lies below share/nvmearb in the order of this repository, so that the documents' links hold.
+# What lies below share/nvmearb in the order of this repository, so that most links of the documents hold.
 SHARED = README.md CHANGELOG.md SECURITY.md LICENSE docs examples capi/examples capi/rust capi/python
 
 all: ## prove and build the program, crates/nvmearb/out/nvmearb
 	$(if $(PROGRAM),,tools/build nvmearb)
 
 check: ## prove every crate, or with CRATE=nvme_lane that one
-	cd $(if $(CRATE),crates/$(CRATE) && rt check,. && rt all check)
+	cd crates/$(CRATE) && rt $(if $(CRATE),,all )check
 
 test: ## test what is built, or NAME=words by tests/words alone; with CRATE=nvme_program_tests that crate's tests, or NAME=one
-	$(if $(CRATE),cd crates/$(CRATE) && rt test $(if $(NAME),-- $(NAME)),tests/run $(NAME))
+	$(if $(CRATE),$(if $(wildcard tests/crates/$(CRATE)),tests/libraries $(CRATE) $(NAME),cd crates/$(CRATE) && rt test $(if $(NAME),-- $(NAME))),tests/run $(NAME))
 
 bench: ## measure, COUNT=1000000 steps each, or with COUNT=worst count the instructions of the worst single calls
 	tools/bench $(COUNT)

@@ -4,7 +4,7 @@
  * Terms are those of the NVM Express Base Specification 2.0 and the NVM Command Set Specification 1.0. A status is
  * written as its type and its code in hexadecimal: 0/08.
  *
- * If you have a device, take the controller, nvmearb_ctrl_... If you have a front of your own, take parts of it:
+ * If you have a device, take the controller, nvmearb_ctrl_... If you have queues of your own, take parts of it:
  * entries (nvmearb_sqe_.. to nvmearb_settings_of), an arbiter, a board, a queue table. Each stands in a section below,
  * with its structs and calls, and works without the others.
  *
@@ -12,21 +12,24 @@
  *
  *   1. nvmearb_is_of_this_header.
  *   2. When the host enables the controller (CC.EN), nvmearb_ctrl_init_anywhere with the admin queues (AQA, ASQ, ACQ).
- *      Where it refuses what the host wrote, set CSTS.CFS. When CC.EN becomes 0, make no call until it is 1 again, and
- *      begin again here.
+ *      Where it refuses what the host wrote, set CSTS.CFS. The device itself checks CC.IOSQES (6) and CC.IOCQES (4).
+ *      When CC.EN becomes 0, make no call until it is 1 again, and begin again here. What the backend ends meanwhile is
+ *      dropped, or completed after the making, where that answers NVMEARB_NONE. Tags don't stop a data transfer: end
+ *      each before CSTS.RDY becomes 0.
  *   3. nvmearb_ctrl_own_opcode and nvmearb_ctrl_own_feature for the admin commands that the device answers itself, such
  *      as Identify.
  *   4. At each doorbell write nvmearb_ctrl_sq_tail or nvmearb_ctrl_cq_head.
- *   5. For each queue, while nvmearb_ctrl_fetch tells a slot: read the entry there, and nvmearb_ctrl_fetched.
+ *   5. While nvmearb_ctrl_next_fetch tells a queue and a slot: read the entry there, and nvmearb_ctrl_fetched.
  *   6. While nvmearb_ctrl_take gives a command, execute it. Where it has none, nvmearb_ctrl_pick, and begin again,
  *      until that picks nothing either. At a step that created a queue, keep where it lies (nvmearb_asked).
  *   7. nvmearb_ctrl_complete, or nvmearb_ctrl_complete_with, for each command that ends, in any order and at any time.
- *   8. For each completion queue, while nvmearb_ctrl_post gives a completion: write its bytes into the slot of the
- *      ring, Dword 3 last, since it has the phase tag. Then send the interrupt of the queue's vector, if it is enabled.
+ *   8. While nvmearb_ctrl_next_to_post tells a completion queue, and while nvmearb_ctrl_post gives a completion of it:
+ *      write its bytes into the slot of the ring, Dword 3 last, since it has the phase tag. Then send the interrupt of
+ *      the queue's vector, if it is enabled.
  *   9. After a pick that began a deletion (NVMEARB_BEGIN_DELETE), nvmearb_ctrl_finish at once and after each 8., while
  *      it answers NVMEARB_OK.
- *  10. Go back to 5., for every queue, until a pass does nothing. Go back too once the device can take more commands
- *      than at its last pick, or no longer holds a queue (nvmearb_ctrl_hold).
+ *  10. Go back to 5. until a pass does nothing. Go back too once the device can take more commands than at its last
+ *      pick, or no longer holds a queue (nvmearb_ctrl_hold).
  *
  * What holds of all calls. Every function is proved (crates/nvme_capi), unless NVMEARB_UNPROVED says otherwise. None
  * allocates, waits, starts a thread or keeps a pointer, or reads or writes anything but what its arguments point to.
@@ -45,7 +48,7 @@
  * (x86-64-v2, System V calling convention) and for AArch64 (docs/EMBEDDING.md, "Processors"). On x86-64 it uses SSE
  * registers and the red zone. So a kernel saves these registers before a call, and takes no interrupt on the stack of a
  * call. A making of a controller takes 34 KB of stack at most, and every other call 1 KB. Link with -lnvmearb; the only
- * other symbols are memcpy and memset. The archive has an object for each section below.
+ * other symbols are memcpy and memset. The proved archive has an object for each section below.
  */
 #ifndef NVMEARB_H
 #define NVMEARB_H
@@ -583,7 +586,7 @@ uint32_t nvmearb_table_allotted(const nvmearb_table *table, uint16_t *nsq, uint1
 uint32_t nvmearb_table_settings(const nvmearb_table *table, nvmearb_settings *settings);
 
 /*
- * Controller: the front of a whole controller, which is driven by calls in the order at the top. It checks doorbells,
+ * Controller: the queue side of an NVMe controller, driven by calls in the order at the top. It checks doorbells,
  * says which slot is fetched next, arbitrates, and carries out the admin commands on queues, features and Abort. It hands
  * I/O commands and the device's own admin commands to the device under tags, and gives each completion with its slot,
  * SQHD and phase tag. The device keeps registers, memory, data and interrupts. capi/examples/device.c is a small one, and
@@ -596,7 +599,8 @@ uint32_t nvmearb_table_settings(const nvmearb_table *table, nvmearb_settings *se
  * submission queue hold a slot as its depth (nvmearb_ctrl_set_depth). Let there be as many slots as the depths of the
  * queues that may be open have together: admin_depth + nsq * depth. Then one is free for each command that may be fetched
  * otherwise, while queues are being deleted too. With fewer, commands of one queue may keep those of another from being
- * fetched.
+ * fetched. The admin queue waits too: no Abort or Delete is fetched while other queues hold all slots.
+ * docs/EMBEDDING.md ("How many commands your backend has") tells which depths weights need.
  */
 typedef struct nvmearb_slot {
     uint64_t words[11];
@@ -617,8 +621,8 @@ typedef struct nvmearb_slot {
  * The caller hands each call the array of slots that the controller was made with, and writes neither into it nor into
  * the controller. Whatever bytes lie there, a call reads and writes no more than it is given, and returns. If something
  * else wrote them, nothing more is promised of what it answers and writes; nvmearb_ctrl_verify finds some of that. The
- * caller reads no slot of a ring but the one that nvmearb_ctrl_fetch tells, and posts no completion but those of
- * nvmearb_ctrl_post. A ring has 64 or 16 bytes for each slot, from its address on.
+ * caller reads no slot of a ring but those that nvmearb_ctrl_fetch and nvmearb_ctrl_next_fetch tell, and posts no
+ * completion but those of nvmearb_ctrl_post. A ring has 64 or 16 bytes for each slot, from its address on.
  *
  * A submission queue is open until its deletion begins, and then closing until nvmearb_ctrl_finish finishes that.
  *
@@ -636,6 +640,7 @@ typedef struct nvmearb_slot {
  *   nvmearb_ctrl_pick of a Create or a Delete I/O Completion Queue       the regions and the open queues
  *   nvmearb_ctrl_add_sq_region, nvmearb_ctrl_add_cq_region               the regions
  *   nvmearb_ctrl_finish                                                  the identifiers up to the queue's
+ *   nvmearb_ctrl_next_fetch, nvmearb_ctrl_next_to_post                   the turns up to the queue's, 65 at most
  *
  * PC must be 1, and a ring has at most 4096 slots. So CAP.MQES is at most 4095, and CAP.CQR is 1. Commands without a
  * posted completion have no limit but the depths: a completion queue that its host doesn't read stops the submission
@@ -653,7 +658,7 @@ typedef struct nvmearb_config {
     uint32_t mechanism;      /* CC.AMS 000b: NVMEARB_ROUND_ROBIN, 001b: NVMEARB_WEIGHTED */
     uint32_t cdw11;          /* the Arbitration feature; bits 07:03 are ignored */
     uint16_t nsq, ncq;       /* the most I/O submission and completion queues, 1 to NVMEARB_MAX_IO_QUEUES */
-    uint16_t depth;          /* the most commands with a slot of an I/O submission queue, 1 to NVMEARB_MAX_DEPTH */
+    uint16_t depth;          /* the most commands of one I/O submission queue with a slot, 1 to NVMEARB_MAX_DEPTH */
     uint16_t admin_depth;    /* the same of the admin queue, above the number of event requests that the device holds */
 } nvmearb_config;
 
@@ -712,7 +717,7 @@ typedef struct nvmearb_command {
 #define NVMEARB_SLOT_OF(tag) ((tag) & 0xffffu)
 
 /*
- * The marks of a completion, beside its status: bits 31 and 30 of Dword 3. A host that finds Do Not Retry
+ * The status flags of a completion: bits 31 and 30 of Dword 3. A host that finds Do Not Retry
  * doesn't submit the same command again; without it Linux submits a failing Read six times. What a controller answers
  * itself has Do Not Retry for the statuses 0/01, 0/02, 0/0c, 0/13, 1/00, 1/01, 1/02, 1/08 and 1/0d, for no other, and
  * never More.
@@ -724,7 +729,7 @@ typedef struct nvmearb_command {
 typedef struct nvmearb_post {
     /*
      * The completion queue entry; the phase tag is in its last four bytes. Byte 15 has Do Not Retry in bit 7 and More
-     * in bit 6. nvmearb_cqe_decode takes no entry with a mark.
+     * in bit 6. nvmearb_cqe_decode takes no entry with a flag.
      */
     uint8_t bytes[NVMEARB_CQE_BYTES];
     uint32_t cookie;                  /* that of its command */
@@ -794,8 +799,9 @@ uint32_t nvmearb_ctrl_add_cq_region(nvmearb_ctrl *ctrl, uint64_t address, uint16
  * any other command is answered with 1 as Dword 0, not aborted, unless NVMEARB_OPC_ABORT was announced here. Then it is
  * passed on to the device, which looks up the tag of that command by nvmearb_ctrl_named; nvmearb_admin_of tells its
  * queue and identifier. The device completes the command with 0/07 if it can end it, and then the Abort with 0 as Dword
- * 0, or else with 1. Where the host has more Aborts out than Identify allows (ACL), the device completes one with 1/03,
- * Abort Command Limit Exceeded. capi/examples/admin.c ends Asynchronous Event Requests so.
+ * 0, or else with 1. An Abort may name itself: compare the tags, and complete it with 1 as Dword 0. Where the host has
+ * more Aborts out than Identify allows (ACL), the device completes one with 1/03, Abort Command Limit Exceeded.
+ * capi/examples/admin.c ends Asynchronous Event Requests so.
  */
 uint32_t nvmearb_ctrl_own_opcode(nvmearb_ctrl *ctrl, uint8_t opcode);
 
@@ -854,13 +860,27 @@ uint32_t nvmearb_ctrl_cq_head(nvmearb_ctrl *ctrl, uint16_t cqid, uint16_t head);
 
 /*
  * Writes the slot of the ring of a submission queue whose entry is fetched next.
- * NVMEARB_NONE if the queue isn't open, the host submitted no more, or no slot of `ctrl` is free. So too if as many of its
- * commands hold a slot as its depth, or as many wait as its ring has slots less 1, or 256.
+ * NVMEARB_NONE if the queue isn't open, the host submitted no more, or no slot of `ctrl` is free. Also if as many of
+ * its commands hold a slot as its depth says, or if 256 of them wait, or as many as its ring has slots less 1.
  */
 uint32_t nvmearb_ctrl_fetch(const nvmearb_ctrl *ctrl, uint16_t qid, uint16_t *slot);
 
 /*
- * The entry in the slot that nvmearb_ctrl_fetch tells was read: its command waits to be picked. `cookie` is kept with it.
+ * Writes the next submission queue of which nvmearb_ctrl_fetch tells a slot, and that slot. Queues take turns by
+ * ascending identifier, 0 after NVMEARB_MAX_IO_QUEUES. `qid` in: the queue told last; to begin with the admin queue,
+ * NVMEARB_MAX_IO_QUEUES or more. Out: the queue told; unchanged if none.
+ * With each call a queue that has an entry to fetch is told, or its turn comes nearer (law queues_take_turns,
+ * crates/nvme_ctrl): while it has some, it is told within NVMEARB_MAX_QUEUES calls.
+ * The rest of a queue that was told may be fetched by nvmearb_ctrl_fetch, which looks at no other. With fewer slots than
+ * the depths have together, fetch one entry for each call, so that queues share the free slots.
+ * NVMEARB_NONE if nvmearb_ctrl_fetch tells a slot of no queue.
+ */
+uint32_t nvmearb_ctrl_next_fetch(const nvmearb_ctrl *ctrl, uint16_t *qid, uint16_t *slot);
+
+/*
+ * The entry in the slot that nvmearb_ctrl_fetch tells was read: its command waits to be picked. `cookie` is kept with
+ * it. A device that reads by DMA may make other calls before this one: until then the same slot of the queue is told
+ * again, or none. If the deletion of the queue begins meanwhile, drop the entry.
  * NVMEARB_NONE if nvmearb_ctrl_fetch tells none.
  */
 uint32_t nvmearb_ctrl_fetched(nvmearb_ctrl *ctrl, nvmearb_slot *slots, size_t count, uint16_t qid,
@@ -879,9 +899,10 @@ uint32_t nvmearb_ctrl_peek(const nvmearb_ctrl *ctrl, const nvmearb_slot *slots, 
  * of the burst, what its class has left of its weight, what waits in the queue, and `room`. (The burst is the most that
  * may be fetched at a time: Command Arbitration.) The rest waits as nvmearb_arbiter_pick_up_to tells.
  *
- * An admin command is picked alone, and wants a room of 1: where the device is full, nvmearb_ctrl_peek tells whether one
- * is next. One that isn't the device's is carried out at once. A deletion answers the waiting commands of its queue with
- * 0/08, and an Abort a waiting command with 0/07.
+ * An admin command is picked alone, and wants a room of 1. A device that is full passes 1 where nvmearb_ctrl_peek names
+ * queue 0. Under round robin that may name an I/O queue first: hold it (nvmearb_ctrl_hold), and peek again.
+ * An admin command that isn't the device's is carried out at once. A deletion answers the waiting commands of its queue
+ * with 0/08, and an Abort a waiting command with 0/07.
  *
  * NVMEARB_BUSY if commands are picked and not taken; otherwise NVMEARB_NONE if no command waits but in queues that are
  * held; otherwise NVMEARB_NOROOM if `room` is 0.
@@ -903,17 +924,26 @@ uint32_t nvmearb_ctrl_complete(nvmearb_ctrl *ctrl, nvmearb_slot *slots, size_t c
                                const nvmearb_status *status, uint32_t dw0);
 
 /*
- * The device completes a command, with marks: NVMEARB_DNR, NVMEARB_MORE, both or 0. nvmearb_ctrl_complete gives none.
- * Otherwise as nvmearb_ctrl_complete; NVMEARB_EARG too if `marks` has another bit.
+ * The device completes a command, with flags: NVMEARB_DNR, NVMEARB_MORE, both or 0. nvmearb_ctrl_complete gives none.
+ * Otherwise as nvmearb_ctrl_complete; NVMEARB_EARG too if `flags` has another bit.
  */
 uint32_t nvmearb_ctrl_complete_with(nvmearb_ctrl *ctrl, nvmearb_slot *slots, size_t count, uint32_t tag,
-                                    const nvmearb_status *status, uint32_t dw0, uint8_t marks);
+                                    const nvmearb_status *status, uint32_t dw0, uint8_t flags);
 
 /*
- * Writes the completion that became ready first in the completion queue `cqid`, which goes into `slot` of its ring.
+ * Writes the completion that became ready first in the completion queue `cqid`, which goes into `slot` of its ring. To
+ * the controller it is posted now. Let the write reach memory before that of a later completion of any queue: that of a
+ * Delete may free the ring.
  * NVMEARB_NONE if the queue isn't open, if none is ready, or if the host has freed no slot of the ring.
  */
 uint32_t nvmearb_ctrl_post(nvmearb_ctrl *ctrl, nvmearb_slot *slots, size_t count, uint16_t cqid, nvmearb_post *post);
+
+/*
+ * Writes the next completion queue of which nvmearb_ctrl_post gives a completion. Queues take turns as those of
+ * nvmearb_ctrl_next_fetch, with `cqid` as `qid` there, and by the same law.
+ * NVMEARB_NONE if nvmearb_ctrl_post gives one of no queue.
+ */
+uint32_t nvmearb_ctrl_next_to_post(const nvmearb_ctrl *ctrl, const nvmearb_slot *slots, size_t count, uint16_t *cqid);
 
 /*
  * Finishes a deletion of a submission queue, all of whose commands have their completions posted, and writes its
@@ -935,7 +965,8 @@ uint32_t nvmearb_ctrl_command(const nvmearb_ctrl *ctrl, const nvmearb_slot *slot
 
 /*
  * Writes the tag of the command with the identifier `cid`, of the submission queue `qid`, that the device has, so that
- * a device finds what an Abort names. If the host gave two of them one identifier, it is the tag of either.
+ * a device finds what an Abort names, which may be that Abort. If the host gave two of them one identifier, it is the
+ * tag of either.
  * NVMEARB_NONE if the device has no such command: it waits, say, or is completed.
  */
 uint32_t nvmearb_ctrl_named(const nvmearb_ctrl *ctrl, const nvmearb_slot *slots, size_t count, uint16_t qid,

@@ -16,17 +16,17 @@ _nvmearb() {
                     *) words="text json csv" ;;
                 esac
                 ;;
-            -o | --output | --log | --trace) files=any ;;
+            -o | --output | --log | --trace | --chart) files=any ;;
             --burst) words="1 2 4 8 16 32 64 none" ;;
-            --blocks | --from | --to | --weights | --window | --seed | --commands | --time | --warm-up | --sweep | --seeds) return ;;
+            --blocks | --from | --to | --weights | --window | --seed | --commands | --time | --warm-up | --load | --sweep | --seeds | --jobs) return ;;
             *)
                 case ${COMP_WORDS[1]} in
                     run) words="--live --workers --summary --format --help" files=toml ;;
                     trace) words="--live --workers --output --help" files=toml ;;
-                    simulate) words="--seed --commands --time --warm-up --sweep --seeds --points --no-head --format --log --trace --output --help" files=toml ;;
+                    simulate) words="--seed --commands --time --warm-up --load --sweep --seeds --jobs --points --no-head --format --log --trace --chart --output --help" files=toml ;;
                     lint | expand) words="--help" files=toml ;;
                     check) words="--spec --all --quiet --format --help" files=any ;;
-                    chart) words="--from --to --output --help" files=any ;;
+                    chart) words="--from --to --no-admin --output --help" files=any ;;
                     stats) words="--from --to --backlogged --window --format --help" files=any ;;
                     loaded | live) words="--workers --help" ;;
                     once) words="--blocks --help" ;;

@@ -18,6 +18,7 @@ struct device {
     nvmearb_ctrl ctrl;
     nvmearb_slot slots[COMMANDS];
     uint64_t sqs[QUEUES + 1], cqs[QUEUES + 1]; /* where the rings lie, by the identifiers of their queues */
+    uint16_t sq, cq;                           /* the queues that had the last turn */
     int has_failed;                            /* CSTS.CFS: a ring isn't in memory, and the device waits for a reset */
     uint8_t blocks[BLOCKS][BLOCK];
 };
@@ -60,21 +61,22 @@ static void keep(struct device *d, const nvmearb_step *step)
         d->cqs[step->answer.qid] = step->asked.address;
 }
 
-/* Fetches what the host submitted to a queue. This and the three below return whether they did anything. */
-static int fetch(struct device *d, uint16_t qid)
+/*
+ * Fetches what the host submitted to a queue, from this slot of its ring on. This and the three below return whether they
+ * did anything.
+ */
+static int fetch(struct device *d, uint16_t qid, uint16_t slot)
 {
-    int did = 0;
-    uint16_t slot;
     uint8_t bytes[NVMEARB_SQE_BYTES]; /* a copy: the host may write there */
-    for (; nvmearb_ctrl_fetch(&d->ctrl, qid, &slot) == NVMEARB_OK; did = 1) {
+    do {
         const uint8_t *entry = place(d->sqs[qid] + slot * sizeof bytes, sizeof bytes);
         d->has_failed |= !entry;
         if (!entry)
             return 0;
         memcpy(bytes, entry, sizeof bytes);
         nvmearb_ctrl_fetched(&d->ctrl, d->slots, COMMANDS, qid, bytes, qid);
-    }
-    return did;
+    } while (nvmearb_ctrl_fetch(&d->ctrl, qid, &slot) == NVMEARB_OK);
+    return 1;
 }
 
 /*
@@ -118,8 +120,8 @@ static int work(struct device *d)
         keep(d, &step);
         while (nvmearb_ctrl_take(&d->ctrl, d->slots, COMMANDS, &command) == NVMEARB_OK) {
             nvmearb_status status = execute(d, &command.entry);
-            uint8_t marks = status.sct || status.sc ? NVMEARB_DNR : 0; /* what fails here would fail again */
-            nvmearb_ctrl_complete_with(&d->ctrl, d->slots, COMMANDS, command.tag, &status, 0, marks);
+            uint8_t flags = status.sct || status.sc ? NVMEARB_DNR : 0; /* what fails here would fail again */
+            nvmearb_ctrl_complete_with(&d->ctrl, d->slots, COMMANDS, command.tag, &status, 0, flags);
         }
         nvmearb_ctrl_finish(&d->ctrl, d->slots, COMMANDS, &gone); /* of an empty queue, before its completion queue's */
     }
@@ -143,16 +145,16 @@ static int post(struct device *d, uint16_t cqid)
     return did;
 }
 
-/* A pass over all queues: picks make room for fetches, posts for picks, and the end of a deletion for both. */
+/* A pass over the queues with work: picks make room for fetches, posts for picks, and the end of a deletion for both. */
 static int pass(struct device *d)
 {
     int did = 0;
-    uint16_t k, gone;
-    for (k = 0; k <= QUEUES; k++)
-        did |= fetch(d, k);
+    uint16_t slot, gone;
+    while (!d->has_failed && nvmearb_ctrl_next_fetch(&d->ctrl, &d->sq, &slot) == NVMEARB_OK)
+        did |= fetch(d, d->sq, slot);
     did |= work(d);
-    for (k = 0; k <= QUEUES; k++)
-        did |= post(d, k);
+    while (!d->has_failed && nvmearb_ctrl_next_to_post(&d->ctrl, d->slots, COMMANDS, &d->cq) == NVMEARB_OK)
+        did |= post(d, d->cq);
     return did | (nvmearb_ctrl_finish(&d->ctrl, d->slots, COMMANDS, &gone) == NVMEARB_OK);
 }
 
@@ -190,7 +192,7 @@ static int collect(struct pair *pair, uint16_t cid)
     nvmearb_cqe done;
     uint8_t bytes[NVMEARB_CQE_BYTES];
     memcpy(bytes, memory + cq_address[pair->qid] + pair->head * NVMEARB_CQE_BYTES, sizeof bytes);
-    bytes[15] &= 0x0f; /* without its marks */
+    bytes[15] &= 0x0f; /* without its flags */
     if (nvmearb_cqe_decode(bytes, &done) != NVMEARB_OK || done.phase != pair->phase || done.cid != cid ||
         done.sqhd != pair->tail)
         return -1;

@@ -11,23 +11,29 @@ static int copy(struct nvme *d, uint64_t address, void *bytes, size_t length, in
 
 void nvme_complete(struct nvme *d, uint32_t tag, nvmearb_status status, uint32_t dw0)
 {
-    uint8_t marks = nvme_is_error(status) ? NVMEARB_DNR : 0; /* none of the device's errors goes away by itself */
-    nvmearb_ctrl_complete_with(&d->state.ctrl, d->state.slots, NVME_COMMANDS, tag, &status, dw0, marks);
+    uint8_t flags = nvme_is_error(status) ? NVMEARB_DNR : 0; /* none of the device's errors goes away by itself */
+    nvmearb_ctrl_complete_with(&d->state.ctrl, d->state.slots, NVME_COMMANDS, tag, &status, dw0, flags);
 }
 
 /* ---- Rings ---- */
 
-static void fetch(struct nvme *d, uint16_t qid)
+/* CSTS.CFS: a ring isn't memory, say, and the device waits for a reset. */
+static int has_failed(const struct nvme *d)
 {
-    uint16_t slot;
+    return (d->state.registers[CSTS] & CFS) != 0;
+}
+
+/* Fetches what the host submitted to a queue, from this slot of its ring on. */
+static void fetch(struct nvme *d, uint16_t qid, uint16_t slot)
+{
     uint8_t bytes[NVMEARB_SQE_BYTES]; /* a copy: the host may write there */
-    while (nvmearb_ctrl_fetch(&d->state.ctrl, qid, &slot) == NVMEARB_OK) {
+    do {
         if (!copy(d, d->state.sqs[qid].address + slot * sizeof bytes, bytes, sizeof bytes, 0)) {
             d->state.registers[CSTS] |= CFS;
             return;
         }
         nvmearb_ctrl_fetched(&d->state.ctrl, d->state.slots, NVME_COMMANDS, qid, bytes, qid);
-    }
+    } while (nvmearb_ctrl_fetch(&d->state.ctrl, qid, &slot) == NVMEARB_OK);
 }
 
 /* Writes a completion into its slot, Dword 3 last. Returns 0 where that isn't memory. */
@@ -199,16 +205,22 @@ static void interrupt(struct nvme *d)
 
 void nvme_turn(struct nvme *d)
 {
-    uint16_t qid, gone;
+    nvmearb_ctrl *ctrl = &d->state.ctrl;
+    nvmearb_slot *slots = d->state.slots;
+    /*
+     * Each call begins with the admin queue, and goes on until no queue has an entry to fetch or a completion to post.
+     * With fewer slots than the depths have together, keep these two between calls, so that queues share the slots.
+     */
+    uint16_t qid = NVME_QUEUES, cqid = NVME_QUEUES, slot, gone;
     nvme_stop(d);
-    for (int goes_on = 1; goes_on && !(d->state.registers[CSTS] & CFS);) {
-        for (qid = 0; qid <= NVME_QUEUES; qid++)
-            fetch(d, qid);
+    for (int goes_on = 1; goes_on && !has_failed(d);) {
+        while (!has_failed(d) && nvmearb_ctrl_next_fetch(ctrl, &qid, &slot) == NVMEARB_OK)
+            fetch(d, qid, slot);
         goes_on = work(d);
         nvme_tell_event(d);
-        for (qid = 0; qid <= NVME_QUEUES; qid++)
-            goes_on |= post(d, qid);
-        goes_on |= nvmearb_ctrl_finish(&d->state.ctrl, d->state.slots, NVME_COMMANDS, &gone) == NVMEARB_OK;
+        while (!has_failed(d) && nvmearb_ctrl_next_to_post(ctrl, slots, NVME_COMMANDS, &cqid) == NVMEARB_OK)
+            goes_on |= post(d, cqid);
+        goes_on |= nvmearb_ctrl_finish(ctrl, slots, NVME_COMMANDS, &gone) == NVMEARB_OK;
     }
     interrupt(d);
 }

@@ -78,6 +78,7 @@ CALL(ctrl_set_class, &ctrl, qid, n)
 CALL(ctrl_sq_tail, &ctrl, qid, n)
 CALL(ctrl_cq_head, &ctrl, qid, n)
 CALL(ctrl_fetch, &ctrl, qid, &number)
+CALL(ctrl_next_fetch, &ctrl, &qid, &number)
 CALL(ctrl_fetched, &ctrl, slots, pool, qid, bytes, 1)
 CALL(ctrl_peek, &ctrl, slots, pool, &pick)
 CALL(ctrl_pick, &ctrl, slots, pool, NVMEARB_NO_LIMIT, &step)
@@ -85,6 +86,7 @@ CALL(ctrl_take, &ctrl, slots, pool, &command)
 CALL(ctrl_complete, &ctrl, slots, pool, tag, &success, 0)
 CALL(ctrl_complete_with, &ctrl, slots, pool, tag, &success, 0, NVMEARB_DNR | NVMEARB_MORE)
 CALL(ctrl_post, &ctrl, slots, pool, qid, &post)
+CALL(ctrl_next_to_post, &ctrl, slots, pool, &qid)
 CALL(ctrl_finish, &ctrl, slots, pool, &number)
 CALL(ctrl_command, &ctrl, slots, pool, tag, &command)
 CALL(ctrl_named, &ctrl, slots, pool, qid, n, &tag)
@@ -321,7 +323,9 @@ static void count_way(void)
     COUNT(ctrl_sq_tail, "", "");
     tails[qid] = n;
     COUNT(ctrl_fetch, "", "");
+    COUNT(ctrl_next_fetch, "the last turn", "turns up to the queue's");
     COUNT(ctrl_fetched, "", "");
+    NONE(ctrl_next_fetch, "no queue", "turns up to the queue's");
     COUNT(ctrl_waiting, "", "");
     COUNT(ctrl_seen, "", "");
     check(nvmearb_ctrl_pick(&ctrl, slots, pool, NVMEARB_NO_LIMIT, &step));
@@ -335,13 +339,28 @@ static void count_way(void)
     check(nvmearb_ctrl_complete(&ctrl, slots, pool, second, &success, 0));
     tag = first;
     COUNT(ctrl_complete, "", "");
+    COUNT(ctrl_next_to_post, "the last turn", "turns up to the queue's");
     COUNT(ctrl_post, "", "");
     n = (post.slot + 1) % RING;
     COUNT(ctrl_cq_head, "", "");
     COUNT(ctrl_post, "", "");
     COUNT(ctrl_post, "", "");
+    NONE(ctrl_next_to_post, "no queue", "turns up to the queue's");
     COUNT(ctrl_sq, "", "");
     COUNT(ctrl_cq, "", "");
+}
+
+/* With an entry in each I/O queue, none of which may be fetched yet. */
+static void count_depths(void)
+{
+    anywhere(POOL);
+    for (uint16_t of = 1; of <= QUEUES; of++) {
+        check(nvmearb_ctrl_set_depth(&ctrl, of, 1));
+        fill(of, 1);
+        ring(of);
+    }
+    qid = QUEUES;
+    NONE(ctrl_next_fetch, "no queue, each at its depth", "turns up to the queue's");
 }
 
 /* With all queues full: holding, classes, and picks of I/O queues. */
@@ -472,6 +491,7 @@ int main(void)
     mechanism = NVMEARB_WEIGHTED;
     count_making();
     count_way();
+    count_depths();
     count_features();
     count_creates(0);
     count_creates(1);

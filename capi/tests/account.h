@@ -22,7 +22,7 @@ struct command {
     uint32_t tag;       /* once it was taken */
     uint32_t cookie, dw0;
     nvmearb_status status;
-    uint8_t entry[NVMEARB_SQE_BYTES], marks;
+    uint8_t entry[NVMEARB_SQE_BYTES], flags;
 };
 
 /* Commands in an order, by their numbers. */
@@ -154,13 +154,13 @@ static int has_dnr(nvmearb_status it)
 }
 
 /* The completion of a command is ready. */
-static void ready(uint16_t number, nvmearb_status status, uint32_t dw0, uint8_t marks)
+static void ready(uint16_t number, nvmearb_status status, uint32_t dw0, uint8_t flags)
 {
     struct command *it = &account.commands[number];
     it->state = READY;
     it->status = status;
     it->dw0 = dw0;
-    it->marks = marks;
+    it->flags = flags;
     push(&account.cqs[it->cqid].ready, number);
 }
 

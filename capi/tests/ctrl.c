@@ -290,6 +290,13 @@ static int is_last(uint32_t tag, const struct tally *tally)
     return slot < SLOTS && tally->tags[slot] == tag;
 }
 
+/* The slot that was told with a queue is the one that the queue has. */
+static int is_fetch_of(uint16_t qid, uint16_t slot)
+{
+    uint16_t told;
+    return qid < NVMEARB_MAX_QUEUES && nvmearb_ctrl_fetch(&ctrl, qid, &told) == NVMEARB_OK && told == slot;
+}
+
 /* One call with drawn arguments over the controller. What it answers and writes fits the tally. */
 static unsigned random_call(uint64_t *state, struct tally *tally)
 {
@@ -321,6 +328,8 @@ static unsigned random_call(uint64_t *state, struct tally *tally)
     wrong += (which == COMPLETE || which == COMPLETE_WITH || which == COMMAND) && !is_last(it.tag, tally);
     wrong += which == POST && (!is_last(it.post.tag, tally) || it.post.slot >= 8);
     wrong += which == NAMED && !is_last(it.named, tally);
+    wrong += which == NEXT_FETCH && !is_fetch_of(it.a, it.number);
+    wrong += which == NEXT_TO_POST && it.a >= NVMEARB_MAX_QUEUES;
     wrong += (which == PEEK || (which >= FETCH && which < WITHOUT_SLOTS) || which >= COMMAND) && changes;
     return wrong;
 }
@@ -371,8 +380,8 @@ static void random_states(void)
     CHECK(wrong == 0);
 }
 
-/* A device gives each of the four marks, and no other. The controller marks what no retry changes. */
-static void marks(void)
+/* A device gives each of the four flags, and no other. The controller flags what no retry changes. */
+static void flags(void)
 {
     nvmearb_status unread = {NVMEARB_SCT_MEDIA, NVMEARB_SC_UNRECOVERED_READ_ERROR};
     nvmearb_status used = {NVMEARB_SCT_COMMAND_SPECIFIC, NVMEARB_SC_INVALID_QUEUE_DELETION};
@@ -576,7 +585,7 @@ int main(void)
     two_deletions();
     depths_and_slots();
     wrong_depths();
-    marks();
+    flags();
     own_opcodes();
     own_features();
     own_aborts();

@@ -100,9 +100,9 @@ static inline int completes(uint32_t tag, nvmearb_status status, uint32_t dw0, u
     return nvmearb_ctrl_complete(&ctrl, slots, SLOTS, tag, &status, dw0) == want;
 }
 
-static inline int completes_with(uint32_t tag, nvmearb_status status, unsigned marks, uint32_t want)
+static inline int completes_with(uint32_t tag, nvmearb_status status, unsigned flags, uint32_t want)
 {
-    return nvmearb_ctrl_complete_with(&ctrl, slots, SLOTS, tag, &status, 0, (uint8_t)marks) == want;
+    return nvmearb_ctrl_complete_with(&ctrl, slots, SLOTS, tag, &status, 0, (uint8_t)flags) == want;
 }
 
 /*

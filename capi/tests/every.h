@@ -10,10 +10,10 @@ struct call {
     nvmearb_ctrl *ctrl;
     nvmearb_slot *slots;
     size_t count;
-    uint16_t a, b;
+    uint16_t a, b; /* (NEXT_FETCH and NEXT_TO_POST take a queue from `a`, and write one there) */
     uint32_t tag, dw0;
     nvmearb_status status;
-    uint8_t marks;
+    uint8_t flags;
     uint8_t bytes[NVMEARB_SQE_BYTES];
     /* what it writes */
     uint16_t number;
@@ -28,8 +28,9 @@ struct call {
 };
 /* The calls. Those that take no slots come first. */
 enum { ADD_SQ, ADD_CQ, OWN_OPCODE, OWN_FEATURE, SET_DEPTH, HOLD, SET_CLASS, SQ_TAIL, CQ_HEAD };
-enum { FETCH = CQ_HEAD + 1, SQ_OF, CQ_OF, WAITING, SEEN, WITHOUT_SLOTS };
-enum { FETCHED = WITHOUT_SLOTS, PEEK, PICK, TAKE, COMPLETE, COMPLETE_WITH, POST, FINISH, COMMAND, NAMED, WAITS, CALLS };
+enum { FETCH = CQ_HEAD + 1, NEXT_FETCH, SQ_OF, CQ_OF, WAITING, SEEN, WITHOUT_SLOTS };
+enum { FETCHED = WITHOUT_SLOTS, PEEK, PICK, TAKE, COMPLETE, COMPLETE_WITH, POST, FINISH };
+enum { COMMAND = FINISH + 1, NAMED, WAITS, NEXT_TO_POST, CALLS };
 
 static inline uint32_t made(struct call *it, unsigned which)
 {
@@ -45,7 +46,7 @@ static inline uint32_t made(struct call *it, unsigned which)
     case SET_DEPTH:
         return nvmearb_ctrl_set_depth(it->ctrl, it->a, it->b);
     case HOLD:
-        return nvmearb_ctrl_hold(it->ctrl, it->a, it->marks);
+        return nvmearb_ctrl_hold(it->ctrl, it->a, it->flags);
     case SET_CLASS:
         return nvmearb_ctrl_set_class(it->ctrl, it->a, it->b);
     case SQ_TAIL:
@@ -54,6 +55,8 @@ static inline uint32_t made(struct call *it, unsigned which)
         return nvmearb_ctrl_cq_head(it->ctrl, it->a, it->b);
     case FETCH:
         return nvmearb_ctrl_fetch(it->ctrl, it->a, &it->number);
+    case NEXT_FETCH:
+        return nvmearb_ctrl_next_fetch(it->ctrl, &it->a, &it->number);
     case SQ_OF:
         return nvmearb_ctrl_sq(it->ctrl, it->a, &it->number);
     case CQ_OF:
@@ -82,8 +85,10 @@ static inline uint32_t made(struct call *it, unsigned which)
         return nvmearb_ctrl_command(it->ctrl, it->slots, it->count, it->tag, &it->command);
     case NAMED:
         return nvmearb_ctrl_named(it->ctrl, it->slots, it->count, it->a, it->b, &it->named);
+    case NEXT_TO_POST:
+        return nvmearb_ctrl_next_to_post(it->ctrl, it->slots, it->count, &it->a);
     default:
-        return nvmearb_ctrl_complete_with(it->ctrl, it->slots, it->count, it->tag, &it->status, it->dw0, it->marks);
+        return nvmearb_ctrl_complete_with(it->ctrl, it->slots, it->count, it->tag, &it->status, it->dw0, it->flags);
     }
 }
 
@@ -104,17 +109,17 @@ static inline void draw_entry(uint64_t *state, uint8_t *bytes)
 /* Draws a call and its arguments but for the tag. Mostly numbers are small, and those of slots are `count`. */
 static inline unsigned draw_call(uint64_t *state, struct call *it)
 {
-    static const uint8_t often[CALLS] = {SQ_TAIL, SQ_TAIL, FETCH,    FETCHED,  FETCHED,       FETCHED, PEEK,
-                                         PICK,    PICK,    TAKE,     TAKE,     TAKE,          POST,    POST,
-                                         FINISH,  COMMAND, COMPLETE, COMPLETE, COMPLETE_WITH, NAMED,   HOLD,
-                                         HOLD,    SEEN,    WAITS,    SET_DEPTH};
+    static const uint8_t often[CALLS] = {SQ_TAIL, SQ_TAIL, FETCH,    FETCHED,   FETCHED,       FETCHED,     PEEK,
+                                         PICK,    PICK,    TAKE,     TAKE,      TAKE,          POST,        POST,
+                                         FINISH,  COMMAND, COMPLETE, COMPLETE,  COMPLETE_WITH, NAMED,       HOLD,
+                                         HOLD,    SEEN,    WAITS,    SET_DEPTH, NEXT_FETCH,    NEXT_TO_POST};
     uint64_t word = drawn(state);
     unsigned which = word & 1 ? often[(word >> 4) % CALLS] : (unsigned)(word >> 4) % CALLS;
     it->a = word >> 60 ? (uint16_t)(word >> 16) % 3 : (uint16_t)(word >> 16);
     it->b = word >> 60 ? (uint16_t)(word >> 32) % SLOTS : (uint16_t)(word >> 32);
     it->count = (word >> 55 & 31) ? it->count : (size_t)(word >> 32); /* (where it is another, no slot is looked at) */
     it->status.sct = (uint8_t)(word >> 40) % 9;
-    it->marks = (uint8_t)(word >> 48) % 5;
+    it->flags = (uint8_t)(word >> 48) % 5;
     if (which == ADD_SQ || which == ADD_CQ)
         it->b = word & 8 ? 4 : it->b; /* (the rings that Creates name) */
     draw_entry(state, it->bytes);

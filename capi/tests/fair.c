@@ -52,6 +52,7 @@ static size_t count;
 static uint64_t seed;
 static uint16_t nqueues, nevents, capacity, largest, most;
 static int is_eager; /* the host submits all that it can at once */
+static int by_turns; /* the device asks for the next queue with work, and not each queue */
 static struct {
     uint32_t tag;
     uint16_t turns;
@@ -209,14 +210,46 @@ static void complete_some(void)
     }
 }
 
+static void finish_all(void)
+{
+    uint16_t qid;
+    while (nvmearb_ctrl_finish(&ctrl, pool, count, &qid) == NVMEARB_OK)
+        continue;
+}
+
 static void post_all(uint16_t cqid)
 {
     nvmearb_post it;
-    uint16_t qid;
     for (; nvmearb_ctrl_post(&ctrl, pool, count, cqid, &it) == NVMEARB_OK; outstanding--)
         memcpy(cqs[cqid].ring[it.slot], it.bytes, sizeof it.bytes);
-    while (nvmearb_ctrl_finish(&ctrl, pool, count, &qid) == NVMEARB_OK)
-        continue;
+    finish_all();
+}
+
+/* Posts to each queue, or to those to which something can be posted. */
+static void post_each(void)
+{
+    static uint16_t last;
+    while (by_turns && nvmearb_ctrl_next_to_post(&ctrl, pool, count, &last) == NVMEARB_OK)
+        post_all(last);
+    for (uint16_t cqid = 0; !by_turns && cqid <= nqueues; cqid++)
+        post_all(cqid);
+}
+
+static void fetched(uint16_t qid, uint16_t slot)
+{
+    MUST(nvmearb_ctrl_fetched(&ctrl, pool, count, qid, sqs[qid].ring[slot], qid) == NVMEARB_OK);
+}
+
+/* Fetches all of each queue, or an entry of each in turn. */
+static void fetch_each(void)
+{
+    static uint16_t last;
+    uint16_t slot;
+    while (by_turns && nvmearb_ctrl_next_fetch(&ctrl, &last, &slot) == NVMEARB_OK)
+        fetched(last, slot);
+    for (uint16_t qid = 0; !by_turns && qid <= nqueues; qid++)
+        while (nvmearb_ctrl_fetch(&ctrl, qid, &slot) == NVMEARB_OK)
+            fetched(qid, slot);
 }
 
 /* Holds a queue for some turns, or releases one whose time has come. */
@@ -234,15 +267,12 @@ static void hold_some(void)
 
 static void device(void)
 {
-    uint16_t slot;
-    for (uint16_t qid = 0; qid <= nqueues; qid++)
-        while (nvmearb_ctrl_fetch(&ctrl, qid, &slot) == NVMEARB_OK)
-            MUST(nvmearb_ctrl_fetched(&ctrl, pool, count, qid, sqs[qid].ring[slot], qid) == NVMEARB_OK);
+    fetch_each();
     hold_some();
     pick_all();
+    finish_all();
     complete_some();
-    for (uint16_t cqid = 0; cqid <= nqueues; cqid++)
-        post_all(cqid);
+    post_each();
 }
 
 /* ---- A run ---- */
@@ -286,7 +316,7 @@ static void begin(void)
     memset(cqs, 0, sizeof cqs);
     nqueues = some(some(64)), nevents = (uint16_t)upto(5), flying = kept = 0, outstanding = 0;
     capacity = upto(2) ? some(FLYING) : FLYING;
-    is_eager = upto(4) == 0;
+    is_eager = upto(4) == 0, by_turns = (int)upto(2);
     largest = is_eager ? RING : (uint16_t)(1 + some(RING - 1));
     most = (uint16_t)(1 + ALL / nqueues < MOST ? 1 + ALL / nqueues : MOST);
     sqs[0] = (struct sq){.slots = (uint16_t)(draw_slots() + nevents), .is_open = 1};

@@ -186,6 +186,12 @@ static void forget(struct call *it)
     case NAMED:
         it->named = 0;
         break;
+    case NEXT_FETCH:
+        it->a = it->number = 0;
+        break;
+    case NEXT_TO_POST:
+        it->a = 0;
+        break;
     case WAITS:
         memset(&it->entry, 0, sizeof it->entry);
         it->cookie = 0;
@@ -204,6 +210,8 @@ static int is_of_its_kind(const struct call *it)
     const nvmearb_step *step = &it->step;
     const nvmearb_pick *pick = which == PEEK ? &it->pick : &step->pick;
     int is_carried_out = which == PICK && step->kind == NVMEARB_CARRIED_OUT;
+    if (which == NEXT_FETCH || which == NEXT_TO_POST)
+        return it->a < NVMEARB_MAX_QUEUES;
     if (which == SEEN)
         return it->seen.qid == it->a && it->seen.priority <= NVMEARB_LOW && it->seen.count <= NVMEARB_MAX_COUNT;
     if (is_carried_out)

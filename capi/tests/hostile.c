@@ -31,7 +31,7 @@ static struct {
 
 static struct {
     uint64_t ok, none, busy, full, refused, passed, passed_aborts, named, deep, held, classed, deletions, together, aborts;
-    uint64_t marked, created, made, again, cut, stale;
+    uint64_t flagged, created, made, again, cut, stale, turns;
     uint64_t anywhere, lies_anywhere, most, bad_sizes, bad_offsets, bad_vectors; /* where queues may lie anywhere */
 } tally;
 
@@ -236,6 +236,12 @@ static int may_fetch(const struct sq *sq)
 {
     return sq && sq->fetched < sq->submitted && sq->unposted < account.depths[sq - account.sqs] &&
            sq->waiting.n < NVMEARB_MAX_COUNT && sq->waiting.n + 1u < sq->slots && account.held < account.slots;
+}
+
+/* Whether a completion may be posted to this queue. */
+static int may_post(const struct cq *cq)
+{
+    return cq && cq->ready.n && cq->posted + 1 < cq->consumed + cq->slots;
 }
 
 static uint16_t free_number(void)
@@ -529,14 +535,14 @@ static int completes(void)
     uint16_t number = out_under(tag);
     nvmearb_status status = {(uint8_t)(upto(50) ? upto(8) : upto(256)), (uint8_t)upto(256)};
     uint32_t dw0 = (uint32_t)drawn(&seed), told, want;
-    uint8_t marks = (uint8_t)(upto(50) ? upto(4) : upto(256)), is_marked = (uint8_t)upto(2);
+    uint8_t flags = (uint8_t)(upto(50) ? upto(4) : upto(256)), is_flagged = (uint8_t)upto(2);
     int is_out = number != NO_COMMAND;
-    want = status.sct > 7 || (is_marked && marks > 3) ? NVMEARB_EARG : is_out ? NVMEARB_OK : NVMEARB_NONE;
-    told = is_marked ? nvmearb_ctrl_complete_with(CTRL, POOL, tag, &status, dw0, marks)
+    want = status.sct > 7 || (is_flagged && flags > 3) ? NVMEARB_EARG : is_out ? NVMEARB_OK : NVMEARB_NONE;
+    told = is_flagged ? nvmearb_ctrl_complete_with(CTRL, POOL, tag, &status, dw0, flags)
                      : nvmearb_ctrl_complete(CTRL, POOL, tag, &status, dw0);
     if (want == NVMEARB_OK)
-        ready(number, status, dw0, is_marked ? marks : 0);
-    tally.marked += want == NVMEARB_OK && is_marked;
+        ready(number, status, dw0, is_flagged ? flags : 0);
+    tally.flagged += want == NVMEARB_OK && is_flagged;
     tally.stale += want == NVMEARB_NONE && out_in(NVMEARB_SLOT_OF(tag)) != NO_COMMAND;
     return is_right(told, want);
 }
@@ -553,7 +559,7 @@ static void completion(const struct command *it, uint8_t *bytes)
     const struct sq *sq = &account.sqs[it->qid];
     const struct cq *cq = &account.cqs[it->cqid];
     uint32_t phase = !(cq->posted / cq->slots & 1), cid = it->entry[2] | (uint32_t)it->entry[3] << 8;
-    uint32_t final = (it->marks & NVMEARB_DNR) != 0, more = (it->marks & NVMEARB_MORE) != 0;
+    uint32_t final = (it->flags & NVMEARB_DNR) != 0, more = (it->flags & NVMEARB_MORE) != 0;
     put(bytes, it->dw0);
     put(bytes + 4, 0);
     put(bytes + 8, (uint32_t)(sq->fetched % sq->slots) | (uint32_t)it->qid << 16);
@@ -569,9 +575,7 @@ static int posts(void)
         cqid = draw_qid(), cq = open_cq(cqid);
     uint8_t bytes[NVMEARB_CQE_BYTES];
     nvmearb_post found;
-    uint32_t want = NVMEARB_OK;
-    if (!cq || cq->ready.n == 0 || cq->posted + 1 >= cq->consumed + cq->slots)
-        want = NVMEARB_NONE;
+    uint32_t want = may_post(cq) ? NVMEARB_OK : NVMEARB_NONE;
     if (!is_right(nvmearb_ctrl_post(CTRL, POOL, cqid, &found), want))
         return 0;
     if (want != NVMEARB_OK)
@@ -677,6 +681,41 @@ static int looks(void)
            (!cq || region == cq->region) && sees();
 }
 
+static int has_fetch(uint16_t qid)
+{
+    return may_fetch(open_sq(qid));
+}
+
+static int has_post(uint16_t cqid)
+{
+    return may_post(open_cq(cqid));
+}
+
+/* The queue with work whose turn comes next behind this one, or QUEUES. */
+static uint16_t next_turn(uint16_t last, int (*has_work)(uint16_t))
+{
+    uint16_t qid = last < QUEUES ? last : QUEUES - 1;
+    for (unsigned turn = 0; turn < QUEUES; turn++) {
+        qid = (uint16_t)((qid + 1) % QUEUES);
+        if (has_work(qid))
+            return qid;
+    }
+    return QUEUES;
+}
+
+/* The next queue of which an entry is fetched, and the next one to which a completion is posted. */
+static int takes_turns(void)
+{
+    uint16_t last = (uint16_t)(upto(20) ? upto(QUEUES) : upto(0x10000)), qid = last, cqid = last, slot = 0xffff;
+    uint16_t from = next_turn(last, has_fetch), to = next_turn(last, has_post);
+    if (!is_right(nvmearb_ctrl_next_fetch(CTRL, &qid, &slot), from < QUEUES ? NVMEARB_OK : NVMEARB_NONE) ||
+        !is_right(nvmearb_ctrl_next_to_post(CTRL, POOL, &cqid), to < QUEUES ? NVMEARB_OK : NVMEARB_NONE))
+        return 0;
+    tally.turns += from < QUEUES && to < QUEUES;
+    return qid == (from < QUEUES ? from : last) && cqid == (to < QUEUES ? to : last) &&
+           slot == (from < QUEUES ? account.sqs[from].fetched % account.sqs[from].slots : 0xffff);
+}
+
 /* ---- All of it ---- */
 
 /* One call, or a few that belong together. */
@@ -705,6 +744,8 @@ static int call(void)
         return sets_class();
     if (which < 500)
         return sets_depth();
+    if (which < 600)
+        return takes_turns();
     if (account.is_slow && which % 32)
         return calls[upto(IN_FRONT)]();
     return calls[upto(sizeof calls / sizeof *calls)]();
@@ -723,8 +764,8 @@ int main(int count, char **words)
            (uintmax_t)tally.made, (uintmax_t)tally.again, (uintmax_t)tally.stale);
     printf("%ju queues created, %ju deleted, %ju commands aborted\n", (uintmax_t)tally.created,
            (uintmax_t)tally.deletions, (uintmax_t)tally.aborts);
-    printf("%ju commands passed on, %ju of them Aborts, %ju named, %ju marked\n", (uintmax_t)tally.passed,
-           (uintmax_t)tally.passed_aborts, (uintmax_t)tally.named, (uintmax_t)tally.marked);
+    printf("%ju commands passed on, %ju of them Aborts, %ju named, %ju flagged\n", (uintmax_t)tally.passed,
+           (uintmax_t)tally.passed_aborts, (uintmax_t)tally.named, (uintmax_t)tally.flagged);
     printf("%ju queues held, %ju classes and %ju depths set, %ju picks cut to the room\n", (uintmax_t)tally.held,
            (uintmax_t)tally.classed, (uintmax_t)tally.deep, (uintmax_t)tally.cut);
     printf("%ju controllers with queues anywhere: %ju Creates accepted, at most %ju of one; refused by size %ju, by "
@@ -734,7 +775,7 @@ int main(int count, char **words)
     CHECK(holds && is_whole() && made >= most);
     CHECK(tally.busy && tally.full && tally.created && tally.deletions && tally.together && tally.aborts);
     CHECK(tally.most > NVMEARB_MAX_REGIONS && tally.bad_sizes && tally.bad_offsets && tally.bad_vectors);
-    CHECK(tally.passed && tally.marked && tally.passed_aborts && tally.named && tally.held && tally.classed);
-    CHECK(tally.cut && tally.deep && tally.again && tally.stale);
+    CHECK(tally.passed && tally.flagged && tally.passed_aborts && tally.named && tally.held && tally.classed);
+    CHECK(tally.cut && tally.deep && tally.again && tally.stale && tally.turns);
     return told();
 }

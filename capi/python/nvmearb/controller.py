@@ -159,11 +159,20 @@ class Controller:
         """The slot of the ring of a submission queue whose entry is fetched next, if there is one."""
         return self._number("fetch", u16(qid=qid))
 
+    def next_fetch(self, last: int = MAX_QUEUES - 1) -> Optional[tuple[int, int]]:
+        """The next submission queue that has an entry to fetch, and its slot. Queues take turns by ascending identifier, 0
+        after 64, beginning behind `last`. Told the one before each time, they come within 65 calls while they have some."""
+        qid, slot = u16(last=last), c_uint16()
+        found = self._is_found(self._alone("next_fetch", byref(qid), byref(slot)))
+        return (qid.value, slot.value) if found else None
+
     def to_fetch(self) -> Iterator[tuple[int, int]]:
-        """The submission queues that have an entry to fetch, each with its slot."""
-        for qid in range(MAX_QUEUES):
-            while (slot := self.fetch(qid)) is not None:
-                yield qid, slot
+        """The submission queues that have an entry to fetch, in turn, each with its slot. Each entry is to be fetched before
+        the next one is asked for."""
+        qid = MAX_QUEUES - 1
+        while (found := self.next_fetch(qid)) is not None:
+            qid, slot = found
+            yield qid, slot
 
     def fetched(self, qid: int, entry: bytes, cookie: int = 0) -> None:
         """The entry in the slot that `fetch` told was read: its command waits to be picked."""
@@ -200,10 +209,10 @@ class Controller:
         self, tag: int, status: Status = Status(), dw0: int = 0, do_not_retry: bool = False, more: bool = False
     ) -> None:
         """The device completes a command, whose completion is ready then. Refused where it has none under this tag."""
-        marks = do_not_retry + 2 * more
+        flags = do_not_retry + 2 * more
         in_range(8, sct=status.sct, sc=status.sc)
         fields = StatusFields(*status)
-        checked(self._call("complete_with", u32(tag=tag), byref(fields), u32(dw0=dw0), u8(marks=marks)))
+        checked(self._call("complete_with", u32(tag=tag), byref(fields), u32(dw0=dw0), u8(flags=flags)))
 
     def post(self, cqid: int) -> Optional[Post]:
         """The completion that became ready first in a completion queue, if it has room for it."""
@@ -211,9 +220,16 @@ class Controller:
         found = self._found("post", u16(cqid=cqid), byref(post))
         return Post(bytes(post.bytes), post.cookie, post.tag, post.slot) if found else None
 
+    def next_to_post(self, last: int = MAX_QUEUES - 1) -> Optional[int]:
+        """The next completion queue of which `post` gives a completion. Queues take turns as those of `next_fetch`."""
+        cqid = u16(last=last)
+        return cqid.value if self._found("next_to_post", byref(cqid)) else None
+
     def posts(self) -> Iterator[tuple[int, Post]]:
-        """The completions that can be posted, each with its completion queue."""
-        for cqid in range(MAX_QUEUES):
+        """The completions that can be posted, each with its completion queue: those of one queue after those of another."""
+        cqid = MAX_QUEUES - 1
+        while (found := self.next_to_post(cqid)) is not None:
+            cqid = found
             while (post := self.post(cqid)) is not None:
                 yield cqid, post
 
@@ -249,19 +265,20 @@ class Controller:
     def _call(self, name: str, *words: Any) -> int:
         return self._alone(name, self._slots, c_size_t(len(self._slots)), *words)
 
-    def _found(self, name: str, *words: Any) -> bool:
-        """Whether a call answered something."""
-        code = self._call(name, *words)
+    @staticmethod
+    def _is_found(code: int) -> bool:
+        """Whether a call answered something, by its code."""
         if code != NONE:
             checked(code)
         return code == OK
 
+    def _found(self, name: str, *words: Any) -> bool:
+        """So of a call that is given the slots."""
+        return self._is_found(self._call(name, *words))
+
     def _number(self, name: str, qid: ctypes.c_uint16) -> Optional[int]:
         number = c_uint16()
-        code = self._alone(name, qid, byref(number))
-        if code != NONE:
-            checked(code)
-        return number.value if code == OK else None
+        return number.value if self._is_found(self._alone(name, qid, byref(number))) else None
 
 
 def step_of(step: StepFields) -> Step:

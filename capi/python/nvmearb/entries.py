@@ -57,7 +57,7 @@ class Sqe:
 
 @dataclass
 class Cqe:
-    """The fields of a completion queue entry, and its marks, Do Not Retry and More."""
+    """The fields of a completion queue entry, and its flags, Do Not Retry and More."""
 
     cid: int = 0
     status: Status = field(default_factory=Status)

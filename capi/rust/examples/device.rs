@@ -3,9 +3,9 @@
 //! namespace. It serves the admin queues and one I/O queue pair. The host is at the bottom.
 use nvmearb::{admin_opcode, io_opcode};
 use nvmearb::{
-    Answer, Asked, Config, Controller, Cqe, DoorbellError, Error, Marks, Mechanism, Placement, Region, Slot,
+    Answer, Asked, Config, Controller, Cqe, DoorbellError, Error, Mechanism, Placement, Region, Slot,
 };
-use nvmearb::{Sqe, Status, Step, Verdict, CQE_BYTES, NO_LIMIT, SQE_BYTES};
+use nvmearb::{Sqe, Status, StatusFlags, Step, Verdict, CQE_BYTES, NO_LIMIT, SQE_BYTES};
 
 /// The slots of each ring.
 const RING: u16 = 8;
@@ -64,9 +64,9 @@ impl Device {
         }
     }
 
-    /// Fetches what the host submitted to a queue.
-    fn fetch(&mut self, qid: u16) {
-        while let Some(slot) = self.ctrl.fetch(qid) {
+    /// Fetches what the host submitted.
+    fn fetch(&mut self) {
+        while let Some((qid, slot)) = self.ctrl.to_fetch().next() {
             let mut bytes = [0; SQE_BYTES]; // a copy: the host may write there
             let at = place(self.sqs[usize::from(qid)], slot, SQE_BYTES);
             match at.and_then(|at| self.memory.get(at)) {
@@ -122,17 +122,17 @@ impl Device {
             while let Some(command) = self.ctrl.take() {
                 let status = self.execute(&command.entry);
                 // (what fails here would fail again)
-                let marks = if status == Status::SUCCESS { Marks::default() } else { Marks::DO_NOT_RETRY };
-                self.ctrl.complete_with(command.tag, status, 0, marks).expect("the command was taken");
+                let flags = if status == Status::SUCCESS { StatusFlags::default() } else { StatusFlags::DO_NOT_RETRY };
+                self.ctrl.complete_with(command.tag, status, 0, flags).expect("the command was taken");
             }
         }
         did
     }
 
-    /// Writes the completions of a completion queue, and would send the interrupt.
-    fn post(&mut self, cqid: u16) -> bool {
+    /// Writes the completions that can be posted, and would send the interrupts.
+    fn post(&mut self) -> bool {
         let mut did = false;
-        while let Some(post) = self.ctrl.post(cqid) {
+        for (cqid, post) in self.ctrl.posts() {
             did = true;
             let at = place(self.cqs[usize::from(cqid)], post.slot, CQE_BYTES);
             let entry = match at.and_then(|at| self.memory.get_mut(at)) {
@@ -149,13 +149,11 @@ impl Device {
         did
     }
 
-    /// A pass over all queues: picks make room for fetches, posts for picks, and the end of a deletion for both.
+    /// A pass over the queues with work: picks make room for fetches, posts for picks, and the end of a deletion for both.
     fn pass(&mut self) -> bool {
-        self.fetch(0);
-        self.fetch(1);
+        self.fetch();
         let mut did = self.work();
-        did |= self.post(0);
-        did |= self.post(1);
+        did |= self.post();
         did | self.ctrl.finish().is_some()
     }
 
@@ -192,7 +190,7 @@ impl Pair {
         device.ring(2 * self.qid, self.tail.into()).expect("the ring has room");
         let at = place(cq, self.head, CQE_BYTES).expect("the ring is in memory");
         let mut bytes: [u8; CQE_BYTES] = device.memory[at].try_into().expect("a slot");
-        bytes[15] &= 0x0f; // without its marks
+        bytes[15] &= 0x0f; // without its flags
         let done = Cqe::from_bytes(&bytes).expect("a completion");
         assert_eq!((done.phase, done.cid, done.sqhd), (self.phase, entry.cid, self.tail));
         self.head = (self.head + 1) % RING;

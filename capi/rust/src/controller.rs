@@ -104,18 +104,18 @@ impl Command {
     }
 }
 
-/// The marks of a completion, beside its status. By default it has neither.
+/// The flags of a completion, beside its status. By default it has neither.
 #[derive(Clone, Copy, Debug, Default, PartialEq, Eq, Hash)]
-pub struct Marks {
+pub struct StatusFlags {
     /// More: the Error Information log page has more of the command.
     pub more: bool,
     /// Do Not Retry: the same command would fail again. Without it Linux submits a failing Read six times.
     pub do_not_retry: bool,
 }
 
-impl Marks {
+impl StatusFlags {
     /// Do Not Retry alone.
-    pub const DO_NOT_RETRY: Marks = Marks { more: false, do_not_retry: true };
+    pub const DO_NOT_RETRY: StatusFlags = StatusFlags { more: false, do_not_retry: true };
 
     fn number(self) -> u8 {
         u8::from(self.do_not_retry) * sys::NVMEARB_DNR + u8::from(self.more) * sys::NVMEARB_MORE
@@ -143,10 +143,10 @@ impl Post {
         Post { bytes, cookie, tag: Tag(tag), slot }
     }
 
-    /// Its marks: those that the device gave, or for what the controller answers itself Do Not Retry where a retry
+    /// Its flags: those that the device gave, or for what the controller answers itself Do Not Retry where a retry
     /// can't change the status.
-    pub fn marks(&self) -> Marks {
-        Marks { more: self.bytes[15] & 0x40 != 0, do_not_retry: self.bytes[15] & 0x80 != 0 }
+    pub fn flags(&self) -> StatusFlags {
+        StatusFlags { more: self.bytes[15] & 0x40 != 0, do_not_retry: self.bytes[15] & 0x80 != 0 }
     }
 }
 
@@ -162,15 +162,16 @@ impl Post {
 /// 2. [`Controller::own_opcode`] and [`Controller::own_feature`] for the admin commands that the device answers itself,
 ///    such as Identify.
 /// 3. At each doorbell write [`Controller::sq_tail`] or [`Controller::cq_head`].
-/// 4. For each queue, while [`Controller::fetch`] tells a slot: read the entry there, and [`Controller::fetched`].
-///    [`Controller::to_fetch`] tells all queues that have one.
+/// 4. While [`Controller::next_fetch`] tells a queue and a slot: read the entry there, and [`Controller::fetched`].
+///    [`Controller::to_fetch`] tells all queues that have one, and [`Controller::fetch`] asks a single queue.
 /// 5. While [`Controller::take`] gives a command, execute it. Where it has none, [`Controller::pick`], and begin again,
 ///    until that picks nothing either. At a step that created a queue keep its [`Asked`](crate::Asked) by the
 ///    identifier, those of submission queues and of completion queues apart. At one that began a deletion do 8. at once.
 /// 6. [`Controller::complete`] or [`Controller::complete_with`] for each command that ends, in any order and at any
 ///    time.
-/// 7. For each completion queue, while [`Controller::post`] gives a completion: write it into the slot of the ring,
-///    and then send the interrupt of the queue's vector, if its enable bit is set.
+/// 7. While [`Controller::next_to_post`] tells a completion queue, and while [`Controller::post`] gives a completion of
+///    it: write that into the slot of the ring, and then send the interrupt of the queue's vector, if its enable bit is
+///    set. [`Controller::posts`] gives all of them.
 /// 8. After a pick that began a deletion, [`Controller::finish`] at once and after each 7., while it ends one. Until it
 ///    ends, nothing is fetched or picked of that queue, and a Delete of its completion queue is refused with
 ///    [`Status::INVALID_QUEUE_DELETION`], also one that came with it. What the device has of the queue may still be
@@ -393,6 +394,20 @@ impl<S: Slots> Controller<S> {
         sure(found(|slot| unsafe { sys::nvmearb_ctrl_fetch(&self.ctrl, qid, slot) }))
     }
 
+    /// The next submission queue of which [`Controller::fetch`] tells a slot, and that slot. Queues take turns by ascending
+    /// identifier, 0 after [`MAX_IO_QUEUES`](crate::MAX_IO_QUEUES), beginning behind `last`. Any `last` above that counts
+    /// as that, so that the admin queue has the first turn. None if `fetch` tells a slot of no queue.
+    ///
+    /// Hand in the queue that was told before. Then with each call a queue that has an entry to fetch is told, or its turn
+    /// comes nearer: while it has some, it is told within [`MAX_QUEUES`](crate::MAX_QUEUES) calls. With fewer slots than
+    /// the depths have together, queues share the free slots so.
+    pub fn next_fetch(&self, last: u16) -> Option<(u16, u16)> {
+        let mut qid = last;
+        // SAFETY: references.
+        let slot = sure(found(|slot| unsafe { sys::nvmearb_ctrl_next_fetch(&self.ctrl, &mut qid, slot) }))?;
+        Some((qid, slot))
+    }
+
     /// The entry in the slot that [`Controller::fetch`] tells was read: its command waits to be picked. `cookie` is
     /// kept with it.
     ///
@@ -452,14 +467,14 @@ impl<S: Slots> Controller<S> {
         checked(unsafe { sys::nvmearb_ctrl_complete(ctrl, slots, count, tag.0, &status.fields(), dw0) })
     }
 
-    /// The device completes a command, with marks; [`Controller::complete`] gives it none.
+    /// The device completes a command, with flags; [`Controller::complete`] gives it none.
     ///
     /// [`Error::Missing`]: as [`Controller::complete`].
-    pub fn complete_with(&mut self, tag: Tag, status: Status, dw0: u32, marks: Marks) -> Result<(), Error> {
+    pub fn complete_with(&mut self, tag: Tag, status: Status, dw0: u32, flags: StatusFlags) -> Result<(), Error> {
         let (ctrl, slots, count) = self.parts();
-        let (status, marks) = (status.fields(), marks.number());
+        let (status, flags) = (status.fields(), flags.number());
         // SAFETY: references, and the slots are those of the state.
-        checked(unsafe { sys::nvmearb_ctrl_complete_with(ctrl, slots, count, tag.0, &status, dw0, marks) })
+        checked(unsafe { sys::nvmearb_ctrl_complete_with(ctrl, slots, count, tag.0, &status, dw0, flags) })
     }
 
     /// The completion that became ready first in the completion queue `cqid`. None if the queue isn't open, if none is
@@ -469,6 +484,17 @@ impl<S: Slots> Controller<S> {
         // SAFETY: references, and the slots are those of the state.
         let post = sure(found(|post| unsafe { sys::nvmearb_ctrl_post(ctrl, slots, count, cqid, post) }));
         post.as_ref().map(Post::of)
+    }
+
+    /// The next completion queue of which [`Controller::post`] gives a completion. Queues take turns as those of
+    /// [`Controller::next_fetch`], beginning behind `last`. None if `post` gives one of no queue.
+    pub fn next_to_post(&self, last: u16) -> Option<u16> {
+        let (ctrl, slots, count) = self.shared_parts();
+        sure(found(|cqid| {
+            *cqid = last;
+            // SAFETY: references, and the slots are those of the state.
+            unsafe { sys::nvmearb_ctrl_next_to_post(ctrl, slots, count, cqid) }
+        }))
     }
 
     /// Finishes a deletion of a submission queue, all of whose commands have their completions posted, and answers its

@@ -80,7 +80,7 @@ mod table;
 pub use admin::{Admin, Answer, Queue, Region, Verdict};
 pub use arbiter::{Arbiter, Mechanism, Pick, Priority, Seen, Settings};
 pub use board::Board;
-pub use controller::{Command, Config, Controller, Marks, Placement, Post, Tag};
+pub use controller::{Command, Config, Controller, Placement, Post, StatusFlags, Tag};
 pub use entries::{admin_opcode, feature, io_opcode, Cqe, Sqe, Status};
 pub use error::{DoorbellError, Error};
 pub use queues::{Posts, Queues, ToFetch};

@@ -5,7 +5,7 @@ use crate::{Controller, Post, Seen, Slots, MAX_IO_QUEUES};
 /// The submission queues that have an entry to fetch ([`Controller::to_fetch`]).
 pub struct ToFetch<'a, S> {
     ctrl: &'a Controller<S>,
-    qids: core::ops::RangeInclusive<u16>,
+    told: Option<u16>,
 }
 
 /// The open submission queues ([`Controller::queues`]).
@@ -24,8 +24,13 @@ impl<S: Slots> Iterator for ToFetch<'_, S> {
     type Item = (u16, u16);
 
     fn next(&mut self) -> Option<(u16, u16)> {
-        let ctrl = self.ctrl;
-        self.qids.find_map(|qid| Some((qid, ctrl.fetch(qid)?)))
+        let (qid, slot) = self.ctrl.next_fetch(self.told.unwrap_or(MAX_IO_QUEUES))?;
+        // (behind the last of them the first one comes again)
+        if self.told.map_or(false, |told| qid <= told) {
+            return None;
+        }
+        self.told = Some(qid);
+        Some((qid, slot))
     }
 }
 
@@ -42,21 +47,23 @@ impl<S: Slots> Iterator for Posts<'_, S> {
     type Item = (u16, Post);
 
     fn next(&mut self) -> Option<(u16, Post)> {
-        while self.cqid <= MAX_IO_QUEUES {
-            match self.ctrl.post(self.cqid) {
-                Some(post) => return Some((self.cqid, post)),
-                None => self.cqid += 1,
+        let post = match self.ctrl.post(self.cqid) {
+            Some(post) => post,
+            None => {
+                self.cqid = self.ctrl.next_to_post(self.cqid)?;
+                self.ctrl.post(self.cqid)?
             }
-        }
-        None
+        };
+        Some((self.cqid, post))
     }
 }
 
 impl<S: Slots> Controller<S> {
     /// The submission queues whose hosts submitted more than was fetched, and that have room for it: the identifier of
-    /// each, and the slot that is fetched next. `while let Some((qid, slot)) = ctrl.to_fetch().next()` fetches all.
+    /// each, and the slot that is fetched next. `while let Some((qid, slot)) = ctrl.to_fetch().next()` fetches all, those
+    /// of one queue after those of another; by [`Controller::next_fetch`] they come in turn.
     pub fn to_fetch(&self) -> ToFetch<'_, S> {
-        ToFetch { ctrl: self, qids: 0..=MAX_IO_QUEUES }
+        ToFetch { ctrl: self, told: None }
     }
 
     /// The open submission queues, as the next pick is shown them.

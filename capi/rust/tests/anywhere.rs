@@ -2,7 +2,7 @@
 //! A controller whose queues lie anywhere in memory. Values are the specification's.
 use nvmearb::admin_opcode::{CREATE_CQ, CREATE_SQ, DELETE_CQ, DELETE_SQ};
 use nvmearb::{
-    boxed_slots, io_opcode, Answer, Asked, Config, Cqe, Error, Marks, Mechanism, Placement, Region, Slot, Sqe, Status,
+    boxed_slots, io_opcode, Answer, Asked, Config, Cqe, Error, Mechanism, Placement, Region, Slot, Sqe, Status, StatusFlags,
     Step, Verdict, NO_LIMIT,
 };
 
@@ -32,7 +32,7 @@ impl Host {
     }
 
     /// An admin command goes through: what it came to and asked for, its status, and whether a retry is of use.
-    fn goes_through(&mut self, opcode: u8, prp1: u64, cdw10: u32, cdw11: u32) -> (Answer, Asked, Status, Marks) {
+    fn goes_through(&mut self, opcode: u8, prp1: u64, cdw10: u32, cdw11: u32) -> (Answer, Asked, Status, StatusFlags) {
         let slot = self.next;
         self.next = (slot + 1) % ADMIN_SLOTS;
         let entry = Sqe { opcode, cid: slot, prp1, cdw10, cdw11, ..Sqe::default() };
@@ -43,11 +43,11 @@ impl Host {
             self.ctrl.finish().expect("none of its commands is held");
         }
         let post = self.ctrl.post(0).expect("its completion is ready");
-        let marks = post.marks();
+        let flags = post.flags();
         let mut bytes = post.bytes;
         bytes[15] &= 0x3f;
         assert_eq!((post.slot, self.ctrl.cq_head(0, self.next)), (slot, Ok(())));
-        (answer, asked, Cqe::from_bytes(&bytes).unwrap().status, marks)
+        (answer, asked, Cqe::from_bytes(&bytes).unwrap().status, flags)
     }
 
     fn succeeds(&mut self, opcode: u8, prp1: u64, cdw10: u32, cdw11: u32) -> (Answer, Asked) {
@@ -57,8 +57,8 @@ impl Host {
     }
 
     fn is_refused(&mut self, opcode: u8, prp1: u64, cdw10: u32, cdw11: u32, want: Status) {
-        let (answer, asked, status, marks) = self.goes_through(opcode, prp1, cdw10, cdw11);
-        assert_eq!((answer.verdict, status, marks), (Verdict::Done, want, Marks::DO_NOT_RETRY));
+        let (answer, asked, status, flags) = self.goes_through(opcode, prp1, cdw10, cdw11);
+        assert_eq!((answer.verdict, status, flags), (Verdict::Done, want, StatusFlags::DO_NOT_RETRY));
         assert_eq!(asked, Asked::default());
     }
 

@@ -3,7 +3,7 @@
 use nvmearb::admin_opcode::{ABORT, CREATE_CQ, CREATE_SQ, DELETE_SQ, GET_FEATURES, SET_FEATURES};
 use nvmearb::{boxed_slots, Slot, Step, Tag, Verdict, MAX_DEPTH, MAX_REGIONS, MAX_SLOTS, NO_LIMIT};
 use nvmearb::{
-    feature, io_opcode, Config, Cqe, DoorbellError, Error, Marks, Mechanism, Pick, Priority, Region, Seen, Sqe, Status,
+    feature, io_opcode, Config, Cqe, DoorbellError, Error, Mechanism, Pick, Priority, Region, Seen, Sqe, Status, StatusFlags,
 };
 
 type Controller = nvmearb::Controller<Box<[Slot]>>;
@@ -76,15 +76,15 @@ fn passed_on(ctrl: &mut Controller, entry: Sqe) -> Tag {
 /// A completion is posted to a completion queue: its slot, SQHD, command identifier, phase tag, status and Dword 0. It has
 /// neither mark.
 fn posted(ctrl: &mut Controller, cqid: u16, want: (u16, u16, u16, bool, Status, u32)) {
-    posted_with(ctrl, cqid, want, Marks::default());
+    posted_with(ctrl, cqid, want, StatusFlags::default());
 }
 
-/// So with its marks, which are bits 31 and 30 of Dword 3.
-fn posted_with(ctrl: &mut Controller, cqid: u16, want: (u16, u16, u16, bool, Status, u32), marks: Marks) {
+/// So with its flags, which are bits 31 and 30 of Dword 3.
+fn posted_with(ctrl: &mut Controller, cqid: u16, want: (u16, u16, u16, bool, Status, u32), flags: StatusFlags) {
     let post = ctrl.post(cqid).expect("a completion is ready");
     let mut bytes = post.bytes;
-    assert_eq!((bytes[15] >> 7 & 1 == 1, bytes[15] >> 6 & 1 == 1), (marks.do_not_retry, marks.more));
-    assert_eq!(post.marks(), marks);
+    assert_eq!((bytes[15] >> 7 & 1 == 1, bytes[15] >> 6 & 1 == 1), (flags.do_not_retry, flags.more));
+    assert_eq!(post.flags(), flags);
     bytes[15] &= 0x3f;
     let cqe = Cqe::from_bytes(&bytes).unwrap();
     assert_eq!((post.slot, cqe.sqhd, cqe.cid, cqe.phase, cqe.status, cqe.dw0), want);
@@ -179,12 +179,12 @@ fn commands_go_through_and_rings_go_round() {
     assert_eq!(ctrl.complete(Tag::from(SLOTS as u32), Status::SUCCESS, 0), Err(Error::Missing));
     assert_eq!(ctrl.command(tags[2]), None);
     assert_eq!(ctrl.complete(tags[0], Status::SUCCESS, 5), Ok(()));
-    let marks = Marks { more: true, do_not_retry: true };
-    assert_eq!(ctrl.complete_with(tags[1], Status::LBA_OUT_OF_RANGE, 9, marks), Ok(()));
-    assert_eq!(ctrl.complete_with(tags[1], Status::LBA_OUT_OF_RANGE, 9, marks), Err(Error::Missing));
+    let flags = StatusFlags { more: true, do_not_retry: true };
+    assert_eq!(ctrl.complete_with(tags[1], Status::LBA_OUT_OF_RANGE, 9, flags), Ok(()));
+    assert_eq!(ctrl.complete_with(tags[1], Status::LBA_OUT_OF_RANGE, 9, flags), Err(Error::Missing));
     posted(&mut ctrl, 1, (0, 3, 22, true, Status::SUCCESS, 0));
     posted(&mut ctrl, 1, (1, 3, 20, true, Status::SUCCESS, 5));
-    posted_with(&mut ctrl, 1, (2, 3, 21, true, Status::LBA_OUT_OF_RANGE, 9), marks);
+    posted_with(&mut ctrl, 1, (2, 3, 21, true, Status::LBA_OUT_OF_RANGE, 9), flags);
     assert_eq!((ctrl.post(1), ctrl.post(64), ctrl.post(65)), (None, None, None));
     // slots 3, 0, 1, 2 of both rings: the phase tag is inverted, and three completions fill the queue
     assert_eq!(ctrl.cq_head(1, 3), Ok(()));
@@ -280,6 +280,79 @@ fn deletion_waits_for_its_commands() {
     assert_eq!(ctrl.finish(), None);
 }
 
+/// A controller with three submission queues. Queues 1 and 3 post to completion queue 1, and 2 to 2.
+fn with_three_queues() -> Controller {
+    let mut ctrl = prepared(Mechanism::Weighted);
+    assert_eq!((ctrl.add_sq_region(0x5000, 4), ctrl.add_sq_region(0x6000, 4)), (Ok(2), Ok(3)));
+    assert_eq!((ctrl.add_cq_region(0x7000, 4), ctrl.sq_tail(0, 5)), (Ok(2), Ok(())));
+    fetched(&mut ctrl, 0, 2, admin(CREATE_CQ, 12, 0x7000, 0x0003_0002, 0x0000_0001));
+    fetched(&mut ctrl, 0, 3, admin(CREATE_SQ, 13, 0x5000, 0x0003_0002, 0x0002_0001));
+    fetched(&mut ctrl, 0, 4, admin(CREATE_SQ, 14, 0x6000, 0x0003_0003, 0x0001_0001));
+    for cid in 12..15 {
+        assert_ne!(carried_out(&mut ctrl), Verdict::Done);
+        posted(&mut ctrl, 0, (cid - 10, 5, cid, true, Status::SUCCESS, 0));
+    }
+    assert_eq!(ctrl.cq_head(0, 5), Ok(()));
+    ctrl
+}
+
+/// So with two Reads of queue 1, two of queue 2 and one of queue 3, which are fetched in turn. The device ended them.
+fn with_five_served() -> Controller {
+    let mut ctrl = with_three_queues();
+    for (qid, tail) in [(1, 2), (2, 2), (3, 1)] {
+        assert_eq!(ctrl.sq_tail(qid, tail), Ok(()));
+    }
+    assert_eq!(ctrl.to_fetch().collect::<Vec<_>>(), [(1, 0), (2, 0), (3, 0)]);
+    let mut last = 64;
+    for (cid, (qid, slot)) in (20..).zip([(1, 0), (2, 0), (3, 0), (1, 1), (2, 1)]) {
+        assert_eq!(ctrl.next_fetch(last), Some((qid, slot)));
+        fetched(&mut ctrl, qid, slot, read(cid));
+        last = qid;
+    }
+    assert_eq!((ctrl.next_fetch(last), ctrl.to_fetch().next()), (None, None));
+    while ctrl.pick(NO_LIMIT).unwrap().made().is_some() {
+        while let Some(command) = ctrl.take() {
+            assert_eq!(ctrl.complete(command.tag, Status::SUCCESS, 0), Ok(()));
+        }
+    }
+    ctrl
+}
+
+#[test]
+fn queues_take_turns() {
+    let mut ctrl = with_five_served();
+    let mut last = 64;
+    for (cqid, slot) in [(1, 0), (2, 0), (1, 1), (2, 1), (1, 2)] {
+        assert_eq!(ctrl.next_to_post(last), Some(cqid));
+        assert_eq!(ctrl.post(cqid).map(|post| post.slot), Some(slot));
+        last = cqid;
+    }
+    for last in [0, 1, 2, 64, 65, u16::MAX] {
+        assert_eq!((ctrl.next_fetch(last), ctrl.next_to_post(last)), (None, None));
+    }
+}
+
+#[test]
+fn completions_of_one_queue_come_together() {
+    let mut ctrl = with_five_served();
+    let posts: Vec<_> = ctrl.posts().map(|(cqid, post)| (cqid, post.slot)).collect();
+    assert_eq!(posts, [(1, 0), (1, 1), (1, 2), (2, 0), (2, 1)]);
+    assert_eq!(ctrl.next_to_post(64), None);
+}
+
+#[test]
+fn deleted_queue_has_no_turn() {
+    let mut ctrl = with_three_queues();
+    assert_eq!((ctrl.sq_tail(2, 2), ctrl.sq_tail(3, 1), ctrl.sq_tail(0, 6)), (Ok(()), Ok(()), Ok(())));
+    fetched(&mut ctrl, 2, 0, read(30));
+    assert_eq!((ctrl.next_fetch(1), ctrl.next_fetch(2)), (Some((2, 1)), Some((3, 0))));
+    fetched(&mut ctrl, 0, 5, admin(DELETE_SQ, 15, 0, 2, 0));
+    assert_eq!(carried_out(&mut ctrl), Verdict::BeginDelete { qid: 2 });
+    assert_eq!((ctrl.next_fetch(1), ctrl.next_fetch(3)), (Some((3, 0)), Some((3, 0))));
+    assert_eq!(ctrl.posts().map(|(cqid, _)| cqid).collect::<Vec<_>>(), [2]);
+    assert_eq!((ctrl.next_to_post(2), ctrl.finish(), ctrl.next_to_post(2)), (None, Some(2), Some(0)));
+}
+
 #[test]
 fn reset_leaves_nothing_of_before() {
     let mut ctrl = prepared(Mechanism::Weighted);
@@ -328,7 +401,7 @@ fn tags_are_used_up() {
     let second = taken_into(&mut ctrl, 7);
     assert_eq!((second.number(), ctrl.command(first)), (0x2_0007, None));
     assert_eq!(ctrl.complete(first, Status::SUCCESS, 0), Err(Error::Missing));
-    assert_eq!(ctrl.complete_with(first, Status::SUCCESS, 0, Marks::DO_NOT_RETRY), Err(Error::Missing));
+    assert_eq!(ctrl.complete_with(first, Status::SUCCESS, 0, StatusFlags::DO_NOT_RETRY), Err(Error::Missing));
     assert_eq!((ctrl.complete(second, Status::SUCCESS, 0), ctrl.post(1).map(|it| it.tag)), (Ok(()), Some(second)));
 }
 
@@ -339,7 +412,7 @@ fn announced_opcodes_are_the_devices() {
     assert_eq!(ctrl.sq_tail(0, 3), Ok(()));
     fetched(&mut ctrl, 0, 2, identify(12));
     assert_eq!(carried_out(&mut ctrl), Verdict::Done); // it isn't announced yet
-    posted_with(&mut ctrl, 0, (2, 3, 12, true, Status::INVALID_OPCODE, 0), Marks::DO_NOT_RETRY);
+    posted_with(&mut ctrl, 0, (2, 3, 12, true, Status::INVALID_OPCODE, 0), StatusFlags::DO_NOT_RETRY);
     [IDENTIFY, CREATE_CQ].into_iter().for_each(|opcode| ctrl.own_opcode(opcode));
     assert_eq!((ctrl.add_cq_region(0x6000, 4), ctrl.sq_tail(0, 7)), (Ok(2), Ok(())));
     fetched(&mut ctrl, 0, 3, identify(13));
@@ -352,12 +425,12 @@ fn announced_opcodes_are_the_devices() {
     assert_eq!(carried_out(&mut ctrl), Verdict::OpenCq { qid: 2, region: 2 });
     // the device answers in another order
     assert_eq!(ctrl.complete(second, Status::SUCCESS, 9), Ok(()));
-    assert_eq!(ctrl.complete_with(first, Status::INVALID_NAMESPACE, 5, Marks::DO_NOT_RETRY), Ok(()));
+    assert_eq!(ctrl.complete_with(first, Status::INVALID_NAMESPACE, 5, StatusFlags::DO_NOT_RETRY), Ok(()));
     assert_eq!(ctrl.complete(first, Status::SUCCESS, 0), Err(Error::Missing));
-    posted_with(&mut ctrl, 0, (3, 7, 15, true, Status::INVALID_FIELD, 0), Marks::DO_NOT_RETRY);
+    posted_with(&mut ctrl, 0, (3, 7, 15, true, Status::INVALID_FIELD, 0), StatusFlags::DO_NOT_RETRY);
     posted(&mut ctrl, 0, (4, 7, 16, true, Status::SUCCESS, 0));
     posted(&mut ctrl, 0, (5, 7, 14, true, Status::SUCCESS, 9));
-    posted_with(&mut ctrl, 0, (6, 7, 13, true, Status::INVALID_NAMESPACE, 5), Marks::DO_NOT_RETRY);
+    posted_with(&mut ctrl, 0, (6, 7, 13, true, Status::INVALID_NAMESPACE, 5), StatusFlags::DO_NOT_RETRY);
 }
 
 #[test]
@@ -378,7 +451,7 @@ fn announced_features_are_the_devices_and_a_reset_forgets_them() {
     let second = passed_on(&mut ctrl, admin(SET_FEATURES, 15, 0, EVENTS.into(), 0x100));
     assert_eq!((ctrl.complete(first, Status::SUCCESS, 3), ctrl.complete(second, Status::SUCCESS, 0)), (Ok(()), Ok(())));
     posted(&mut ctrl, 0, (2, 6, 12, true, Status::SUCCESS, 7));
-    posted_with(&mut ctrl, 0, (3, 6, 14, true, Status::SEQUENCE_ERROR, 0), Marks::DO_NOT_RETRY);
+    posted_with(&mut ctrl, 0, (3, 6, 14, true, Status::SEQUENCE_ERROR, 0), StatusFlags::DO_NOT_RETRY);
     posted(&mut ctrl, 0, (4, 6, 13, true, Status::SUCCESS, 3));
     posted(&mut ctrl, 0, (5, 6, 15, true, Status::SUCCESS, 0));
     ctrl.own_opcode(IDENTIFY);
@@ -386,8 +459,8 @@ fn announced_features_are_the_devices_and_a_reset_forgets_them() {
     fetched(&mut ctrl, 0, 0, admin(IDENTIFY, 1, 0, 1, 0));
     fetched(&mut ctrl, 0, 1, admin(GET_FEATURES, 2, 0, EVENTS.into(), 0));
     assert_eq!((carried_out(&mut ctrl), carried_out(&mut ctrl)), (Verdict::Done, Verdict::Done));
-    posted_with(&mut ctrl, 0, (0, 2, 1, true, Status::INVALID_OPCODE, 0), Marks::DO_NOT_RETRY);
-    posted_with(&mut ctrl, 0, (1, 2, 2, true, Status::INVALID_FIELD, 0), Marks::DO_NOT_RETRY);
+    posted_with(&mut ctrl, 0, (0, 2, 1, true, Status::INVALID_OPCODE, 0), StatusFlags::DO_NOT_RETRY);
+    posted_with(&mut ctrl, 0, (1, 2, 2, true, Status::INVALID_FIELD, 0), StatusFlags::DO_NOT_RETRY);
 }
 
 #[test]

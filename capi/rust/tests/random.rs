@@ -1,7 +1,7 @@
 // SPDX-License-Identifier: MIT
 //! Random calls, with random arguments: none panics, and each command gets one completion, its own.
 use nvmearb::{boxed_slots, Pick, Slot, Tag, Verdict, NO_LIMIT};
-use nvmearb::{Admin, Board, Config, Cqe, Marks, Mechanism, Priority, Region, Sqe, Status, Step, Table};
+use nvmearb::{Admin, Board, Config, Cqe, Mechanism, Priority, Region, Sqe, Status, StatusFlags, Step, Table};
 use std::collections::HashMap;
 
 type Controller = nvmearb::Controller<Box<[Slot]>>;
@@ -90,11 +90,11 @@ impl Driven {
         }
     }
 
-    fn complete(&mut self, drawn: &mut Drawn, marks: Option<Marks>) {
+    fn complete(&mut self, drawn: &mut Drawn, flags: Option<StatusFlags>) {
         let (tag, status) = (self.tag(drawn), Status::new(drawn.below(8) as u8 % 8, drawn.below(4) as u8).unwrap());
         let is_out = self.ctrl.command(tag).is_some();
-        let told = match marks {
-            Some(marks) => self.ctrl.complete_with(tag, status, 0, marks),
+        let told = match flags {
+            Some(flags) => self.ctrl.complete_with(tag, status, 0, flags),
             None => self.ctrl.complete(tag, status, 0),
         };
         assert_eq!(told.is_ok(), is_out);
@@ -115,10 +115,14 @@ impl Driven {
     }
 
     fn post(&mut self, cqid: u16) {
-        if let Some(post) = self.ctrl.post(cqid) {
+        // behind the queue before it, it has the first turn
+        let is_due = self.ctrl.next_to_post(cqid.wrapping_sub(1)) == Some(cqid);
+        let post = self.ctrl.post(cqid);
+        assert_eq!(post.is_some(), is_due);
+        if let Some(post) = post {
             let entry = self.open.remove(&post.cookie).expect("its command has no other completion");
             let mut bytes = post.bytes;
-            bytes[15] &= 0x3f; // without its marks
+            bytes[15] &= 0x3f; // without its flags
             let cqe = Cqe::from_bytes(&bytes).unwrap();
             assert_eq!(cqe.cid, entry.cid);
             self.posts[usize::from(cqe.sqid > 0)] += 1;
@@ -145,7 +149,7 @@ impl Driven {
                 }
             }
             7 => self.complete(drawn, None),
-            8 => self.complete(drawn, Some(Marks { more: a % 2 == 1, do_not_retry: b % 2 == 1 })),
+            8 => self.complete(drawn, Some(StatusFlags { more: a % 2 == 1, do_not_retry: b % 2 == 1 })),
             9 | 10 => self.post(a),
             11 if a == 0 => {
                 self.ctrl.own_opcode(b as u8);
@@ -158,6 +162,8 @@ impl Driven {
                 assert!(self.ctrl.named(b % 3, b).map_or(true, |tag| self.ctrl.command(tag).is_some()));
             }
             _ => {
+                let mut turns = (1..=65).map(|turn| (a.min(64) + turn) % 65);
+                assert_eq!(self.ctrl.next_fetch(a), turns.find_map(|qid| Some((qid, self.ctrl.fetch(qid)?))));
                 self.ctrl.finish();
                 let tag = self.tag(drawn);
                 let (command, queue) = (self.ctrl.command(tag), (self.ctrl.sq(a), self.ctrl.cq(a)));

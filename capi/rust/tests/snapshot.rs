@@ -121,6 +121,7 @@ fn changed_snapshots_are_refused() {
 fn calls_return(mut ctrl: Controller) {
     for qid in 0..66 {
         _ = (ctrl.sq_tail(qid, 1), ctrl.fetch(qid), ctrl.fetched(qid, &[0x5a; 64], 0));
+        _ = (ctrl.next_fetch(qid), ctrl.next_to_post(qid));
         _ = (ctrl.seen(qid), ctrl.waiting(qid), ctrl.waits(qid, 0), ctrl.sq(qid), ctrl.cq(qid), ctrl.named(qid, 20));
     }
     for _ in 0..8 {

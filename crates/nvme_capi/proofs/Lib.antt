@@ -1,5 +1,5 @@
 mod Configurations
 mod Queues
 mod Refusals
-mod MarkedEntries
+mod FlaggedEntries
 mod SlotsOfTags

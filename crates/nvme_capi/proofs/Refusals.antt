@@ -17,9 +17,9 @@ no_fault slots P well none (inr p) = none p
 pub no_refusal : (r : ℕ) (ctrl slots : Bool) (P : Type 0) → (r ≡ BAD_ARGUMENT → ⊥) → slots ≡ true → (P → ⊥) → (r ≡ BAD_ARGUMENT) ↔ (IsTrue ctrl × (IsFalse slots ⊎ P))
 no_refusal r ctrl slots P apart well none = (λ e. absurd (apart e), λ h. absurd (no_fault slots P well none h.1))
 
--- nor are marks
-pub no_marks : (r : ℕ) (ctrl : Bool) (F S M : Type 0) → ((r ≡ BAD_ARGUMENT) ↔ (IsTrue ctrl × (F ⊎ S))) → (M → ⊥) → (r ≡ BAD_ARGUMENT) ↔ (IsTrue ctrl × (F ⊎ (S ⊎ M)))
-no_marks r ctrl F S M h none = (λ e. more (h.0 e), λ g. h.1 (g.0, less g.1)) where
+-- nor are flags
+pub no_flags : (r : ℕ) (ctrl : Bool) (F S M : Type 0) → ((r ≡ BAD_ARGUMENT) ↔ (IsTrue ctrl × (F ⊎ S))) → (M → ⊥) → (r ≡ BAD_ARGUMENT) ↔ (IsTrue ctrl × (F ⊎ (S ⊎ M)))
+no_flags r ctrl F S M h none = (λ e. more (h.0 e), λ g. h.1 (g.0, less g.1)) where
   more : IsTrue ctrl × (F ⊎ S) → IsTrue ctrl × (F ⊎ (S ⊎ M))
   more (t, inl f) = (t, inl f)
   more (t, inr s) = (t, inr (inl s))

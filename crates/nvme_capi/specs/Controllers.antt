@@ -26,7 +26,7 @@ use Rattle.nvme_entry.specs.declared.submission.Sqe.{Sqe}
 use Rattle.nvme_capi.specs.declared.ctrl.state.AskedFields.{AskedFields}
 use Rattle.nvme_capi.specs.declared.ctrl.state.PlacementFields.{PlacementFields}
 use Rattle.nvme_ctrl.specs.kept.Pool.{slot_at}
-use Rattle.nvme_ctrl.specs.declared.marks.Marks.{Marks}
+use Rattle.nvme_ctrl.specs.declared.status_flags.StatusFlags.{StatusFlags}
 use Rattle.nvme_ctrl.specs.declared.slot.Slot.{Slot}
 use Rattle.nvme_ctrl.specs.declared.state.Controller.{Controller}
 use Rattle.nvme_capi.specs.Fields.{code_of}
@@ -141,14 +141,14 @@ io_class_of n = if n == 0 then None else class_of_number n
 abbrev pub device_answer : StatusFields → (dw0 : ℕ) → Answer
 device_answer f dw0 = record { status = code_of f; dw0 = dw0 }
 
--- the marks that a number says: bit 0 is Do Not Retry, bit 1 is More
-abbrev pub marks_by : ℕ → Marks
-marks_by marks = record { more = marks / 2 == 1; do_not_retry = marks % 2 == 1 }
+-- the flags that a number says: bit 0 is Do Not Retry, bit 1 is More
+abbrev pub flags_by : ℕ → StatusFlags
+flags_by flags = record { more = flags / 2 == 1; do_not_retry = flags % 2 == 1 }
 
 -- ---- completions
--- 16 bytes hold a completion queue entry with its marks: More is bit 30 of Dword 3, and Do Not Retry bit 31
+-- 16 bytes hold a completion queue entry with its flags: More is bit 30 of Dword 3, and Do Not Retry bit 31
 -- (Base Specification, Completion Queue Entry: Status Field; that CRD and Dword 1 are 0: profile)
-pub record IsMarkedEntry (bytes : List ℕ) (entry : Cqe) (marks : Marks) : Type 0 where
+pub record IsFlaggedEntry (bytes : List ℕ) (entry : Cqe) (flags : StatusFlags) : Type 0 where
   pub whole : length bytes ≡ 16
   pub dw0 : entry.dw0 ≡ dword 0 bytes
   pub reserved : dword 1 bytes ≡ 0
@@ -159,20 +159,20 @@ pub record IsMarkedEntry (bytes : List ℕ) (entry : Cqe) (marks : Marks) : Type
   pub sc : entry.status.sc ≡ bits_of 24 17 (dword 3 bytes)
   pub sct : entry.status.sct ≡ bits_of 27 25 (dword 3 bytes)
   pub crd : bits_of 29 28 (dword 3 bytes) ≡ 0
-  pub more : (if marks.more then 1 else 0) ≡ bits_of 30 30 (dword 3 bytes)
-  pub do_not_retry : (if marks.do_not_retry then 1 else 0) ≡ bits_of 31 31 (dword 3 bytes)
+  pub more : (if flags.more then 1 else 0) ≡ bits_of 30 30 (dword 3 bytes)
+  pub do_not_retry : (if flags.do_not_retry then 1 else 0) ≡ bits_of 31 31 (dword 3 bytes)
 
 -- the bytes of a completion queue entry are told that is posted to a completion queue, and the slot of the ring that they go into
 pub record HasPostedBytes (rules : FrontRules) (late : Bool) (notes : Notes) (cqid : ℕ) (f : PostFields) (c : Controller) (slots : List Slot) : Type 0 where
   pub cqe : Cqe
-  pub marks : Marks
-  pub layout : IsMarkedEntry f.bytes cqe marks
-  pub posted : HasPosted rules late notes cqid f.slot cqe f.cookie marks c slots
+  pub flags : StatusFlags
+  pub layout : IsFlaggedEntry f.bytes cqe flags
+  pub posted : HasPosted rules late notes cqid f.slot cqe f.cookie flags c slots
 
 -- they are those of the command in the slot of the tag
 pub record IsPostIn (slots : List Slot) (f : PostFields) : Type 0 where
   pub cqe : Cqe
-  pub marks : Marks
-  pub layout : IsMarkedEntry f.bytes cqe marks
+  pub flags : StatusFlags
+  pub layout : IsFlaggedEntry f.bytes cqe flags
   pub tag_is : tag_of f.tag ≡ tag_at slots (tag_of f.tag).slot
-  pub command : IsPostOf (slot_at slots (tag_of f.tag).slot) cqe f.cookie marks
+  pub command : IsPostOf (slot_at slots (tag_of f.tag).slot) cqe f.cookie flags

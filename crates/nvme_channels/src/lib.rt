@@ -10,6 +10,3 @@ mod placement;
 pub use channel::{Channel, StepFault};
 pub use channels::{Channels, ChannelsFault, MAX_CHANNELS, Start, Waiting};
 pub use placement::{Placement, Reach, Stripe, StripeFault};
-
-#[cfg(test)]
-mod tests;

@@ -4,4 +4,4 @@
 mod picture;
 mod rows;
 
-pub use picture::{Form, Picture, Style, chart, chart_in};
+pub use picture::{Form, Picture, Style, chart};

@@ -9,27 +9,40 @@ ghost use Rattle.nvme_stats.specs.declared.selection.Selection.{Selection};
 ghost use Rattle.nvme_trace.specs.Shown.{IsShownBy, IsReadFaultBy};
 ghost use Rattle.nvme_chart.specs.Pictured.{IsPictured, IsPicturedPart};
 
+mod backlog;
 mod bars;
+mod colours;
+mod curve;
 mod curves;
 mod frame;
+mod heights;
+mod plane;
 
 use crate::rows::{row_of, row_of_pick};
+use backlog::{Backlog, NO_BACKLOG};
 use bars::put_bars_picture;
+use colours::{colour_of_class, colour_of_queue};
 use curves::put_curves_picture;
 use nvme_arbiter::{Class, Mechanism, Pick, Seen, Settings};
 use nvme_output::WriteFault;
-use nvme_stats::{LANES, Part, Selection, Series, Watch, more, queue_of_lane, show};
+use nvme_stats::{LANES, Part, Selection, Series, Watch, class_of_lane, more, queue_of_lane, show};
 use nvme_trace::{Head, Trace, TraceError, TraceEvent, class_name};
 use std::alloc::Global;
 use std::io::{self, Read, Write};
 
-// The most windows of a picture.
-const WINDOWS: usize = 2_000;
+// The most windows of a picture while its trace is read: no fewer than the bars that it may have.
+const WINDOWS: usize = 512;
 
-// From so many picks on a picture has curves, and then so many windows.
-const LONG: u64 = 2_000;
+// From so many picks on a picture has curves: each of fewer bars has 4 pixels of its width.
+const LONG: u64 = 300;
 
-const POINTS: u64 = 64;
+// The most windows of curves.
+const POINTS: usize = 64;
+
+// How many picks a window has at least where there are more than this many windows: shares of fewer picks are jagged.
+const STEP: u64 = 32;
+
+const FEW_POINTS: u64 = 20;
 
 // The most places for bars in all rows.
 const BARS: u64 = 65_536;
@@ -37,7 +50,7 @@ const BARS: u64 = 65_536;
 /// What stands for the picks of a picture.
 #[derive(Clone, Copy, Debug, PartialEq, Eq)]
 pub enum Form {
-    /// Bars below 2,000 picks, and curves from there on.
+    /// Bars below 300 picks, and curves from there on.
     ByLength,
     /// Curves.
     Curves,
@@ -65,16 +78,18 @@ impl Style {
     }
 }
 
-// What was seen of a row.
+// What was seen of a row. It lives at a pick that takes from it, or at which it has waiting commands.
 #[derive(Clone, Copy)]
 struct Row {
     seen: bool,
-    // The number of the last pick that took from it, or at which it had waiting commands.
+    // The numbers of the first and of the last pick at which it lives. 0 for none.
+    begin: u64,
     end: u64,
 }
 
 const UNSEEN: Row = Row {
     seen: false,
+    begin: 0,
     end: 0,
 };
 
@@ -85,10 +100,14 @@ pub struct Picture {
     mechanism: Mechanism,
     picks: u64,
     commands: u64,
-    // The settings at the first pick.
+    // How many of the picks are drawn.
+    drawn: u64,
+    // The settings at the first pick, and at the next one.
     begun: Settings,
+    settings: Settings,
     series: Series,
     rows: [Row; LANES],
+    backlog: Backlog,
     style: Style,
     // Whether the settings changed after the latest pick.
     set: bool,
@@ -112,6 +131,7 @@ fn note_rows(
         {
             row.seen = true;
             if queue.count > 0 || queue.qid == picked {
+                row.begin = if row.begin == 0 { number } else { row.begin };
                 row.end = number;
             }
         }
@@ -121,7 +141,9 @@ fn note_rows(
 // Sums up windows until the bars of so many rows have room, or the points of curves.
 fn fit(series: &mut Series, curves: bool, rows: u64) {
     if curves {
-        series.fit(POINTS);
+        let picks = (series.all.len() as u64).saturating_mul(series.step);
+        let points = picks.saturating_add(STEP - 1) / STEP;
+        series.fit(points.max(FEW_POINTS).min(POINTS as u64));
         series.join_rest();
     } else {
         series.fit(BARS / rows.max(1));
@@ -137,9 +159,12 @@ impl Picture {
             mechanism: head.mechanism,
             picks: 0,
             commands: 0,
+            drawn: 0,
             begun: head.settings,
+            settings: head.settings,
             series: Series::new(alloc, 1, WINDOWS),
             rows: [UNSEEN; LANES],
+            backlog: NO_BACKLOG,
             style,
             set: false,
             part: Part {
@@ -151,7 +176,7 @@ impl Picture {
 
     // Whether the picture has curves.
     fn has_curves(&self) -> bool {
-        self.style.form == Form::Curves || self.picks >= LONG
+        self.style.form == Form::Curves || self.drawn >= LONG
     }
 
     // Draws a pick of this number, where its queue is drawn.
@@ -166,6 +191,7 @@ impl Picture {
         }
         let row = row_of_pick(self.mechanism, seen, pick.qid);
         self.series.note_pick(number, row, pick, self.set)?;
+        self.drawn = more(self.drawn, 1);
         self.set = false;
         Ok(())
     }
@@ -178,6 +204,8 @@ impl Picture {
         self.draw(number, seen, pick)?;
         let (mechanism, style) = (self.mechanism, self.style);
         note_rows(&mut self.rows, mechanism, style, number, seen, pick.qid);
+        let settings = self.settings;
+        self.backlog.note_pick(number, seen, &settings);
         self.picks = more(self.picks, 1);
         self.commands = more(self.commands, pick.n);
         Ok(())
@@ -187,6 +215,7 @@ impl Picture {
     fn note_set(&mut self, settings: Settings)
         ensures { (head : Head) (past : History) → IsPictured head past self.old → IsPictured head (Changed settings ∷ past) self.new }
     {
+        self.settings = settings;
         if self.series.all.is_empty() {
             self.begun = settings;
         } else {
@@ -220,6 +249,14 @@ impl Picture {
         rows
     }
 
+    // The numbers of the first and the last pick that are drawn, or 0.
+    fn ends(&self) -> (u64, u64) {
+        match (self.series.all.first(), self.series.all.last()) {
+            (Some(first), Some(last)) => (first.first, last.last),
+            _ => (0, 0),
+        }
+    }
+
     // Whether settings change where the picture shows it.
     fn has_change(&self) -> bool {
         self.set || self.series.all.iter().any(|window| window.change.is_some())
@@ -235,11 +272,11 @@ impl Picture {
         false
     }
 
-    // The colour of a row: that of its class, or grey where it has none.
-    fn colour_of(&self, row: usize) -> &'static str {
+    // The colour of a row, which is the nth of its class: that of the class, or under round robin one of its own.
+    fn colour_of(&self, row: usize, nth: usize) -> &'static str {
         match self.mechanism {
-            Mechanism::RoundRobin => "#666666",
-            Mechanism::Weighted => colour(queue_of_lane(row).class),
+            Mechanism::RoundRobin if row > 0 => colour_of_queue(nth),
+            _ => colour_of_class(class_of_lane(row)),
         }
     }
 
@@ -267,17 +304,6 @@ impl Picture {
     }
 }
 
-// The colour of a class: those of Okabe and Ito, which colour-blind readers tell apart.
-fn colour(class: Class) -> &'static str {
-    match class {
-        Class::Admin => "#555555",
-        Class::Urgent => "#d55e00",
-        Class::High => "#e69f00",
-        Class::Medium => "#009e73",
-        Class::Low => "#0072b2",
-    }
-}
-
 impl Watch for Picture {
     ghost stands = { λ head past picture. IsPictured head past picture };
 
@@ -294,22 +320,10 @@ impl Watch for Picture {
     fn pass(&mut self) {}
 }
 
-/// Draws the picks of a selection of a trace in the common style, as `chart_in` does.
-pub fn chart<R: Read + Drop>(
-    alloc: Global,
-    reader: R,
-    selection: Selection,
-) -> Result<Picture, TraceError>
-    ensures pictured { IfOk result (λ picture. IfSome (R.remaining reader) (λ text. IsShownBy Specification text (λ head past. IsPicturedPart selection head past picture))) }
-    ensures fault { IfErr result (λ error. IfSome (R.remaining reader) (λ text. IsReadFaultBy Specification text error)) }
-{
-    chart_in(alloc, reader, selection, Style::COMMON)
-}
-
 /// Draws the picks of a selection of a trace. It is read as a stream, and its picks aren't judged. `fresh` may be
 /// missing: no round is marked at such a pick. Refused with the first faulty line, a failed read or no memory, as
 /// `nvme_trace::check_by` is where the specification alone judges.
-pub fn chart_in<R: Read + Drop>(
+pub fn chart<R: Read + Drop>(
     alloc: Global,
     reader: R,
     selection: Selection,

@@ -14,6 +14,3 @@ pub use durations::{DurationFault, duration_in};
 pub use events::{Event, EventQueue, PushFault};
 pub use quantiles::{Quantiles, TableFault};
 pub use streams::{Purpose, stream};
-
-#[cfg(test)]
-mod tests;

@@ -32,7 +32,7 @@ use Rattle.nvme_ctrl.specs.declared.state.SqState.{SqState}
 use Rattle.nvme_ctrl.specs.declared.state.Controller.{Controller}
 use Rattle.nvme_ctrl.specs.kept.Content.{Candidate, Ready, SqContent, Content, with_sq, with_ready}
 use Rattle.nvme_ctrl.specs.inside.Steps.{requested, oldest_named, without_oldest}
-use Rattle.nvme_ctrl.specs.kept.Kept.{is_passed_at, Item, Items, IsWaitingIn, IsUnanswered, IsThrough, IsSqOf, HasNumbers, tags_of, candidate_of, IsCookie, HasCookie, IsUnmarked}
+use Rattle.nvme_ctrl.specs.kept.Kept.{is_passed_at, Item, Items, IsWaitingIn, IsUnanswered, IsThrough, IsSqOf, HasNumbers, tags_of, candidate_of, IsCookie, HasCookie, IsUnflagged}
 use Rattle.nvme_ctrl.specs.inside.Loose.{IsLoose, Keeps, MakesReady, ended, with_item}
 use Rattle.nvme_ctrl.specs.inside.Carrying.{queue_in, IsAbortableIn, HasRequested}
 use Rattle.nvme_ctrl.specs.kept.Standing.{counted_on, on_board}
@@ -123,7 +123,7 @@ loose_same slots mid g y same h = let state = ap (λ (s : Slot). s.state) (same.
 abbrev pub KeepsRequest : (a : Controller) (slots : List Slot) (tag cqid : ℕ) (b : Controller) (pool : List Slot) → Type 0
 KeepsRequest a slots tag cqid b pool =
     (rules : FrontRules) (notes : Notes) (k : Content) (g : Items) (t : Ready) → Keeps rules notes a slots k g → IsLoose slots g tag → MakesReady slots tag 4 abort_requested 0 t → IsThrough notes t
-    → IsCookie notes slots tag t.place → t.passed ≡ is_passed_at notes t.place → IsUnmarked notes t.place
+    → IsCookie notes slots tag t.place → t.passed ≡ is_passed_at notes t.place → IsUnflagged notes t.place
     → (x : ℕ) → k.cq_life cqid ≡ Some x → k.sq_id t.place.region ≡ Some t.sqid → Keeps rules notes b pool (with_ready k x t) (with_item g x (ended tag t))
 
 -- the board with a candidate less
@@ -241,7 +241,7 @@ module _ (rules : FrontRules) (notes : Notes) (a : Controller) (slots : List Slo
     stands = λ mechanism first past s. stands mechanism first past (subst (λ (v : BoardView). BoardStandsAt mechanism first past v) (sym h.numbers.board_is) s);
     items = with_item (with_window g region rest) ab.c (ended x.tag t);
     keeps = subst (λ (z : ℕ). KeepsRequest m mid z sq.cqid b pool) (sym f.tag_is) request rules notes later (with_window g region rest) t keeps (loose_same slots mid (with_window g region rest) x.tag same loose) made
-        (inl (ab.is_aborted (candidate_of x) oldest)) cookie (sym (rw ab.io refl)) unmarked ab.c to (h.numbers.sq_ids.ids_are sqid region ab.there);
+        (inl (ab.is_aborted (candidate_of x) oldest)) cookie (sym (rw ab.io refl)) unflagged ab.c to (h.numbers.sq_ids.ids_are sqid region ab.there);
     loose = loose_ended mid pool (with_window g region rest) x.tag ab.c t y size (λ z differ. others z (λ e. differ (e ∙ sym f.tag_is))) (another y other)
         (loose_same slots mid (with_window g region rest) y same (loose_windowed slots g region rest y other (left_loose y other)));
     slot = others y (λ e. another y other (e ∙ sym f.tag_is)) ∙ same.items y;
@@ -283,8 +283,8 @@ module _ (rules : FrontRules) (notes : Notes) (a : Controller) (slots : List Slo
         (All-head (HasCookie notes slots) x f.among.behind
         (All-parts (HasCookie notes slots) f.among.before (x ∷ f.among.behind) (subst (All (HasCookie notes slots)) f.among.whole (h.tags.cookies.windows region))).1))
 
-    unmarked : IsUnmarked notes t.place
-    unmarked = h.tags.none_marked region x.place.index
+    unflagged : IsUnflagged notes t.place
+    unflagged = h.tags.none_flagged region x.place.index
         (subst (λ (r : ℕ). answer_of notes r x.place.index ≡ None) first.place
         (All-head (λ (it : Item). IsUnanswered notes it.place) x f.among.behind
         (All-parts (λ (it : Item). IsUnanswered notes it.place) f.among.before (x ∷ f.among.behind)

@@ -269,8 +269,8 @@ module _ (rules : FrontRules) (late : Bool) (notes : Notes) (c : Controller) (po
       free_count = t.free_count;
       cookies = t.cookies;
       passed = t.passed;
-      none_marked = t.none_marked;
-      marks = t.marks;
+      none_flagged = t.none_flagged;
+      flags = t.flags;
     }
 
     -- the controller stands with the region
@@ -447,8 +447,8 @@ module _ (rules : FrontRules) (late : Bool) (notes : Notes) (c : Controller) (po
       free_count = t.free_count;
       cookies = t.cookies;
       passed = t.passed;
-      none_marked = t.none_marked;
-      marks = t.marks;
+      none_flagged = t.none_flagged;
+      flags = t.flags;
     }
 
     -- the controller stands with the region

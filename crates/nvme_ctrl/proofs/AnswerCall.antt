@@ -15,13 +15,13 @@ use Rattle.nvme_log.specs.Completions.{posted_to, phase_after}
 use Rattle.nvme_log.specs.Places.{fetched, is_aborted}
 use Rattle.nvme_log.specs.Dispatches.{place_at}
 use Rattle.nvme_log.specs.declared.place.Place.{Place}
-use Rattle.nvme_ctrl.specs.Notes.{Notes, Answered, Marked, logged}
+use Rattle.nvme_ctrl.specs.Notes.{Notes, Answered, Flagged, logged}
 use Rattle.nvme_ctrl.specs.Doorbells.{consumed}
 use Rattle.nvme_ctrl.specs.Rings.{HasCounts}
-use Rattle.nvme_ctrl.specs.Tags.{holder, answer_of, marks_of, is_unanswered, is_out, all_posts, is_of_device}
-use Rattle.nvme_ctrl.specs.Account.{IsAccount, IsAnswer, IsMarked}
+use Rattle.nvme_ctrl.specs.Tags.{holder, answer_of, flags_of, is_unanswered, is_out, all_posts, is_of_device}
+use Rattle.nvme_ctrl.specs.Account.{IsAccount, IsAnswer, IsFlagged}
 use Rattle.nvme_ctrl.specs.Calls.{HasAnswered}
-use Rattle.nvme_ctrl.specs.declared.marks.Marks.{Marks}
+use Rattle.nvme_ctrl.specs.declared.status_flags.StatusFlags.{StatusFlags}
 use Rattle.nvme_ctrl.specs.declared.slot.Slot.{Slot}
 use Rattle.nvme_ctrl.specs.declared.chain.Chain.{Chain}
 use Rattle.nvme_ctrl.specs.declared.ring.Ring.{Ring}
@@ -30,17 +30,17 @@ use Rattle.nvme_ctrl.specs.declared.state.Controller.{Controller}
 use Rattle.nvme_ctrl.specs.kept.Content.{Content, CqContent, Ready}
 use Rattle.nvme_ctrl.specs.kept.Standing.{Holds, IsReady, answer_in}
 use Rattle.nvme_ctrl.specs.inside.Steps.{done}
-use Rattle.nvme_ctrl.specs.kept.Kept.{Item, ReadyItem, Items, IsWaitingIn, IsOutIn, IsReadyIn, IsSqOf, IsCqOf, IsAmongOuts, HasNumbers, HasItems, HoldsDoorbells, HoldsTags, IsThrough, IsUnanswered, HasCookie, HasReadyCookie, HasMarks, HasEntry, StandsAt, tags_of, places_of, ready_tags, readies_of, untaken, is_free, IsDevices, IsReadyOf, DeleteItem}
-use Rattle.nvme_ctrl.specs.kept.Pool.{slot_at, item_at, put_item, bit, marks_in, IsChain, IsNew, AreApart, SameItems, SameLinks}
+use Rattle.nvme_ctrl.specs.kept.Kept.{Item, ReadyItem, Items, IsWaitingIn, IsOutIn, IsReadyIn, IsSqOf, IsCqOf, IsAmongOuts, HasNumbers, HasItems, HoldsDoorbells, HoldsTags, IsThrough, IsUnanswered, HasCookie, HasReadyCookie, HasFlags, HasEntry, StandsAt, tags_of, places_of, ready_tags, readies_of, untaken, is_free, IsDevices, IsReadyOf, DeleteItem}
+use Rattle.nvme_ctrl.specs.kept.Pool.{slot_at, item_at, put_item, bit, flags_in, IsChain, IsNew, AreApart, SameItems, SameLinks}
 use Rattle.nvme_ctrl.specs.kept.State.{no_cq_state, sq_at, cq_at}
 use Rattle.nvme_ctrl.proofs.Passed.{held_is_devices, devices_passed}
 use Rattle.nvme_ctrl.proofs.Cookies.{SameCookies, same_cookies-but, cookie_left, items_left, readies_left}
 use Rattle.nvme_ctrl.proofs.Pools.{length-put_item, item_at-put_item_same, item_at-put_item_other, chain-put_item, chain-other, length-apart, AreApart-others, IsNew-others}
-use Rattle.nvme_ctrl.proofs.PutMarks.{put_marks}
+use Rattle.nvme_ctrl.proofs.PutFlags.{put_flags}
 use Rattle.nvme_ctrl.proofs.OwnStatus.{All-unmap}
 use Rattle.nvme_ctrl.proofs.ReadyHand.{All-taken}
 use Rattle.nvme_ctrl.proofs.Lives.{put_cq-lives, put_cq-states}
-use Rattle.nvme_ctrl.proofs.OutTags.{still_not_out-answered, still_not_out-marked}
+use Rattle.nvme_ctrl.proofs.OutTags.{still_not_out-answered, still_not_out-flagged}
 use Rattle.nvme_ctrl.proofs.SlotItems.{All-both, at_put, ready_state-range, out_stays, all_waiting_stay, all_ready_stay, all_free_stay}
 use Rattle.nvme_ctrl.proofs.AnsweredPlaces.{IsOther, is_other, at_hand, has_entries, has_it, queue_is, goes_to, answered, holds_answered, was_fetched, others_out, others_in_windows}
 use Rattle.nvme_ctrl.proofs.PendingDeletions.{deletions_stay}
@@ -65,12 +65,12 @@ new_to_ready ids slots xs h y low = All-map (λ (z : ℕ). z ≢ y) (λ (x : Rea
     (λ x ready e. omega (arith, ready.state, (ready_state-range x.was_out x.ready.with_queue).0, ap (λ (z : ℕ). (slot_at slots z).state) e, low)) xs h)
 
 -- ---- what is so afterwards
-abbrev pub answered_slot : Slot → Answer → Marks → Slot
-answered_slot slot answer marks =
-    record slot { state = 3; sct = answer.status.sct; sc = answer.status.sc; dw0 = answer.dw0; more = bit marks.more; do_not_retry = bit marks.do_not_retry }
+abbrev pub answered_slot : Slot → Answer → StatusFlags → Slot
+answered_slot slot answer flags =
+    record slot { state = 3; sct = answer.status.sct; sc = answer.status.sc; dw0 = answer.dw0; more = bit flags.more; do_not_retry = bit flags.do_not_retry }
 
-abbrev pub answered_pool : List Slot → ℕ → Answer → Marks → List Slot
-answered_pool slots tag answer marks = put_item slots tag (answered_slot (slot_at slots tag) answer marks)
+abbrev pub answered_pool : List Slot → ℕ → Answer → StatusFlags → List Slot
+answered_pool slots tag answer flags = put_item slots tag (answered_slot (slot_at slots tag) answer flags)
 
 abbrev pub answered_cq : Controller → ℕ → Chain → CqState
 answered_cq c q chain = record (cq_at c.cqs q) { ready = chain }
@@ -79,8 +79,8 @@ answered_cq c q chain = record (cq_at c.cqs q) { ready = chain }
 abbrev pub answered_controller : Controller → ℕ → Chain → Controller
 answered_controller c q chain = record c { cqs = slice_set c.cqs q (answered_cq c q chain) }
 
-abbrev ready_item : Item → (sqid : ℕ) → Answer → Marks → ReadyItem
-ready_item it sqid answer marks = record { tag = it.tag; ready = done sqid it.place it.entry.cid answer; was_out = true; marks = marks }
+abbrev ready_item : Item → (sqid : ℕ) → Answer → StatusFlags → ReadyItem
+ready_item it sqid answer flags = record { tag = it.tag; ready = done sqid it.place it.entry.cid answer; was_out = true; flags = flags }
 
 -- what a push of a slot to a chain of a pool made
 pub record IsPushed (slots : List Slot) (old : Chain) (tag : ℕ) (new : List Slot) (longer : Chain) : Type 0 where
@@ -91,9 +91,9 @@ pub record IsPushed (slots : List Slot) (old : Chain) (tag : ℕ) (new : List Sl
 -- a command that the device has is answered
 module _ (rules : FrontRules) (late : Bool) (notes : Notes) (c : Controller) (slots : List Slot) (k : Content) (g : Items)
     (s : Holds rules late (logged notes) k) (n : HasNumbers c k) (h : HasItems c slots k g) (t : HoldsTags notes c slots k g)
-    (before : List Item) (it : Item) (after : List Item) (are : g.outs ≡ before ++ it ∷ after) (answer : Answer) (marks : Marks) (types : answer.status.sct < 8)
+    (before : List Item) (it : Item) (after : List Item) (are : g.outs ≡ before ++ it ∷ after) (answer : Answer) (flags : StatusFlags) (types : answer.status.sct < 8)
     (new : List Slot) (chain : Chain)
-    (p : IsPushed (answered_pool slots it.tag answer marks) (cq_at c.cqs (sq_at c.sqs (slot_at slots it.tag).sqid).cqid).ready it.tag new chain) where
+    (p : IsPushed (answered_pool slots it.tag answer flags) (cq_at c.cqs (sq_at c.sqs (slot_at slots it.tag).sqid).cqid).ready it.tag new chain) where
   -- its queue, and the completion queue of that with its region
   abbrev sqid : ℕ
   sqid = (slot_at slots it.tag).sqid
@@ -105,7 +105,7 @@ module _ (rules : FrontRules) (late : Bool) (notes : Notes) (c : Controller) (sl
   x = goes_to rules late notes c slots k g s n h t before it after are answer
 
   abbrev item : ReadyItem
-  item = ready_item it sqid answer marks
+  item = ready_item it sqid answer flags
 
   abbrev left : Items
   left = record g { outs = before ++ after; readies = λ y. if y == x then g.readies x ++ item ∷ [] else g.readies y }
@@ -120,13 +120,13 @@ module _ (rules : FrontRules) (late : Bool) (notes : Notes) (c : Controller) (sl
   others_are = (All-taken (IsOutIn k.sq_id slots) before it after (All-same (IsOutIn k.sq_id slots) (before ++ it ∷ after) g.outs (sym are) h.outs_items)).1
 
   size : length new ≡ length slots
-  size = p.items.size ∙ length-put_item slots it.tag (answered_slot (slot_at slots it.tag) answer marks)
+  size = p.items.size ∙ length-put_item slots it.tag (answered_slot (slot_at slots it.tag) answer flags)
 
   others : (y : ℕ) → y ≢ it.tag → item_at new y ≡ item_at slots y
-  others y other = p.items.items y ∙ item_at-put_item_other slots it.tag (answered_slot (slot_at slots it.tag) answer marks) y other
+  others y other = p.items.items y ∙ item_at-put_item_other slots it.tag (answered_slot (slot_at slots it.tag) answer flags) y other
 
-  now : item_at new it.tag ≡ record (answered_slot (slot_at slots it.tag) answer marks) { next = 0 }
-  now = p.items.items it.tag ∙ item_at-put_item_same slots it.tag (answered_slot (slot_at slots it.tag) answer marks) out.inside
+  now : item_at new it.tag ≡ record (answered_slot (slot_at slots it.tag) answer flags) { next = 0 }
+  now = p.items.items it.tag ∙ item_at-put_item_same slots it.tag (answered_slot (slot_at slots it.tag) answer flags) out.inside
 
   entries : (y : ℕ) → (slot_at new y).entry ≡ (slot_at slots y).entry
   entries y = elim (cases_eq y it.tag) [
@@ -158,8 +158,8 @@ module _ (rules : FrontRules) (late : Bool) (notes : Notes) (c : Controller) (sl
   -- a chain of slots that aren't ready in the completion region is left
   chain_left : (old : Chain) (xs : List ℕ) → All (λ (y : ℕ). IsNew y (ready_tags (g.readies x))) xs → IsChain slots old xs → IsChain new old xs
   chain_left old xs apart linked =
-      let pool : List Slot = answered_pool slots it.tag answer marks in
-      let slot : Slot = answered_slot (slot_at slots it.tag) answer marks in
+      let pool : List Slot = answered_pool slots it.tag answer flags in
+      let slot : Slot = answered_slot (slot_at slots it.tag) answer flags in
       chain-other pool new old xs (ready_tags (g.readies x)) (chain-put_item slots old xs it.tag slot linked)
       (p.links (ready_tags (g.readies x)) (chain-put_item slots (cq_at c.cqs cqid).ready (ready_tags (g.readies x)) it.tag slot old_chain)) p.items.size apart
 
@@ -202,7 +202,7 @@ module _ (rules : FrontRules) (late : Bool) (notes : Notes) (c : Controller) (sl
 
   here_ready : IsChain new chain (ready_tags (g.readies x) ++ it.tag ∷ [])
   here_ready =
-      let slot : Slot = answered_slot (slot_at slots it.tag) answer marks in
+      let slot : Slot = answered_slot (slot_at slots it.tag) answer flags in
       let fresh : IsNew it.tag (ready_tags (g.readies x)) = new_to_ready k.sq_id slots (g.readies x) (h.ready_items x) it.tag (omega (arith, out.state)) in
       let many = length-apart (length slots) (it.tag ∷ ready_tags (g.readies x)) (fresh, old_chain.apart)
       (All-cons (λ (z : ℕ). z < length slots) it.tag (ready_tags (g.readies x)) out.inside old_chain.inside) in
@@ -221,7 +221,7 @@ module _ (rules : FrontRules) (late : Bool) (notes : Notes) (c : Controller) (sl
     sc = ap (λ (z : Slot). z.sc) now;
     dw0 = ap (λ (z : Slot). z.dw0) now;
     not_both = λ e. refl;
-    marks = ap marks_in now ∙ put_marks marks;
+    flags = ap flags_in now ∙ put_flags flags;
   }
 
   ready_left : (y : ℕ) → All (IsReadyIn k.sq_id new) (g.readies y)
@@ -344,7 +344,7 @@ module _ (rules : FrontRules) (late : Bool) (notes : Notes) (c : Controller) (sl
 
   -- the notes afterwards
   abbrev told : Notes
-  told = Marked it.place.region it.place.index marks ∷ Answered it.place.region it.place.index answer ∷ notes
+  told = Flagged it.place.region it.place.index flags ∷ Answered it.place.region it.place.index answer ∷ notes
 
   pub answer-doorbells : HoldsDoorbells rules notes c k → HoldsDoorbells rules told (answered_controller c cqid chain) later
   answer-doorbells d = record {
@@ -420,20 +420,20 @@ module _ (rules : FrontRules) (late : Bool) (notes : Notes) (c : Controller) (sl
       (λ j. answer_of notes (sym same_region j) (sym same_index j)) ∙ unanswered in
       let lost : None ≡ Some (answer_in w.ready) = sym none ∙ has in cc lost))
 
-  marks_left : (w : ReadyItem) → IsThrough notes w.ready → HasMarks notes w → HasMarks told w
-  marks_left w through has = rw (ready_other w through) has
+  flags_left : (w : ReadyItem) → IsThrough notes w.ready → HasFlags notes w → HasFlags told w
+  flags_left w through has = rw (ready_other w through) has
 
-  all_marks : (ws : List ReadyItem) → All (λ (w : ReadyItem). IsThrough notes w.ready) ws → All (HasMarks notes) ws → All (HasMarks told) ws
-  all_marks ws through has = All-both (λ (w : ReadyItem). IsThrough notes w.ready) (HasMarks notes) (HasMarks told) marks_left ws through has
+  all_flags : (ws : List ReadyItem) → All (λ (w : ReadyItem). IsThrough notes w.ready) ws → All (HasFlags notes) ws → All (HasFlags told) ws
+  all_flags ws through has = All-both (λ (w : ReadyItem). IsThrough notes w.ready) (HasFlags notes) (HasFlags told) flags_left ws through has
 
-  item_marks : HasMarks told item
-  item_marks = rw (eq-eqb it.place.region it.place.region refl, eq-eqb it.place.index it.place.index refl) refl
+  item_flags : HasFlags told item
+  item_flags = rw (eq-eqb it.place.region it.place.region refl, eq-eqb it.place.index it.place.index refl) refl
 
-  none_marked_now : (r i : ℕ) → answer_of told r i ≡ None → marks_of told r i ≡ None
-  none_marked_now r i = by (it.place.region == r && it.place.index == i) where
-    by : (b : Bool) → (if b then Some answer else answer_of notes r i) ≡ None → (if b then Some marks else marks_of notes r i) ≡ None
+  none_flagged_now : (r i : ℕ) → answer_of told r i ≡ None → flags_of told r i ≡ None
+  none_flagged_now r i = by (it.place.region == r && it.place.index == i) where
+    by : (b : Bool) → (if b then Some answer else answer_of notes r i) ≡ None → (if b then Some flags else flags_of notes r i) ≡ None
     by true lost = absurd (cc lost)
-    by false is = t.none_marked r i is
+    by false is = t.none_flagged r i is
 
   pub answer-tags : HoldsTags told (answered_controller c cqid chain) new later left
   answer-tags = record {
@@ -455,7 +455,7 @@ module _ (rules : FrontRules) (late : Bool) (notes : Notes) (c : Controller) (sl
     none_answered = λ r i past_all. answer_left (place_at r i) (is_other it.place.region it.place.index (place_at r i) (λ same_region same_index.
         let was = was_fetched rules late notes c slots k g s n h t before it after are answer in
         omega (arith, was, same_index, ap (λ (z : ℕ). length (fetched (logged notes) z)) same_region, past_all))) ∙ t.none_answered r i past_all;
-    answered_held = λ y state. still_not_out-marked it.place.region it.place.index marks (Answered it.place.region it.place.index answer ∷ notes) y (not_out_now y state);
+    answered_held = λ y state. still_not_out-flagged it.place.region it.place.index flags (Answered it.place.region it.place.index answer ∷ notes) y (not_out_now y state);
     hand_entries = All-same (HasEntry (logged notes)) (before ++ after ++ untaken c k g) (before ++ (after ++ untaken c k g)) hand_left
         (has_entries rules late notes c slots k g s n h t before it after are answer).1;
     free_count = t.free_count ∙ ap (λ (m : ℕ). m + all_posts (logged notes)) (sym size);
@@ -476,10 +476,10 @@ module _ (rules : FrontRules) (late : Bool) (notes : Notes) (c : Controller) (sl
       deletes = λ r d at. cookie_left notes slots new same d.tag (place_at 0 d.index) (t.cookies.deletes r d at);
       none = t.cookies.none;
     };
-    none_marked = none_marked_now;
-    marks = at_put (λ y ws. All (HasMarks told) ws) g.readies x (g.readies x ++ item ∷ [])
-        (All-push (HasMarks told) (g.readies x) item (all_marks (g.readies x) (t.through x) (t.marks x)) item_marks)
-        (λ y other. all_marks (g.readies y) (t.through y) (t.marks y));
+    none_flagged = none_flagged_now;
+    flags = at_put (λ y ws. All (HasFlags told) ws) g.readies x (g.readies x ++ item ∷ [])
+        (All-push (HasFlags told) (g.readies x) item (all_flags (g.readies x) (t.through x) (t.flags x)) item_flags)
+        (λ y other. all_flags (g.readies y) (t.through y) (t.flags y));
   } where
     not_deletion : (r : ℕ) (d : DeleteItem) → g.deletes r ≡ Some d → (it.place.region == 0 && it.place.index == d.index) ≡ false
     not_deletion r d at = by (it.place.region == 0) (it.place.index == d.index) refl refl where
@@ -505,15 +505,15 @@ module _ (rules : FrontRules) (late : Bool) (notes : Notes) (c : Controller) (sl
     executed = rw devices (record { tag = it.tag; stands = held });
   }
 
-  is_marked : IsMarked (Answered it.place.region it.place.index answer ∷ notes) it.place.region it.place.index
-  is_marked = record {
-    first = t.none_marked it.place.region it.place.index unanswered;
+  is_flagged : IsFlagged (Answered it.place.region it.place.index answer ∷ notes) it.place.region it.place.index
+  is_flagged = record {
+    first = t.none_flagged it.place.region it.place.index unanswered;
     answered = rw has_answer refl;
     by_device = record { tag = it.tag; stands = held };
   }
 
   pub answer-account : IsAccount rules notes → IsAccount rules told
-  answer-account a = record { each = (is_marked, (is_answer, a.each)); lawful = a.lawful; effects_whole = a.effects_whole }
+  answer-account a = record { each = (is_flagged, (is_answer, a.each)); lawful = a.lawful; effects_whole = a.effects_whole }
 
   pub answer-held : holder notes it.tag ≡ Some it.place
   answer-held = held
@@ -521,41 +521,41 @@ module _ (rules : FrontRules) (late : Bool) (notes : Notes) (c : Controller) (sl
 -- ---- the call
 -- where an item is among those that the device has
 answer-item : (rules : FrontRules) (late : Bool) (notes : Notes) (c : Controller) (slots : List Slot) (s : StandsAt rules late notes c slots)
-    (before : List Item) (it : Item) (after : List Item) → s.items.outs ≡ before ++ it ∷ after → (answer : Answer) (marks : Marks) → answer.status.sct < 8
+    (before : List Item) (it : Item) (after : List Item) → s.items.outs ≡ before ++ it ∷ after → (answer : Answer) (flags : StatusFlags) → answer.status.sct < 8
     → (new : List Slot) (chain : Chain)
-    → IsPushed (answered_pool slots it.tag answer marks) (cq_at c.cqs (sq_at c.sqs (slot_at slots it.tag).sqid).cqid).ready it.tag new chain
-    → HasAnswered rules late notes it.tag answer marks (answered_controller c (sq_at c.sqs (slot_at slots it.tag).sqid).cqid chain) new
-answer-item rules late notes c slots s before it after are answer marks types new chain p = record {
+    → IsPushed (answered_pool slots it.tag answer flags) (cq_at c.cqs (sq_at c.sqs (slot_at slots it.tag).sqid).cqid).ready it.tag new chain
+    → HasAnswered rules late notes it.tag answer flags (answered_controller c (sq_at c.sqs (slot_at slots it.tag).sqid).cqid chain) new
+answer-item rules late notes c slots s before it after are answer flags types new chain p = record {
   region = it.place.region;
   index = it.place.index;
-  held = answer-held rules late notes c slots s.content s.items s.holds s.numbers s.has s.tags before it after are answer marks types new chain p;
+  held = answer-held rules late notes c slots s.content s.items s.holds s.numbers s.has s.tags before it after are answer flags types new chain p;
   stands = record {
     content = answered rules late notes c slots s.content s.items s.holds s.numbers s.has s.tags before it after are answer;
-    items = left rules late notes c slots s.content s.items s.holds s.numbers s.has s.tags before it after are answer marks types new chain p;
+    items = left rules late notes c slots s.content s.items s.holds s.numbers s.has s.tags before it after are answer flags types new chain p;
     holds = holds_answered rules late notes c slots s.content s.items s.holds s.numbers s.has s.tags before it after are answer;
-    numbers = answer-numbers rules late notes c slots s.content s.items s.holds s.numbers s.has s.tags before it after are answer marks types new chain p;
-    has = answer-items rules late notes c slots s.content s.items s.holds s.numbers s.has s.tags before it after are answer marks types new chain p;
-    doorbells = answer-doorbells rules late notes c slots s.content s.items s.holds s.numbers s.has s.tags before it after are answer marks types new chain p s.doorbells;
-    tags = answer-tags rules late notes c slots s.content s.items s.holds s.numbers s.has s.tags before it after are answer marks types new chain p;
+    numbers = answer-numbers rules late notes c slots s.content s.items s.holds s.numbers s.has s.tags before it after are answer flags types new chain p;
+    has = answer-items rules late notes c slots s.content s.items s.holds s.numbers s.has s.tags before it after are answer flags types new chain p;
+    doorbells = answer-doorbells rules late notes c slots s.content s.items s.holds s.numbers s.has s.tags before it after are answer flags types new chain p s.doorbells;
+    tags = answer-tags rules late notes c slots s.content s.items s.holds s.numbers s.has s.tags before it after are answer flags types new chain p;
     shown = record { held = s.shown.held; classed = s.shown.classed };
     regions = record { sqs = s.regions.sqs; cqs = s.regions.cqs };
-    account = λ on_time. answer-account rules late notes c slots s.content s.items s.holds s.numbers s.has s.tags before it after are answer marks types new chain p (s.account on_time);
+    account = λ on_time. answer-account rules late notes c slots s.content s.items s.holds s.numbers s.has s.tags before it after are answer flags types new chain p (s.account on_time);
   };
 }
 
 -- the controller stands at its log with the note, where the slot of a command that the device has is ready
 pub answer-stands : (rules : FrontRules) (late : Bool) (notes : Notes) (c : Controller) (slots : List Slot) → StandsAt rules late notes c slots
-    → (tag : ℕ) → (slot_at slots tag).state ≡ 2 → (answer : Answer) (marks : Marks) → answer.status.sct < 8
+    → (tag : ℕ) → (slot_at slots tag).state ≡ 2 → (answer : Answer) (flags : StatusFlags) → answer.status.sct < 8
     → (new : List Slot) (chain : Chain) (q : ℕ) → (sq_at c.sqs (slot_at slots tag).sqid).cqid ≡ q
-    → IsPushed (answered_pool slots tag answer marks) (cq_at c.cqs q).ready tag new chain
-    → HasAnswered rules late notes tag answer marks (answered_controller c q chain) new
-answer-stands rules late notes c slots s tag state answer marks types new chain q goes =
+    → IsPushed (answered_pool slots tag answer flags) (cq_at c.cqs q).ready tag new chain
+    → HasAnswered rules late notes tag answer flags (answered_controller c q chain) new
+answer-stands rules late notes c slots s tag state answer flags types new chain q goes =
     let at = s.has.outs_all tag state in
-    subst (λ (z : ℕ). IsPushed (answered_pool slots tag answer marks) (cq_at c.cqs z).ready tag new chain
-    → HasAnswered rules late notes tag answer marks (answered_controller c z chain) new) goes
-    (subst (λ (y : ℕ). IsPushed (answered_pool slots y answer marks) (cq_at c.cqs (sq_at c.sqs (slot_at slots y).sqid).cqid).ready y new chain
-    → HasAnswered rules late notes y answer marks (answered_controller c (sq_at c.sqs (slot_at slots y).sqid).cqid chain) new) at.tag
-    (answer-item rules late notes c slots s at.before at.item at.after at.are answer marks types new chain))
+    subst (λ (z : ℕ). IsPushed (answered_pool slots tag answer flags) (cq_at c.cqs z).ready tag new chain
+    → HasAnswered rules late notes tag answer flags (answered_controller c z chain) new) goes
+    (subst (λ (y : ℕ). IsPushed (answered_pool slots y answer flags) (cq_at c.cqs (sq_at c.sqs (slot_at slots y).sqid).cqid).ready y new chain
+    → HasAnswered rules late notes y answer flags (answered_controller c (sq_at c.sqs (slot_at slots y).sqid).cqid chain) new) at.tag
+    (answer-item rules late notes c slots s at.before at.item at.after at.are answer flags types new chain))
 
 -- ---- what is answered
 -- the tag of a slot that the device has is out

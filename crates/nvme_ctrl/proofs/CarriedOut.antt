@@ -29,7 +29,7 @@ use Rattle.nvme_log.specs.Effects.{made_by, is_effect, target_of}
 use Rattle.nvme_log.specs.Dispatches.{place_at}
 use Rattle.nvme_ctrl.specs.kept.Pool.{slot_at}
 use Rattle.nvme_ctrl.specs.Notes.{Notes, Logged, Answered, EachNote, logged}
-use Rattle.nvme_ctrl.specs.Tags.{answer_of, cookie_of, is_passed, marks_of}
+use Rattle.nvme_ctrl.specs.Tags.{answer_of, cookie_of, is_passed, flags_of}
 use Rattle.nvme_ctrl.specs.Account.{IsLawfulEvent, IsLawful, IsAccount, IsCarriedOut, FetchesSubmitted, PostsOnFreeSlot, PostsWhatIsThrough, PicksOnObservation}
 use Rattle.nvme_ctrl.specs.Observation.{observed_of}
 use Rattle.nvme_ctrl.specs.Steps.{with_logged, picked_notes, IsNextPick, IsAnswerOf, HasCarriedOut}
@@ -192,8 +192,8 @@ module _ (rules : FrontRules) (late : Bool) (notes : Notes) (a : Controller) (sl
   keeps_made = keeps-picked rules made notes (observed_of notes) h.pick a slots applied h.items are_effects h.of_admin h.keeps
 
   -- the device doesn't mark its completion
-  pub unmarked : marks_of made_notes 0 h.candidate.index ≡ None
-  unmarked = keeps_made.tags.none_marked 0 h.candidate.index unanswered
+  pub unflagged : flags_of made_notes 0 h.candidate.index ≡ None
+  unflagged = keeps_made.tags.none_flagged 0 h.candidate.index unanswered
 
   -- what the command leaves holds there
   pub holds_made : (c : ℕ) (board : BoardView) → IsChosen rules (logged notes) h.before c h.picked board v

@@ -23,12 +23,12 @@ use Rattle.nvme_ctrl.specs.declared.slot.Slot.{Slot}
 use Rattle.nvme_ctrl.specs.declared.state.Controller.{Controller}
 use Rattle.nvme_ctrl.specs.kept.Content.{Ready, Content, with_ready}
 use Rattle.nvme_ctrl.specs.inside.Steps.{told}
-use Rattle.nvme_ctrl.specs.kept.Kept.{Items, IsThrough, IsCookie, is_passed_at, IsUnmarked}
+use Rattle.nvme_ctrl.specs.kept.Kept.{Items, IsThrough, IsCookie, is_passed_at, IsUnflagged}
 use Rattle.nvme_ctrl.specs.inside.Loose.{IsLoose, Keeps, MakesReady, ended, with_item}
 use Rattle.nvme_ctrl.specs.inside.Carrying.{IsApplied, IsOpenable, IsCqOpenable, IsUnattached, opening, opening_cq, closing_cq}
 use Rattle.nvme_ctrl.specs.kept.Pool.{slot_at, item_at}
 use Rattle.nvme_ctrl.proofs.AfterSteps.{IsChosen, after_admin}
-use Rattle.nvme_ctrl.proofs.CarriedOut.{made_notes, applied, cookie_kept, not_passed_on, unmarked, keeps_told, keeps_told_of, carried_told}
+use Rattle.nvme_ctrl.proofs.CarriedOut.{made_notes, applied, cookie_kept, not_passed_on, unflagged, keeps_told, keeps_told_of, carried_told}
 use Rattle.nvme_ctrl.proofs.AppliedQueues.{opens_to, opens_for}
 use Rattle.nvme_ctrl.proofs.ToldVerdicts.{told_plain, told_sq}
 use Rattle.nvme_ctrl.proofs.AppliedLives.{opens_openable, opens_cq_openable, closes_region, closes_is, closes_open, closes_unattached, closes_ready}
@@ -48,7 +48,7 @@ some_asked Other = omega arith
 abbrev pub KeepsEnd : (a : Controller) (slots : List Slot) (tag : ℕ) (status : StatusCode) (dw0 : ℕ) (b : Controller) (pool : List Slot) → Type 0
 KeepsEnd a slots tag status dw0 b pool =
     (rules : FrontRules) (notes : Notes) (k : Content) (g : Items) (t : Ready) → Keeps rules notes a slots k g → IsLoose slots g tag → MakesReady slots tag 4 status dw0 t → IsThrough notes t
-    → IsCookie notes slots tag t.place → t.passed ≡ is_passed_at notes t.place → IsUnmarked notes t.place
+    → IsCookie notes slots tag t.place → t.passed ≡ is_passed_at notes t.place → IsUnflagged notes t.place
     → (x : ℕ) → k.cq_life 0 ≡ Some x → k.sq_id t.place.region ≡ Some t.sqid → Keeps rules notes b pool (with_ready k x t) (with_item g x (ended tag t))
 
 module _ (rules : FrontRules) (late : Bool) (notes : Notes) (a : Controller) (slots : List Slot) (tag : ℕ) (did : Effect) (v : Verdict)
@@ -71,7 +71,7 @@ module _ (rules : FrontRules) (late : Bool) (notes : Notes) (a : Controller) (sl
         status_is = refl;
         dw0_is = refl;
       }) (inr (rw (eq-eqb h.candidate.index h.candidate.index refl) refl))
-      (cookie_kept rules late notes a slots tag did v h ∙ ap (λ (s : Slot). Some s.cookie) (sym slot)) (sym (not_passed_on rules late notes a slots tag did v h)) (unmarked rules late notes a slots tag did v h) 0 keeps.numbers.cq_ids.admin
+      (cookie_kept rules late notes a slots tag did v h ∙ ap (λ (s : Slot). Some s.cookie) (sym slot)) (sym (not_passed_on rules late notes a slots tag did v h)) (unflagged rules late notes a slots tag did v h) 0 keeps.numbers.cq_ids.admin
       (keeps.numbers.sq_ids.ids_are 0 0 keeps.numbers.sq_ids.admin))
 
   -- it was answered, and made no more of what is kept

@@ -374,8 +374,8 @@ module _ (kind : Kind) (a n : ℕ) where
         free_count = t.free_count;
         cookies = t.cookies;
         passed = t.passed;
-        none_marked = t.none_marked;
-        marks = t.marks;
+        none_flagged = t.none_flagged;
+        flags = t.flags;
       }
 
       -- a region comes

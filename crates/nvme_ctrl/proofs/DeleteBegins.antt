@@ -137,8 +137,8 @@ module _ (rules : FrontRules) (notes : Notes) (a : Controller) (slots : List Slo
     free_count = m.free_count ∙ ap (λ (n : ℕ). n + all_posts (logged notes)) (sym size);
     cookies = cookies_pending;
     passed = (let p = m.passed in record { all_handed = p.all_handed; served = p.served; readies = p.readies; deletes = each_delete (λ (it : DeleteItem). is_passed notes it.index ≡ false) not_passed_on p.deletes });
-    none_marked = m.none_marked;
-    marks = m.marks;
+    none_flagged = m.none_flagged;
+    flags = m.flags;
   } where
     left : SameCookies slots pool
     left = same_cookies-but slots pool tag others (ap (λ (s : Slot). s.cookie) here)

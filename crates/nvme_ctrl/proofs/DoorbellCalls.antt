@@ -280,8 +280,8 @@ module _ (rules : FrontRules) (late : Bool) (notes : Notes) (c : Controller) (sl
               free_count = s.tags.free_count;
               cookies = cookies_later notes (Tail e.region slot ∷ notes) slots s.items (λ r i. refl) (λ r. refl) s.tags.cookies;
               passed = passed_later notes (Tail e.region slot ∷ notes) s.items (λ i. refl) refl (λ i waits. waits) s.tags.passed;
-              none_marked = s.tags.none_marked;
-              marks = s.tags.marks;
+              none_flagged = s.tags.none_flagged;
+              flags = s.tags.flags;
             };
             shown = record { held = s.shown.held; classed = s.shown.classed };
             regions = record { sqs = s.regions.sqs; cqs = s.regions.cqs };
@@ -462,8 +462,8 @@ module _ (rules : FrontRules) (late : Bool) (notes : Notes) (c : Controller) (sl
               free_count = s.tags.free_count;
               cookies = cookies_later notes (Head region slot ∷ notes) slots s.items (λ r i. refl) (λ r. refl) s.tags.cookies;
               passed = passed_later notes (Head region slot ∷ notes) s.items (λ i. refl) refl (λ i waits. waits) s.tags.passed;
-              none_marked = s.tags.none_marked;
-              marks = s.tags.marks;
+              none_flagged = s.tags.none_flagged;
+              flags = s.tags.flags;
             };
             shown = record { held = s.shown.held; classed = s.shown.classed };
             regions = record { sqs = s.regions.sqs; cqs = s.regions.cqs };

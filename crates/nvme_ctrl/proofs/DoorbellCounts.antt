@@ -3,7 +3,7 @@ use Rattle.std.proofs.Common.{◌≡◌, ℕ, ◌+◌, ◌%◌, ◌==◌, if◌t
 use Rattle.std.proofs.Math.Nat.{zero-mod}
 use Rattle.std.proofs.lemmas.Bool.{cases_Bool, le-leb}
 use Rattle.nvme_log.specs.Rules.{FrontRules}
-use Rattle.nvme_ctrl.specs.Notes.{Notes, Logged, Tail, Head, Kept, Passed, Taken, Answered, Marked, Held, Classed}
+use Rattle.nvme_ctrl.specs.Notes.{Notes, Logged, Tail, Head, Kept, Passed, Taken, Answered, Flagged, Held, Classed}
 use Rattle.nvme_ctrl.specs.Doorbells.{gap, sq_slots, cq_slots, submitted, consumed}
 
 -- the slots of a region tell what its doorbells make
@@ -17,7 +17,7 @@ submitted_same rules others (Kept c i cookie ∷ notes) r e = submitted_same rul
 submitted_same rules others (Passed i ∷ notes) r e = submitted_same rules others notes r e
 submitted_same rules others (Taken tag c i ∷ notes) r e = submitted_same rules others notes r e
 submitted_same rules others (Answered c i answer ∷ notes) r e = submitted_same rules others notes r e
-submitted_same rules others (Marked c i marks ∷ notes) r e = submitted_same rules others notes r e
+submitted_same rules others (Flagged c i flags ∷ notes) r e = submitted_same rules others notes r e
 submitted_same rules others (Held q on ∷ notes) r e = submitted_same rules others notes r e
 submitted_same rules others (Classed q class ∷ notes) r e = submitted_same rules others notes r e
 
@@ -31,7 +31,7 @@ consumed_same rules others (Kept c i cookie ∷ notes) r e = consumed_same rules
 consumed_same rules others (Passed i ∷ notes) r e = consumed_same rules others notes r e
 consumed_same rules others (Taken tag c i ∷ notes) r e = consumed_same rules others notes r e
 consumed_same rules others (Answered c i answer ∷ notes) r e = consumed_same rules others notes r e
-consumed_same rules others (Marked c i marks ∷ notes) r e = consumed_same rules others notes r e
+consumed_same rules others (Flagged c i flags ∷ notes) r e = consumed_same rules others notes r e
 consumed_same rules others (Held q on ∷ notes) r e = consumed_same rules others notes r e
 consumed_same rules others (Classed q class ∷ notes) r e = consumed_same rules others notes r e
 
@@ -64,7 +64,7 @@ submitted_none rules others (Kept c i cookie ∷ notes) r e = submitted_none rul
 submitted_none rules others (Passed i ∷ notes) r e = submitted_none rules others notes r e
 submitted_none rules others (Taken tag c i ∷ notes) r e = submitted_none rules others notes r e
 submitted_none rules others (Answered c i answer ∷ notes) r e = submitted_none rules others notes r e
-submitted_none rules others (Marked c i marks ∷ notes) r e = submitted_none rules others notes r e
+submitted_none rules others (Flagged c i flags ∷ notes) r e = submitted_none rules others notes r e
 submitted_none rules others (Held q on ∷ notes) r e = submitted_none rules others notes r e
 submitted_none rules others (Classed q class ∷ notes) r e = submitted_none rules others notes r e
 
@@ -90,6 +90,6 @@ consumed_none rules others (Kept c i cookie ∷ notes) r e = consumed_none rules
 consumed_none rules others (Passed i ∷ notes) r e = consumed_none rules others notes r e
 consumed_none rules others (Taken tag c i ∷ notes) r e = consumed_none rules others notes r e
 consumed_none rules others (Answered c i answer ∷ notes) r e = consumed_none rules others notes r e
-consumed_none rules others (Marked c i marks ∷ notes) r e = consumed_none rules others notes r e
+consumed_none rules others (Flagged c i flags ∷ notes) r e = consumed_none rules others notes r e
 consumed_none rules others (Held q on ∷ notes) r e = consumed_none rules others notes r e
 consumed_none rules others (Classed q class ∷ notes) r e = consumed_none rules others notes r e

@@ -19,7 +19,7 @@ use Rattle.nvme_ctrl.specs.declared.state.SqState.{SqState}
 use Rattle.nvme_ctrl.specs.declared.state.Controller.{Controller}
 use Rattle.nvme_ctrl.specs.kept.Content.{Attachment, Candidate, Ready, SqContent, CqContent, Content, put_sq, put_cq, with_sq, with_ready}
 use Rattle.nvme_ctrl.specs.inside.Steps.{aborted}
-use Rattle.nvme_ctrl.specs.kept.Kept.{is_passed_at, Item, Items, IsWaitingIn, IsOutIn, IsUnanswered, IsThrough, tags_of, candidate_of, IsCookie, HasCookie, IsUnmarked}
+use Rattle.nvme_ctrl.specs.kept.Kept.{is_passed_at, Item, Items, IsWaitingIn, IsOutIn, IsUnanswered, IsThrough, tags_of, candidate_of, IsCookie, HasCookie, IsUnflagged}
 use Rattle.nvme_ctrl.specs.inside.Loose.{IsLoose, Keeps, MakesReady, ended, with_item}
 use Rattle.nvme_ctrl.specs.inside.Carrying.{IsDroppable, oldest_dropped, item_dropped, dropped, HasDropped}
 use Rattle.nvme_ctrl.specs.kept.Pool.{no_entry, slot_at, item_at, IsChain, IsNew}
@@ -98,7 +98,7 @@ first_there rules notes a slots k g qid region s x rest h life is same =
 abbrev pub KeepsDrop : (a : Controller) (slots : List Slot) (tag cqid : ℕ) (b : Controller) (pool : List Slot) → Type 0
 KeepsDrop a slots tag cqid b pool =
     (rules : FrontRules) (notes : Notes) (k : Content) (g : Items) (t : Ready) → Keeps rules notes a slots k g → IsLoose slots g tag → MakesReady slots tag 5 aborted_by_deletion 0 t → IsThrough notes t
-    → IsCookie notes slots tag t.place → t.passed ≡ is_passed_at notes t.place → IsUnmarked notes t.place
+    → IsCookie notes slots tag t.place → t.passed ≡ is_passed_at notes t.place → IsUnflagged notes t.place
     → (x : ℕ) → k.cq_life cqid ≡ Some x → k.sq_id t.place.region ≡ Some t.sqid → Keeps rules notes b pool (with_ready k x t) (with_item g x (ended tag t))
 
 module _ (rules : FrontRules) (notes : Notes) (a : Controller) (slots : List Slot) (k : Content) (g : Items) (qid region c : ℕ) (x : Item) (rest : List Item)
@@ -126,8 +126,8 @@ module _ (rules : FrontRules) (notes : Notes) (a : Controller) (slots : List Slo
   cookie : IsCookie notes slots x.tag (aborted qid region (candidate_of x)).place
   cookie = subst (λ (r : ℕ). cookie_of notes r x.place.index ≡ Some (slot_at slots x.tag).cookie) first.place (All-head (HasCookie notes slots) x rest cookies)
 
-  unmarked : IsUnmarked notes (aborted qid region (candidate_of x)).place
-  unmarked = h.tags.none_marked region x.place.index
+  unflagged : IsUnflagged notes (aborted qid region (candidate_of x)).place
+  unflagged = h.tags.none_flagged region x.place.index
       (subst (λ (r : ℕ). answer_of notes r x.place.index ≡ None) first.place
       (All-head (λ (it : Item). IsUnanswered notes it.place) x rest (subst (All (λ (it : Item). IsUnanswered notes it.place)) is (h.tags.windows_unanswered region))))
 
@@ -140,7 +140,7 @@ module _ (rules : FrontRules) (notes : Notes) (a : Controller) (slots : List Slo
       → m ≡ record a { sqs = slice_set a.sqs qid (record sq { window = chain }) } → tag ≡ x.tag → KeepsDrop m slots tag sq.cqid b pool
       → Keeps rules notes b pool (oldest_dropped k qid region c x rest) (item_dropped g qid region c x rest)
   keeps_dropped sq chain m b pool tag sq_is linked m_is tag_is drops =
-      subst (λ (z : ℕ). KeepsDrop m slots z sq.cqid b pool) tag_is drops rules notes mid (with_window g region rest) t keeps loose made is_through cookie (sym (rw d.io refl)) unmarked c to
+      subst (λ (z : ℕ). KeepsDrop m slots z sq.cqid b pool) tag_is drops rules notes mid (with_window g region rest) t keeps loose made is_through cookie (sym (rw d.io refl)) unflagged c to
       (h.numbers.sq_ids.ids_are qid region d.there) where
         t : Ready
         t = aborted qid region (candidate_of x)

@@ -12,22 +12,22 @@ use Rattle.nvme_log.specs.Dispatches.{place_at}
 use Rattle.nvme_ctrl.specs.Notes.{Notes, logged}
 use Rattle.nvme_ctrl.specs.Doorbells.{consumed}
 use Rattle.nvme_ctrl.specs.Rings.{HasCounts}
-use Rattle.nvme_ctrl.specs.Marks.{marks_or, own_marks}
+use Rattle.nvme_ctrl.specs.StatusFlags.{flags_or, own_flags}
 use Rattle.nvme_ctrl.specs.Tags.{holder, all_posts}
-use Rattle.nvme_ctrl.specs.declared.marks.Marks.{Marks}
+use Rattle.nvme_ctrl.specs.declared.status_flags.StatusFlags.{StatusFlags}
 use Rattle.nvme_ctrl.specs.declared.slot.Slot.{Slot}
 use Rattle.nvme_ctrl.specs.declared.chain.Chain.{Chain}
 use Rattle.nvme_ctrl.specs.declared.state.CqState.{CqState}
 use Rattle.nvme_ctrl.specs.declared.state.Controller.{Controller}
 use Rattle.nvme_ctrl.specs.kept.Content.{Ready, CqContent, Content, with_ready}
-use Rattle.nvme_ctrl.specs.kept.Kept.{is_passed_at, IsReadyOf, Item, ReadyItem, Items, IsWaitingIn, IsOutIn, IsReadyIn, IsThrough, IsCookie, IsUnmarked, HasReadyCookie, HasMarks, HoldsCookies, HasNumbers, HasItems, HoldsDoorbells, HoldsTags, tags_of, ready_tags, readies_of, ready_state, is_free}
+use Rattle.nvme_ctrl.specs.kept.Kept.{is_passed_at, IsReadyOf, Item, ReadyItem, Items, IsWaitingIn, IsOutIn, IsReadyIn, IsThrough, IsCookie, IsUnflagged, HasReadyCookie, HasFlags, HoldsCookies, HasNumbers, HasItems, HoldsDoorbells, HoldsTags, tags_of, ready_tags, readies_of, ready_state, is_free}
 use Rattle.nvme_ctrl.specs.inside.Loose.{IsLoose, AreReadiesApart, Keeps, MakesReady, ended, with_item}
-use Rattle.nvme_ctrl.specs.kept.Pool.{slot_at, item_at, next_at, put_item, bit, marks_in, IsChain, IsNew, SameItems, SameLinks}
+use Rattle.nvme_ctrl.specs.kept.Pool.{slot_at, item_at, next_at, put_item, bit, flags_in, IsChain, IsNew, SameItems, SameLinks}
 use Rattle.nvme_ctrl.specs.kept.State.{no_cq_state, cq_at}
 use Rattle.nvme_ctrl.proofs.Cookies.{SameCookies, same_cookies-but, cookie_left, items_left, readies_left}
 use Rattle.nvme_ctrl.proofs.Lives.{put_cq-lives, put_cq-states}
 use Rattle.nvme_ctrl.proofs.PendingDeletions.{deletions_stay}
-use Rattle.nvme_ctrl.proofs.PutMarks.{put_marks}
+use Rattle.nvme_ctrl.proofs.PutFlags.{put_flags}
 use Rattle.nvme_ctrl.proofs.OwnStatus.{All-unmap}
 use Rattle.nvme_ctrl.proofs.Pools.{length-put_item, item_at-put_item_same, item_at-put_item_other, next_at-put_item, chain-put_item, IsNew-nil, IsNew-cons, IsNew-append, chain-other, length-apart}
 use Rattle.nvme_ctrl.proofs.SlotItems.{All-both, ready_state-range, same_state, waiting_stays, out_stays, ready_stays}
@@ -56,7 +56,7 @@ module _ (rules : FrontRules) (notes : Notes) (a : Controller) (slots : List Slo
     (pool : List Slot) (size : length pool ≡ length slots) (others : (y : ℕ) → y ≢ tag → item_at pool y ≡ item_at slots y)
     (links : SameLinks (ready_tags (g.readies region)) slots pool)
     (chain : Chain) (linked : IsChain pool chain (ready_tags (g.readies region) ++ tag ∷ []))
-    (ready : IsReadyIn k.sq_id pool (ended tag t)) (same : SameCookies slots pool) (cookie : IsCookie notes slots tag t.place) (passed_as : t.passed ≡ is_passed_at notes t.place) (unmarked : IsUnmarked notes t.place) where
+    (ready : IsReadyIn k.sq_id pool (ended tag t)) (same : SameCookies slots pool) (cookie : IsCookie notes slots tag t.place) (passed_as : t.passed ≡ is_passed_at notes t.place) (unflagged : IsUnflagged notes t.place) where
   abbrev later : Items
   later = with_item g region (ended tag t)
 
@@ -219,9 +219,9 @@ module _ (rules : FrontRules) (notes : Notes) (a : Controller) (slots : List Slo
       readies = each_region (λ x c its. All (IsReadyOf notes) its) (All-push (IsReadyOf notes) (g.readies region) (ended tag t) (p.readies region) passed_as) (λ x other. p.readies x);
       deletes = p.deletes;
     });
-    none_marked = m.none_marked;
-    marks = each_region (λ x c its. All (HasMarks notes) its)
-        (All-push (HasMarks notes) (g.readies region) (ended tag t) (m.marks region) (ap (λ (o : Option Marks). marks_or t.status o) (sym unmarked))) (λ x other. m.marks x);
+    none_flagged = m.none_flagged;
+    flags = each_region (λ x c its. All (HasFlags notes) its)
+        (All-push (HasFlags notes) (g.readies region) (ended tag t) (m.flags region) (ap (λ (o : Option StatusFlags). flags_or t.status o) (sym unflagged))) (λ x other. m.flags x);
   } where
     cookies_after : HoldsCookies notes pool later
     cookies_after = let q = h.tags.cookies in record {
@@ -288,21 +288,21 @@ loose_ended slots pool g tag region t y size others differ loose =
 -- all is kept where its answer was put into the slot, and the slot pushed onto the chain of a completion queue
 pub keeps_end : (rules : FrontRules) (notes : Notes) (a b : Controller) (slots mid pool : List Slot) (k : Content) (g : Items) (t : Ready) (tag state cqid dw0 : ℕ) (status : StatusCode)
     (s : Slot) (cq : CqState) (chain : Chain) → Keeps rules notes a slots k g
-    → s ≡ slot_at slots tag → mid ≡ put_item slots tag (record s { state = state; sct = status.sct; sc = status.sc; dw0 = dw0; more = bit (own_marks status).more; do_not_retry = bit (own_marks status).do_not_retry }) → cq ≡ cq_at a.cqs cqid
+    → s ≡ slot_at slots tag → mid ≡ put_item slots tag (record s { state = state; sct = status.sct; sc = status.sc; dw0 = dw0; more = bit (own_flags status).more; do_not_retry = bit (own_flags status).do_not_retry }) → cq ≡ cq_at a.cqs cqid
     → ((xs : List ℕ) → IsChain mid cq.ready xs → tag < length mid → IsNew tag xs → length xs + 1 < 2 ^ 16 → IsChain pool chain (xs ++ tag ∷ []))
     → SameItems mid pool → ((xs : List ℕ) → IsChain mid cq.ready xs → SameLinks xs mid pool)
     → b ≡ record a { cqs = slice_set a.cqs cqid (record cq { ready = chain }) } → status.sct < 8
-    → IsLoose slots g tag → MakesReady slots tag state status dw0 t → IsThrough notes t → IsCookie notes slots tag t.place → t.passed ≡ is_passed_at notes t.place → IsUnmarked notes t.place
+    → IsLoose slots g tag → MakesReady slots tag state status dw0 t → IsThrough notes t → IsCookie notes slots tag t.place → t.passed ≡ is_passed_at notes t.place → IsUnflagged notes t.place
     → (region : ℕ) → k.cq_life cqid ≡ Some region → k.sq_id t.place.region ≡ Some t.sqid
     → Keeps rules notes b pool (with_ready k region t) (with_item g region (ended tag t))
-keeps_end rules notes a b slots mid pool k g t tag state cqid dw0 status s cq chain h slot_is put cq_is pushes same links is few loose makes through cookie passed_as unmarked region life of_queue =
+keeps_end rules notes a b slots mid pool k g t tag state cqid dw0 status s cq chain h slot_is put cq_is pushes same links is few loose makes through cookie passed_as unflagged region life of_queue =
     subst (λ (c : Controller). Keeps rules notes c pool (with_ready k region t) (with_item g region (ended tag t)))
     (sym (is ∙ ap (λ (c : CqState). record a { cqs = slice_set a.cqs cqid (record c { ready = chain }) }) cq_is))
     (keeps_ended rules notes a slots k g h tag loose cqid region life t through pool size others left chain
     (pushes (ready_tags (g.readies region)) linked (subst (λ (n : ℕ). tag < n) (sym mid_size) loose.inside) (loose.readies region) room) ready
-    (same_cookies-but slots pool tag others (ap (λ (x : Slot). x.cookie) now ∙ ap (λ (x : Slot). x.cookie) slot_is)) cookie passed_as unmarked) where
+    (same_cookies-but slots pool tag others (ap (λ (x : Slot). x.cookie) now ∙ ap (λ (x : Slot). x.cookie) slot_is)) cookie passed_as unflagged) where
       put_slot : Slot
-      put_slot = record s { state = state; sct = status.sct; sc = status.sc; dw0 = dw0; more = bit (own_marks status).more; do_not_retry = bit (own_marks status).do_not_retry }
+      put_slot = record s { state = state; sct = status.sct; sc = status.sc; dw0 = dw0; more = bit (own_flags status).more; do_not_retry = bit (own_flags status).do_not_retry }
 
       mid_size : length mid ≡ length slots
       mid_size = ap (λ (xs : List Slot). length xs) put ∙ length-put_item slots tag put_slot
@@ -348,5 +348,5 @@ keeps_end rules notes a b slots mid pool k g t tag state cqid dw0 status s cq ch
         sc = ap (λ (x : Slot). x.sc) now ∙ ap (λ (x : StatusCode). x.sc) makes.status_is;
         dw0 = ap (λ (x : Slot). x.dw0) now ∙ makes.dw0_is;
         not_both = λ no. absurd (cc no);
-        marks = ap marks_in now ∙ put_marks (own_marks status) ∙ ap own_marks makes.status_is;
+        flags = ap flags_in now ∙ put_flags (own_flags status) ∙ ap own_flags makes.status_is;
       }

@@ -614,8 +614,8 @@ module _ (rules : FrontRules) (late : Bool) (notes : Notes) (c : Controller) (sl
           free_count = free_count_now;
           cookies = cookies_now;
           passed = passed_later notes later items (λ i. refl) refl (λ i waits. stays (Fetch e.region index entry) (logged notes) 0 i waits) (passed_left notes s.items items (λ x. refl) refl t.passed);
-          none_marked = t.none_marked;
-          marks = t.marks;
+          none_flagged = t.none_flagged;
+          flags = t.flags;
         }
 
     lawful_now : late ≡ false → IsLawfulEvent rules notes (Fetch e.region index entry)

@@ -29,7 +29,7 @@ use Rattle.nvme_ctrl.specs.declared.slot.Slot.{Slot}
 use Rattle.nvme_ctrl.specs.declared.state.Controller.{Controller}
 use Rattle.nvme_ctrl.specs.kept.Content.{Candidate, Ready, PendingDelete, Content, with_ready, put_deletion, put_life}
 use Rattle.nvme_ctrl.specs.kept.Standing.{Holds, HoldsReady, IsPending, HasOwnStatus, hand_of, held_upto, times_held, times_ready, HasItsStatus}
-use Rattle.nvme_ctrl.specs.kept.Kept.{Item, ReadyItem, Items, IsWaitingIn, IsOutIn, IsReadyIn, IsSqOf, HasNumbers, HasItems, StandsAt, tags_of, places_of, candidate_of, picked_region, picked_of, untaken, HasEntry, IsThrough, IsUnmarked, is_passed_at, IsDevices, DeleteItem, deletion_in, put_delete, IsDeletingIn, HasDeletions, IsUnanswered, IsCookie, HasRegionsMade}
+use Rattle.nvme_ctrl.specs.kept.Kept.{Item, ReadyItem, Items, IsWaitingIn, IsOutIn, IsReadyIn, IsSqOf, HasNumbers, HasItems, StandsAt, tags_of, places_of, candidate_of, picked_region, picked_of, untaken, HasEntry, IsThrough, IsUnflagged, is_passed_at, IsDevices, DeleteItem, deletion_in, put_delete, IsDeletingIn, HasDeletions, IsUnanswered, IsCookie, HasRegionsMade}
 use Rattle.nvme_ctrl.specs.inside.Loose.{IsLoose, Keeps, MakesReady, ended, with_item}
 use Rattle.nvme_ctrl.specs.kept.Pool.{slot_at, IsChain}
 use Rattle.nvme_ctrl.specs.kept.State.{sq_at, deletion_at, no_sq_state, no_deletion, IsFinishable}
@@ -128,7 +128,7 @@ finished_made rules late past k d h made =
 abbrev FinishesEnd : (a : Controller) (slots : List Slot) (tag : ℕ) (b : Controller) (pool : List Slot) → Type 0
 FinishesEnd a slots tag b pool =
     (rules : FrontRules) (notes : Notes) (k : Content) (g : Items) (t : Ready) → Keeps rules notes a slots k g → IsLoose slots g tag → MakesReady slots tag 4 success 0 t → IsThrough notes t
-    → IsCookie notes slots tag t.place → t.passed ≡ is_passed_at notes t.place → IsUnmarked notes t.place → (x : ℕ) → k.cq_life 0 ≡ Some x → k.sq_id t.place.region ≡ Some t.sqid
+    → IsCookie notes slots tag t.place → t.passed ≡ is_passed_at notes t.place → IsUnflagged notes t.place → (x : ℕ) → k.cq_life 0 ≡ Some x → k.sq_id t.place.region ≡ Some t.sqid
     → Keeps rules notes b pool (with_ready k x t) (with_item g x (ended tag t))
 
 module _ (rules : FrontRules) (late : Bool) (notes : Notes) (c : Controller) (slots : List Slot) (s : StandsAt rules late notes c slots)
@@ -481,7 +481,7 @@ module _ (rules : FrontRules) (late : Bool) (notes : Notes) (c : Controller) (sl
             sc = h.sc;
             dw0 = h.dw0;
             not_both = h.not_both;
-            marks = h.marks;
+            flags = h.flags;
           }) (g.readies y) (x.ready_items y) (readies_elsewhere y);
       ready_none = x.ready_none;
       ready_is = x.ready_is;
@@ -538,8 +538,8 @@ module _ (rules : FrontRules) (late : Bool) (notes : Notes) (c : Controller) (sl
           readies = q.readies;
           deletes = each_left (λ (it : DeleteItem). is_passed notes it.index ≡ false) q.deletes;
         });
-        none_marked = x.none_marked;
-        marks = x.marks;
+        none_flagged = x.none_flagged;
+        flags = x.flags;
       });
       apart = readies_are_apart rules late notes c slots s;
     }
@@ -614,7 +614,7 @@ module _ (rules : FrontRules) (late : Bool) (notes : Notes) (c : Controller) (sl
           end rules finished k1 others t keeps_finished loose
           (record { state_is = refl; sqid = held.queue; cid = refl; status_is = refl; dw0_is = refl })
           (inr (rw (eq-eqb item.index item.index refl) refl)) (s.tags.cookies.deletes region item flagged.is)
-          (sym (s.tags.passed.deletes region item flagged.is)) (s.tags.none_marked 0 item.index unanswered)
+          (sym (s.tags.passed.deletes region item flagged.is)) (s.tags.none_flagged 0 item.index unanswered)
           0 s.numbers.cq_ids.admin (put-other k.sq_id region None 0 (λ e. stands.not_admin (sym e)) ∙ s.numbers.sq_ids.ids_are 0 0 s.numbers.sq_ids.admin)
 
   -- ---- as it is finished

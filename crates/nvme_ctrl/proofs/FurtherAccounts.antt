@@ -21,7 +21,7 @@ use Rattle.nvme_log.specs.Dispatches.{place_at}
 use Rattle.nvme_log.specs.Account.{ServedWhileOpen, PostsOwnBy}
 use Rattle.nvme_log.proofs.Waiting.{fetched-fetch}
 use Rattle.nvme_arbiter.specs.Lawful.{IsLimitedRun}
-use Rattle.nvme_ctrl.specs.Notes.{Notes, Note, Logged, Tail, Head, Kept, Passed, Taken, Answered, Marked, Held, Classed, EachNote, logged}
+use Rattle.nvme_ctrl.specs.Notes.{Notes, Note, Logged, Tail, Head, Kept, Passed, Taken, Answered, Flagged, Held, Classed, EachNote, logged}
 use Rattle.nvme_ctrl.specs.Doorbells.{sq_slots, cq_slots}
 use Rattle.nvme_ctrl.specs.Making.{with_region}
 use Rattle.nvme_ctrl.specs.Tags.{is_passed, is_of_device, answers}
@@ -228,7 +228,7 @@ module _ (rules : FrontRules) (kind : Kind) (a n : ℕ) (some_sqs : 0 < length (
     note-stays (Passed i) left h = h
     note-stays (Taken tag r i) left h = h
     note-stays (Answered r i answer) left h = answer-stays r i answer h
-    note-stays (Marked r i marks) left h = h
+    note-stays (Flagged r i flags) left h = h
     note-stays (Held q on) left h = h
     note-stays (Classed q class) left h = h
 

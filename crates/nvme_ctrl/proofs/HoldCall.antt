@@ -295,8 +295,8 @@ module _ (rules : FrontRules) (late : Bool) (notes : Notes) (c : Controller) (sl
       free_count = t.free_count;
       cookies = cookies_later notes (Held q on ∷ notes) slots s.items (λ x i. refl) (λ x. refl) t.cookies;
       passed = passed_later notes (Held q on ∷ notes) s.items (λ i. refl) refl (λ i waits. waits) t.passed;
-      none_marked = t.none_marked;
-      marks = t.marks;
+      none_flagged = t.none_flagged;
+      flags = t.flags;
     });
     shown = record {
       held = held_now;
@@ -330,8 +330,8 @@ module _ (rules : FrontRules) (late : Bool) (notes : Notes) (c : Controller) (sl
       free_count = t.free_count;
       cookies = cookies_later notes (Classed q given ∷ notes) slots s.items (λ x i. refl) (λ x. refl) t.cookies;
       passed = passed_later notes (Classed q given ∷ notes) s.items (λ i. refl) refl (λ i waits. waits) t.passed;
-      none_marked = t.none_marked;
-      marks = t.marks;
+      none_flagged = t.none_flagged;
+      flags = t.flags;
     });
     shown = record {
       held = λ p other is_other. ap (λ (b : Bool). put_held k.held r b other.region) left ∙ put_held-same k.held r other.region ∙ s.shown.held p other is_other;

@@ -20,7 +20,7 @@ use Rattle.nvme_log.specs.Effects.{is_effect}
 use Rattle.nvme_ctrl.specs.Notes.{Notes, Logged, Answered, logged}
 use Rattle.nvme_ctrl.specs.Doorbells.{submitted, consumed}
 use Rattle.nvme_ctrl.specs.Rings.{HasCounts}
-use Rattle.nvme_ctrl.specs.Tags.{holder, answer_of, cookie_of, marks_of, all_fetches, all_posts, is_passed, handed}
+use Rattle.nvme_ctrl.specs.Tags.{holder, answer_of, cookie_of, flags_of, all_fetches, all_posts, is_passed, handed}
 use Rattle.nvme_ctrl.specs.Steps.{with_logged}
 use Rattle.nvme_ctrl.specs.declared.slot.Slot.{Slot}
 use Rattle.nvme_ctrl.specs.declared.state.Controller.{Controller}
@@ -135,8 +135,8 @@ keeps-quiet rules notes e c slots k g quiet h = record {
     free_count = ap (λ (n : ℕ). c.free.len + n) quiet.fetch_count ∙ m.free_count ∙ ap (λ (n : ℕ). length slots + n) (sym quiet.post_count);
     cookies = cookies_later notes (Logged e ∷ notes) slots g (λ r i. refl) quiet.fetches m.cookies;
     passed = passed_later notes (Logged e ∷ notes) g (λ i. refl) quiet.dispatches (λ i waits. stays e (logged notes) 0 i waits) m.passed;
-    none_marked = m.none_marked;
-    marks = m.marks;
+    none_flagged = m.none_flagged;
+    flags = m.flags;
   });
   apart = h.apart;
 }
@@ -205,14 +205,14 @@ keeps-answered rules notes i answer c slots k g none there windows outs deletes 
     free_count = m.free_count;
     cookies = cookies_later notes (Answered 0 i answer ∷ notes) slots g (λ r j. refl) (λ r. refl) m.cookies;
     passed = passed_later notes (Answered 0 i answer ∷ notes) g (λ j. refl) refl (λ j waits. waits) m.passed;
-    none_marked = λ r j none_there. unmarked r j (0 == r && i == j) none_there;
-    marks = m.marks;
+    none_flagged = λ r j none_there. unflagged r j (0 == r && i == j) none_there;
+    flags = m.flags;
   });
   apart = h.apart;
 } where
-  unmarked : (r j : ℕ) (b : Bool) → (if b then Some answer else answer_of notes r j) ≡ None → marks_of notes r j ≡ None
-  unmarked r j true lost = absurd (cc lost)
-  unmarked r j false is = h.tags.none_marked r j is
+  unflagged : (r j : ℕ) (b : Bool) → (if b then Some answer else answer_of notes r j) ≡ None → flags_of notes r j ≡ None
+  unflagged r j true lost = absurd (cc lost)
+  unflagged r j false is = h.tags.none_flagged r j is
 
   still : (t : Ready) → IsThrough notes t → IsThrough (Answered 0 i answer ∷ notes) t
   still t is = elim is [

@@ -66,7 +66,7 @@ pub mod PostLog
 pub mod OutTags
 pub mod PendingDeletions
 pub mod Cookies
-pub mod PutMarks
+pub mod PutFlags
 pub mod SlotItems
 pub mod TakeCall
 pub mod AnsweredPlaces

@@ -374,8 +374,8 @@ module _ (rules : FrontRules) (mechanism : Mechanism) (settings : ArbitrationFie
         deletes = λ r it at. cc at;
         none = λ r i le. refl;
       };
-      none_marked = λ r i none. refl;
-      marks = λ x i e lt. absurd (omega (arith, lt));
+      none_flagged = λ r i none. refl;
+      flags = λ x i e lt. absurd (omega (arith, lt));
     }
 
     -- the controller stands at the empty log

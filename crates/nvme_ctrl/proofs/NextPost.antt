@@ -10,7 +10,7 @@ use Rattle.nvme_ctrl.specs.declared.ring.Ring.{Ring}
 use Rattle.nvme_ctrl.specs.declared.slot.Slot.{Slot}
 use Rattle.nvme_ctrl.specs.declared.state.CqState.{CqState}
 use Rattle.nvme_ctrl.specs.declared.state.Controller.{Controller}
-use Rattle.nvme_ctrl.specs.kept.Pool.{slot_at, marks_in, IsChain}
+use Rattle.nvme_ctrl.specs.kept.Pool.{slot_at, flags_in, IsChain}
 use Rattle.nvme_ctrl.proofs.Pools.{linked-head}
 
 -- a ring is full where it has no slot free
@@ -39,17 +39,17 @@ postable c slots cq p h = by (is_full cq.ring) (cq.ready.len == 0) refl refl h w
 
 -- it is that of the command in its slot
 pub by_command : (c : Controller) (slots : List Slot) (cq : CqState) (p : Post) → p ≡ first_post c slots cq
-    → p ≡ record { slot = cq.ring.tail; cqe = p.cqe; tag = p.tag; cookie = (slot_at slots p.tag).cookie; marks = marks_in (slot_at slots p.tag) }
+    → p ≡ record { slot = cq.ring.tail; cqe = p.cqe; tag = p.tag; cookie = (slot_at slots p.tag).cookie; flags = flags_in (slot_at slots p.tag) }
 by_command c slots cq p is =
-    subst (λ (q : Post). q ≡ record { slot = cq.ring.tail; cqe = q.cqe; tag = q.tag; cookie = (slot_at slots q.tag).cookie; marks = marks_in (slot_at slots q.tag) }) (sym is) refl
+    subst (λ (q : Post). q ≡ record { slot = cq.ring.tail; cqe = q.cqe; tag = q.tag; cookie = (slot_at slots q.tag).cookie; flags = flags_in (slot_at slots q.tag) }) (sym is) refl
 
 pub entry_by_command : (c : Controller) (slots : List Slot) (cq : CqState) (p : Post) → p ≡ first_post c slots cq
     → p.cqe ≡ completion_of c (slot_at slots p.tag) (cq.phase == 1)
 entry_by_command c slots cq p is = subst (λ (q : Post). q.cqe ≡ completion_of c (slot_at slots q.tag) (cq.phase == 1)) (sym is) refl
 
-pub post_of_command : (c : Controller) (slots : List Slot) (cq : CqState) (p : Post) → p ≡ first_post c slots cq → IsPostOf (slot_at slots p.tag) p.cqe p.cookie p.marks
+pub post_of_command : (c : Controller) (slots : List Slot) (cq : CqState) (p : Post) → p ≡ first_post c slots cq → IsPostOf (slot_at slots p.tag) p.cqe p.cookie p.flags
 post_of_command c slots cq p is =
-    subst (λ (q : Post). IsPostOf (slot_at slots q.tag) q.cqe q.cookie q.marks) (sym is) (record { cid = refl; dw0 = refl; cookie_is = refl; marks_are = refl })
+    subst (λ (q : Post). IsPostOf (slot_at slots q.tag) q.cqe q.cookie q.flags) (sym is) (record { cid = refl; dw0 = refl; cookie_is = refl; flags_are = refl })
 
 -- there is none: no slot is free, or no command is ready
 pub not_postable : (c : Controller) (slots : List Slot) (cq : CqState) → post_in c slots cq ≡ None

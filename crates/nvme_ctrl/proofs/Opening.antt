@@ -210,8 +210,8 @@ module _ (rules : FrontRules) (notes : Notes) (a : Controller) (slots : List Slo
       free_count = m.free_count;
       cookies = m.cookies;
       passed = m.passed;
-      none_marked = m.none_marked;
-      marks = m.marks;
+      none_flagged = m.none_flagged;
+      flags = m.flags;
     });
     apart = h.apart;
   }
@@ -323,8 +323,8 @@ module _ (rules : FrontRules) (notes : Notes) (a : Controller) (slots : List Slo
       free_count = m.free_count;
       cookies = m.cookies;
       passed = m.passed;
-      none_marked = m.none_marked;
-      marks = m.marks;
+      none_flagged = m.none_flagged;
+      flags = m.flags;
     });
     apart = h.apart;
   }
@@ -487,7 +487,7 @@ module _ (rules : FrontRules) (notes : Notes) (a : Controller) (slots : List Slo
       sc = w.sc;
       dw0 = w.dw0;
       not_both = w.not_both;
-      marks = w.marks;
+      flags = w.flags;
     }) (g.readies x) (m.ready_items x);
     ready_none = m.ready_none;
     ready_is = m.ready_is;
@@ -532,8 +532,8 @@ module _ (rules : FrontRules) (notes : Notes) (a : Controller) (slots : List Slo
       free_count = m.free_count;
       cookies = m.cookies;
       passed = m.passed;
-      none_marked = m.none_marked;
-      marks = m.marks;
+      none_flagged = m.none_flagged;
+      flags = m.flags;
     });
     apart = h.apart;
   }

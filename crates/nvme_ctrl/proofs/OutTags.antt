@@ -5,8 +5,8 @@ use Rattle.nvme_log.specs.declared.place.Place.{Place}
 use Rattle.nvme_log.specs.declared.event.Event.{Event}
 use Rattle.nvme_log.specs.declared.event.Event.TheVariants as event
 use Rattle.nvme_log.specs.Answers.{Answer}
-use Rattle.nvme_ctrl.specs.Notes.{Notes, Logged, Answered, Marked}
-use Rattle.nvme_ctrl.specs.declared.marks.Marks.{Marks}
+use Rattle.nvme_ctrl.specs.Notes.{Notes, Logged, Answered, Flagged}
+use Rattle.nvme_ctrl.specs.declared.status_flags.StatusFlags.{StatusFlags}
 use Rattle.nvme_ctrl.specs.Tags.{holder, answer_of, is_place, is_unanswered, is_out}
 
 -- a command that was answered stays so
@@ -31,9 +31,9 @@ still_not_out-logged e notes t h = h
 pub still_not_out-answered : (r i : ℕ) (answer : Answer) (notes : Notes) (t : ℕ) → is_out notes t ≡ false → is_out (Answered r i answer ∷ notes) t ≡ false
 still_not_out-answered r i answer notes t h = still_answered notes r i answer (holder notes t) h
 
--- nor do marks
-pub still_not_out-marked : (r i : ℕ) (marks : Marks) (notes : Notes) (t : ℕ) → is_out notes t ≡ false → is_out (Marked r i marks ∷ notes) t ≡ false
-still_not_out-marked r i marks notes t h = by (holder notes t) h where
-  by : (o : Option Place) → is_unanswered notes o ≡ false → is_unanswered (Marked r i marks ∷ notes) o ≡ false
+-- nor do flags
+pub still_not_out-flagged : (r i : ℕ) (flags : StatusFlags) (notes : Notes) (t : ℕ) → is_out notes t ≡ false → is_out (Flagged r i flags ∷ notes) t ≡ false
+still_not_out-flagged r i flags notes t h = by (holder notes t) h where
+  by : (o : Option Place) → is_unanswered notes o ≡ false → is_unanswered (Flagged r i flags ∷ notes) o ≡ false
   by None h = refl
   by (Some p) h = h

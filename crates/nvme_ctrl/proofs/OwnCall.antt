@@ -67,8 +67,8 @@ owned rules late notes c slots own depths s = record {
     free_count = t.free_count;
     cookies = t.cookies;
     passed = t.passed;
-    none_marked = t.none_marked;
-    marks = t.marks;
+    none_flagged = t.none_flagged;
+    flags = t.flags;
   });
   shown = record { held = s.shown.held; classed = s.shown.classed };
   regions = record { sqs = s.regions.sqs; cqs = s.regions.cqs };

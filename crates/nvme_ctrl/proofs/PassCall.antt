@@ -267,8 +267,8 @@ module _ (rules : FrontRules) (late : Bool) (notes : Notes) (c : Controller) (sl
     free_count = s.tags.free_count;
     cookies = cookies_later notes later slots g (λ r j. refl) (λ r. refl) s.tags.cookies;
     passed = passed_now;
-    none_marked = s.tags.none_marked;
-    marks = s.tags.marks;
+    none_flagged = s.tags.none_flagged;
+    flags = s.tags.flags;
   }
 
   -- the note is lawful

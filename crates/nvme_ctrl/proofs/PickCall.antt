@@ -367,8 +367,8 @@ module _ (rules : FrontRules) (late : Bool) (notes : Notes) (c : Controller) (sl
       free_count = s.tags.free_count;
       cookies = cookies_later notes (picked_notes notes pick) slots g (λ x i. refl) (λ x. refl) s.tags.cookies;
       passed = picked_passed;
-      none_marked = s.tags.none_marked;
-      marks = s.tags.marks;
+      none_flagged = s.tags.none_flagged;
+      flags = s.tags.flags;
     }
 
     pick-holds : Holds rules late (event.Pick (observed_of notes) pick ∷ now) after

@@ -17,13 +17,13 @@ use Rattle.nvme_log.specs.Completions.{posted_to, own_status_by, own_dw0_by, IsO
 use Rattle.nvme_log.specs.Dispatches.{place_at}
 use Rattle.nvme_log.specs.Answers.{Answer, by_answers}
 use Rattle.nvme_ctrl.specs.Notes.{Notes}
-use Rattle.nvme_ctrl.specs.Marks.{marks_or}
-use Rattle.nvme_ctrl.specs.Tags.{is_place, holder, answer_of, is_through, answer_or, answers, is_out, all_fetches, all_posts, cookie_of, is_passed, marks_of}
+use Rattle.nvme_ctrl.specs.StatusFlags.{flags_or}
+use Rattle.nvme_ctrl.specs.Tags.{is_place, holder, answer_of, is_through, answer_or, answers, is_out, all_fetches, all_posts, cookie_of, is_passed, flags_of}
 use Rattle.nvme_ctrl.specs.Account.{IsLawfulEvent, IsAccount, PostsAnswer, PostsOwn}
 use Rattle.nvme_ctrl.specs.declared.slot.Slot.{Slot}
 use Rattle.nvme_ctrl.specs.kept.Content.{Ready}
 use Rattle.nvme_ctrl.specs.kept.Standing.{Holds, answer_in, hand_of, times_held, held_upto}
-use Rattle.nvme_ctrl.specs.kept.Pool.{slot_at, put_item, marks_in, IsChain}
+use Rattle.nvme_ctrl.specs.kept.Pool.{slot_at, put_item, flags_in, IsChain}
 use Rattle.nvme_ctrl.specs.kept.State.{no_cq_state, cq_at}
 use Rattle.nvme_ctrl.specs.inside.Next.{IsNext}
 use Rattle.nvme_ctrl.specs.Posts.{completion_of}
@@ -32,7 +32,7 @@ use Rattle.nvme_ctrl.specs.Calls.{HasPosted}
 use Rattle.nvme_ctrl.specs.declared.chain.Chain.{Chain}
 use Rattle.nvme_ctrl.specs.declared.state.CqState.{CqState}
 use Rattle.nvme_ctrl.specs.declared.state.Controller.{Controller}
-use Rattle.nvme_ctrl.specs.kept.Kept.{Item, ReadyItem, places_of, ready_state, ready_tags, readies_of, untaken, IsThrough, HoldsTags, StandsAt, HasReadyCookie, IsReadyOf, HasMarks}
+use Rattle.nvme_ctrl.specs.kept.Kept.{Item, ReadyItem, places_of, ready_state, ready_tags, readies_of, untaken, IsThrough, HoldsTags, StandsAt, HasReadyCookie, IsReadyOf, HasFlags}
 use Rattle.nvme_ctrl.proofs.Cookies.{SameCookies, same_cookies-but, cookie_left, items_left, readies_left}
 use Rattle.nvme_ctrl.proofs.NextEvents.{next-post, posts-as-ready, oldest_answerable, posts-else}
 use Rattle.nvme_ctrl.proofs.OwnStatus.{All-unmap, IsAnswerable, ready_is_answerable}
@@ -221,8 +221,8 @@ module _ (p : PostCall) where
           deletes = λ r it is. cookie_left p.notes p.slots p.new same it.tag (place_at 0 it.index) (h.cookies.deletes r it is);
           none = h.cookies.none;
         };
-        none_marked = h.none_marked;
-        marks = of_readies (HasMarks p.notes) h.marks;
+        none_flagged = h.none_flagged;
+        flags = of_readies (HasFlags p.notes) h.flags;
       } where
         same : SameCookies p.slots p.new
         same = same_cookies-but p.slots p.new (tag p) (other_kept p) (tag_cookie p)
@@ -311,9 +311,9 @@ module _ (p : PostCall) where
 kept : (p : PostCall) → cookie_of p.notes (region p) (index p) ≡ Some (command p).cookie
 kept p = of_item p (HasReadyCookie p.notes p.slots) (p.stands.tags.cookies.readies p.x)
 
--- its marks are those of its place
-marked : (p : PostCall) → marks_in (command p) ≡ marks_or (cqe_of p).status (marks_of p.notes (region p) (index p))
-marked p = (ready_in p).marks ∙ of_item p (HasMarks p.notes) (p.stands.tags.marks p.x) ∙ ap (λ (s : StatusCode). marks_or s (marks_of p.notes (region p) (index p))) (sym (can_post p).status)
+-- its flags are those of its place
+flagged : (p : PostCall) → flags_in (command p) ≡ flags_or (cqe_of p).status (flags_of p.notes (region p) (index p))
+flagged p = (ready_in p).flags ∙ of_item p (HasFlags p.notes) (p.stands.tags.flags p.x) ∙ ap (λ (s : StatusCode). flags_or s (flags_of p.notes (region p) (index p))) (sym (can_post p).status)
 
 pub stands_after : (p : PostCall) → StandsAt p.rules p.late (notes_after p) (controller_after p) p.new
 stands_after p = record {
@@ -330,7 +330,7 @@ stands_after p = record {
 }
 
 pub posted_call : (p : PostCall)
-    → HasPosted p.rules p.late p.notes p.cqid (cq_at p.c.cqs p.cqid).ring.tail (cqe_of p) (command p).cookie (marks_in (command p)) (controller_after p) p.new
+    → HasPosted p.rules p.late p.notes p.cqid (cq_at p.c.cqs p.cqid).ring.tail (cqe_of p) (command p).cookie (flags_in (command p)) (controller_after p) p.new
 posted_call p = record {
   x = p.x;
   is_open = sym (p.stands.holds.lives.cqs p.cqid) ∙ p.life;
@@ -339,7 +339,7 @@ posted_call p = record {
   queue = (is_ready p).queue ∙ ap (λ (q : ℕ). Some q) (sym (ready_in p).sqid);
   slot_is = (counts_before p).tail_is ∙ ap (λ (n : ℕ). length (posted_to (past_of p) p.x) % n) ((p.stands.numbers.cqs p.cqid p.x p.life).slots ∙ sym (p.stands.holds.tabled.cq_slots p.x));
   kept = kept p;
-  marked = marked p;
+  flagged = flagged p;
   through = is_done p;
   stands = stands_after p;
 }
@@ -354,14 +354,14 @@ none_open c slots cqid none = subst (λ (s : CqState). IsChain slots s.ready [])
 
 pub call_posts : (rules : FrontRules) (late : Bool) (notes : Notes) (c : Controller) (slots : List Slot) (cqid tag : ℕ) (cq : CqState) (free : Chain) (new : List Slot)
     → StandsAt rules late notes c slots → HasDone (cq_at c.cqs cqid) c.free slots (freed slots tag) tag cq free new
-    → HasPosted rules late notes cqid (cq_at c.cqs cqid).ring.tail (completion_of c (slot_at slots tag) ((cq_at c.cqs cqid).phase == 1)) (slot_at slots tag).cookie (marks_in (slot_at slots tag)) (left_by c slots cqid tag cq free) new
+    → HasPosted rules late notes cqid (cq_at c.cqs cqid).ring.tail (completion_of c (slot_at slots tag) ((cq_at c.cqs cqid).phase == 1)) (slot_at slots tag).cookie (flags_in (slot_at slots tag)) (left_by c slots cqid tag cq free) new
 call_posts rules late notes c slots cqid tag cq free new stands did = by (stands.content.cq_life cqid) refl where
   on : (x : ℕ) → stands.content.cq_life cqid ≡ Some x → (items : List ReadyItem) → stands.items.readies x ≡ items
-      → HasPosted rules late notes cqid (cq_at c.cqs cqid).ring.tail (completion_of c (slot_at slots tag) ((cq_at c.cqs cqid).phase == 1)) (slot_at slots tag).cookie (marks_in (slot_at slots tag)) (left_by c slots cqid tag cq free) new
+      → HasPosted rules late notes cqid (cq_at c.cqs cqid).ring.tail (completion_of c (slot_at slots tag) ((cq_at c.cqs cqid).phase == 1)) (slot_at slots tag).cookie (flags_in (slot_at slots tag)) (left_by c slots cqid tag cq free) new
   on x life [] e = absurd (did.some (subst (λ (items : List ReadyItem). IsChain slots (cq_at c.cqs cqid).ready (ready_tags items)) e (stands.has.ready_chain cqid x life)))
   on x life (item ∷ rest) e =
       let same : item.tag ≡ tag = did.first item.tag (ready_tags rest) (subst (λ (items : List ReadyItem). IsChain slots (cq_at c.cqs cqid).ready (ready_tags items)) e (stands.has.ready_chain cqid x life)) in
-      subst (λ (z : ℕ). HasPosted rules late notes cqid (cq_at c.cqs cqid).ring.tail (completion_of c (slot_at slots z) ((cq_at c.cqs cqid).phase == 1)) (slot_at slots z).cookie (marks_in (slot_at slots z)) (left_by c slots cqid z cq free) new) same
+      subst (λ (z : ℕ). HasPosted rules late notes cqid (cq_at c.cqs cqid).ring.tail (completion_of c (slot_at slots z) ((cq_at c.cqs cqid).phase == 1)) (slot_at slots z).cookie (flags_in (slot_at slots z)) (left_by c slots cqid z cq free) new) same
       (posted_call (record {
         rules = rules;
         late = late;
@@ -382,7 +382,7 @@ call_posts rules late notes c slots cqid tag cq free new stands did = by (stands
       }))
 
   by : (o : Option ℕ) → stands.content.cq_life cqid ≡ o
-      → HasPosted rules late notes cqid (cq_at c.cqs cqid).ring.tail (completion_of c (slot_at slots tag) ((cq_at c.cqs cqid).phase == 1)) (slot_at slots tag).cookie (marks_in (slot_at slots tag)) (left_by c slots cqid tag cq free) new
+      → HasPosted rules late notes cqid (cq_at c.cqs cqid).ring.tail (completion_of c (slot_at slots tag) ((cq_at c.cqs cqid).phase == 1)) (slot_at slots tag).cookie (flags_in (slot_at slots tag)) (left_by c slots cqid tag cq free) new
   by None closed = absurd (did.some (none_open c slots cqid (stands.numbers.no_cqs cqid closed)))
   by (Some x) life = on x life (stands.items.readies x) refl
 
@@ -392,7 +392,7 @@ pub steps_post : (rules : FrontRules) (late : Bool) (notes : Notes) (c put count
     → old ≡ cq_at c.cqs cqid → command ≡ slot_at slots tag → cqe ≡ completion_of c command (old.phase == 1) → put ≡ record c { cqs = slice_set c.cqs cqid cq }
     → counted ≡ counted_post put command → pool ≡ put_item slots tag (record command { state = 0 })
     → HasDone old counted.free slots pool tag cq free new → StandsAt rules late notes c slots
-    → HasPosted rules late notes cqid old.ring.tail cqe command.cookie (marks_in command) (record counted { free = free }) new
+    → HasPosted rules late notes cqid old.ring.tail cqe command.cookie (flags_in command) (record counted { free = free }) new
 steps_post rules late notes c put counted slots pool cqid tag old cq command free new cqe is_old is_command is_cqe is_put is_counted is_pool did stands =
     let first : cqe ≡ completion_of c (slot_at slots tag) ((cq_at c.cqs cqid).phase == 1) = is_cqe ∙ (λ j. completion_of c (is_command j) ((is_old j).phase == 1)) in
     let left : counted ≡ counted_post (record c { cqs = slice_set c.cqs cqid cq }) (slot_at slots tag) = is_counted ∙ (λ j. counted_post (is_put j) (is_command j)) in
@@ -401,8 +401,8 @@ steps_post rules late notes c put counted slots pool cqid tag old cq command fre
     subst (λ (o : CqState). HasDone o c.free slots (freed slots tag) tag cq free new) is_old
     (subst (λ (b : Chain). HasDone old b slots (freed slots tag) tag cq free new) (ap (λ (k : Controller). k.free) left)
     (subst (λ (q : List Slot). HasDone old counted.free slots q tag cq free new) pools did)) in
-    subst (λ (t : ℕ). HasPosted rules late notes cqid t cqe command.cookie (marks_in command) (record counted { free = free }) new) (sym (ap (λ (o : CqState). o.ring.tail) is_old))
-    (subst (λ (s : Slot). HasPosted rules late notes cqid (cq_at c.cqs cqid).ring.tail cqe s.cookie (marks_in s) (record counted { free = free }) new) (sym is_command)
-    (subst (λ (q : Cqe). HasPosted rules late notes cqid (cq_at c.cqs cqid).ring.tail q (slot_at slots tag).cookie (marks_in (slot_at slots tag)) (record counted { free = free }) new) (sym first)
-    (subst (λ (k : Controller). HasPosted rules late notes cqid (cq_at c.cqs cqid).ring.tail (completion_of c (slot_at slots tag) ((cq_at c.cqs cqid).phase == 1)) (slot_at slots tag).cookie (marks_in (slot_at slots tag)) (record k { free = free }) new) (sym left)
+    subst (λ (t : ℕ). HasPosted rules late notes cqid t cqe command.cookie (flags_in command) (record counted { free = free }) new) (sym (ap (λ (o : CqState). o.ring.tail) is_old))
+    (subst (λ (s : Slot). HasPosted rules late notes cqid (cq_at c.cqs cqid).ring.tail cqe s.cookie (flags_in s) (record counted { free = free }) new) (sym is_command)
+    (subst (λ (q : Cqe). HasPosted rules late notes cqid (cq_at c.cqs cqid).ring.tail q (slot_at slots tag).cookie (flags_in (slot_at slots tag)) (record counted { free = free }) new) (sym first)
+    (subst (λ (k : Controller). HasPosted rules late notes cqid (cq_at c.cqs cqid).ring.tail (completion_of c (slot_at slots tag) ((cq_at c.cqs cqid).phase == 1)) (slot_at slots tag).cookie (flags_in (slot_at slots tag)) (record k { free = free }) new) (sym left)
     (call_posts rules late notes c slots cqid tag cq free new stands done))))

@@ -9,7 +9,7 @@ use Rattle.nvme_log.specs.Answers.{Answer}
 use Rattle.nvme_log.specs.Completions.{is_posted}
 use Rattle.nvme_log.specs.Dispatches.{place_at}
 use Rattle.std.specs.Prelude.{is_some}
-use Rattle.nvme_ctrl.specs.Notes.{Notes, Note, Logged, Tail, Head, Kept, Passed, Taken, Answered, Marked, Held, Classed, EachNote, logged}
+use Rattle.nvme_ctrl.specs.Notes.{Notes, Note, Logged, Tail, Head, Kept, Passed, Taken, Answered, Flagged, Held, Classed, EachNote, logged}
 use Rattle.nvme_ctrl.specs.Tags.{answer_of, is_through}
 use Rattle.nvme_ctrl.specs.Account.{IsLawful}
 
@@ -39,7 +39,7 @@ served-on (Head c slot) notes place (inl h) = inl h
 served-on (Kept r i cookie) notes place (inl h) = inl h
 served-on (Passed i) notes place (inl h) = inl h
 served-on (Taken tag r i) notes place (inl h) = inl h
-served-on (Marked r i marks) notes place (inl h) = inl h
+served-on (Flagged r i flags) notes place (inl h) = inl h
 served-on (Held q on) notes place (inl h) = inl h
 served-on (Classed q class) notes place (inl h) = inl h
 served-on (Answered r i answer) notes place (inl h) = inl h
@@ -53,7 +53,7 @@ served-on (Head c slot) notes place (inr h) = inr (record { answer = h.answer; a
 served-on (Kept r i cookie) notes place (inr h) = inr (record { answer = h.answer; answered = h.answered })
 served-on (Passed i) notes place (inr h) = inr (record { answer = h.answer; answered = h.answered })
 served-on (Taken tag r i) notes place (inr h) = inr (record { answer = h.answer; answered = h.answered })
-served-on (Marked r i marks) notes place (inr h) = inr (record { answer = h.answer; answered = h.answered })
+served-on (Flagged r i flags) notes place (inr h) = inr (record { answer = h.answer; answered = h.answered })
 served-on (Held q on) notes place (inr h) = inr (record { answer = h.answer; answered = h.answered })
 served-on (Classed q class) notes place (inr h) = inr (record { answer = h.answer; answered = h.answered })
 

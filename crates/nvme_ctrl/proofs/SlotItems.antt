@@ -5,7 +5,7 @@ use Rattle.std.proofs.lemmas.Bool.{cases_eq, eq-eqb, ne_eqb}
 use Rattle.std.proofs.lemmas.List.Elements.{All-nil, All-cons, All-head, All-tail}
 use Rattle.nvme_ctrl.specs.declared.slot.Slot.{Slot}
 use Rattle.nvme_ctrl.specs.kept.Kept.{Item, ReadyItem, IsWaitingIn, IsOutIn, IsReadyIn, ready_state, is_free}
-use Rattle.nvme_ctrl.specs.kept.Pool.{slot_at, item_at, marks_in}
+use Rattle.nvme_ctrl.specs.kept.Pool.{slot_at, item_at, flags_in}
 
 -- ---- lists
 -- what follows from two things that hold of all of a list
@@ -88,7 +88,7 @@ module _ (slots new : List Slot) (tag : ℕ) (size : length new ≡ length slots
         sc = ap (λ (s : Slot). s.sc) same ∙ h.sc;
         dw0 = ap (λ (s : Slot). s.dw0) same ∙ h.dw0;
         not_both = h.not_both;
-        marks = ap marks_in same ∙ h.marks;
+        flags = ap flags_in same ∙ h.flags;
       }
 
   -- a slot that doesn't wait is left by a change to one that does, and so by the states

@@ -22,12 +22,12 @@ use Rattle.nvme_log.proofs.Members.{IsIn, in-append_left}
 use Rattle.nvme_log.proofs.PostCounts.{times_at, own-place, fetched_places, posted_places, fetched-times, posted-times}
 use Rattle.nvme_log.proofs.Posts.{posts_of-none}
 use Rattle.nvme_log.proofs.Prefixes.{fetched-after}
-use Rattle.nvme_ctrl.specs.Notes.{Notes, Logged, Taken, Marked, EachNote, logged}
-use Rattle.nvme_ctrl.specs.Tags.{all_fetches, all_posts, handed, taken, marks_of, is_passed, answers}
+use Rattle.nvme_ctrl.specs.Notes.{Notes, Logged, Taken, Flagged, EachNote, logged}
+use Rattle.nvme_ctrl.specs.Tags.{all_fetches, all_posts, handed, taken, flags_of, is_passed, answers}
 use Rattle.nvme_ctrl.specs.Account.{IsLawful, IsAccount, PostsAnswer}
 use Rattle.nvme_ctrl.specs.Deletions.{deleting, FollowsDeletions}
 use Rattle.nvme_ctrl.specs.StepCounts.{steps, StepsAreFew}
-use Rattle.nvme_ctrl.specs.declared.marks.Marks.{Marks}
+use Rattle.nvme_ctrl.specs.declared.status_flags.StatusFlags.{StatusFlags}
 use Rattle.nvme_ctrl.proofs.Accounted.{one_completion_each}
 use Rattle.nvme_ctrl.proofs.Noted.{each-event}
 use Rattle.nvme_ctrl.proofs.ShownPicks.{picks-take}
@@ -181,53 +181,53 @@ takes-are_few rules notes h =
     omega (arith, few, whole, sum)
 
 -- ---- what the device answers
--- the places that it marked
-abbrev marked : Notes → List Place
-marked [] = []
-marked (Marked r i marks ∷ notes) = place_at r i ∷ marked notes
-marked (note ∷ notes) = marked notes
+-- the places that it flagged
+abbrev flagged : Notes → List Place
+flagged [] = []
+flagged (Flagged r i flags ∷ notes) = place_at r i ∷ flagged notes
+flagged (note ∷ notes) = flagged notes
 
-marked-times : (rules : FrontRules) (notes : Notes) → EachNote (IsLawful rules) notes → (r i : ℕ) → times_at r i (marked notes) ≤ one_if (is_some (marks_of notes r i))
-marked-times rules [] h r i = omega arith
-marked-times rules (Marked region index marks ∷ notes) h r i =
-    let before = marked-times rules notes h.1 r i in
-    let cons = sum_by-cons (test r i) (place_at region index) (marked notes) in
+flagged-times : (rules : FrontRules) (notes : Notes) → EachNote (IsLawful rules) notes → (r i : ℕ) → times_at r i (flagged notes) ≤ one_if (is_some (flags_of notes r i))
+flagged-times rules [] h r i = omega arith
+flagged-times rules (Flagged region index flags ∷ notes) h r i =
+    let before = flagged-times rules notes h.1 r i in
+    let cons = sum_by-cons (test r i) (place_at region index) (flagged notes) in
     elim (cases_Bool (region == r && index == i)) [
       | inl here ↦
-          let none : marks_of notes r i ≡ None = subst (λ (p : Place). marks_of notes p.region p.index ≡ None) (place-is (place_at region index) r i here) h.0.first in
-          let was : one_if (is_some (marks_of notes r i)) ≡ 0 = ap (λ (o : Option Marks). one_if (is_some o)) none in
-          let now : one_if (is_some (marks_of (Marked region index marks ∷ notes) r i)) ≡ 1 = rw here refl in
+          let none : flags_of notes r i ≡ None = subst (λ (p : Place). flags_of notes p.region p.index ≡ None) (place-is (place_at region index) r i here) h.0.first in
+          let was : one_if (is_some (flags_of notes r i)) ≡ 0 = ap (λ (o : Option StatusFlags). one_if (is_some o)) none in
+          let now : one_if (is_some (flags_of (Flagged region index flags ∷ notes) r i)) ≡ 1 = rw here refl in
           let one : test r i (place_at region index) ≡ 1 = ap one_if here in
           omega (arith, before, cons, was, now, one)
       | inr other ↦
-          let now : one_if (is_some (marks_of (Marked region index marks ∷ notes) r i)) ≡ one_if (is_some (marks_of notes r i)) = rw other refl in
+          let now : one_if (is_some (flags_of (Flagged region index flags ∷ notes) r i)) ≡ one_if (is_some (flags_of notes r i)) = rw other refl in
           let no : test r i (place_at region index) ≡ 0 = ap one_if other in
           omega (arith, before, cons, now, no)
     ]
-marked-times rules (note ∷ notes) h r i = marked-times rules notes h.1 r i
+flagged-times rules (note ∷ notes) h r i = flagged-times rules notes h.1 r i
 
 -- it took them before
-marked-taken : (rules : FrontRules) (notes : Notes) → EachNote (IsLawful rules) notes → (r i : ℕ) → is_some (marks_of notes r i) ≡ true → IsIn (place_at r i) (taken notes)
-marked-taken rules [] h r i is = cc is
-marked-taken rules (Marked region index marks ∷ notes) h r i is = by (region == r && index == i) refl is (marked-taken rules notes h.1 r i) where
-  by : (b : Bool) → (region == r && index == i) ≡ b → is_some (if b then Some marks else marks_of notes r i) ≡ true → (is_some (marks_of notes r i) ≡ true → IsIn (place_at r i) (taken notes))
+flagged-taken : (rules : FrontRules) (notes : Notes) → EachNote (IsLawful rules) notes → (r i : ℕ) → is_some (flags_of notes r i) ≡ true → IsIn (place_at r i) (taken notes)
+flagged-taken rules [] h r i is = cc is
+flagged-taken rules (Flagged region index flags ∷ notes) h r i is = by (region == r && index == i) refl is (flagged-taken rules notes h.1 r i) where
+  by : (b : Bool) → (region == r && index == i) ≡ b → is_some (if b then Some flags else flags_of notes r i) ≡ true → (is_some (flags_of notes r i) ≡ true → IsIn (place_at r i) (taken notes))
       → IsIn (place_at r i) (taken notes)
   by true e k earlier =
       subst (λ (p : Place). IsIn p (taken notes)) (place-is (place_at region index) r i e) (holder-taken notes h.0.by_device.tag (place_at region index) h.0.by_device.stands)
   by false e k earlier = earlier k
-marked-taken rules (Taken tag region index ∷ notes) h r i is = in-append_left (place_at r i) (taken notes) (place_at region index ∷ []) (marked-taken rules notes h.1 r i is)
-marked-taken rules (note ∷ notes) h r i is = marked-taken rules notes h.1 r i is
+flagged-taken rules (Taken tag region index ∷ notes) h r i is = in-append_left (place_at r i) (taken notes) (place_at region index ∷ []) (flagged-taken rules notes h.1 r i is)
+flagged-taken rules (note ∷ notes) h r i is = flagged-taken rules notes h.1 r i is
 
-answers-are_few : (rules : FrontRules) (notes : Notes) → IsAccount rules notes → length (marked notes) ≤ length (taken notes)
-answers-are_few rules notes h = fewer (marked notes) (taken notes) (λ r i.
-    let few = marked-times rules notes h.each r i in
-    elim (cases_Bool (is_some (marks_of notes r i))) [
+answers-are_few : (rules : FrontRules) (notes : Notes) → IsAccount rules notes → length (flagged notes) ≤ length (taken notes)
+answers-are_few rules notes h = fewer (flagged notes) (taken notes) (λ r i.
+    let few = flagged-times rules notes h.each r i in
+    elim (cases_Bool (is_some (flags_of notes r i))) [
       | inl is ↦
-          let some = times-some r i (taken notes) (marked-taken rules notes h.each r i is) in
-          let one : one_if (is_some (marks_of notes r i)) ≡ 1 = ap one_if is in
+          let some = times-some r i (taken notes) (flagged-taken rules notes h.each r i is) in
+          let one : one_if (is_some (flags_of notes r i)) ≡ 1 = ap one_if is in
           omega (arith, few, some, one)
       | inr isnt ↦
-          let none : one_if (is_some (marks_of notes r i)) ≡ 0 = ap one_if isnt in
+          let none : one_if (is_some (flags_of notes r i)) ≡ 0 = ap one_if isnt in
           omega (arith, few, none)
     ])
 
@@ -316,14 +316,14 @@ ends-are_few rules notes h =
     omega (arith, few, all, begun, changed)
 
 -- ---- all of them
-steps-are : (notes : Notes) → steps notes ≡ all_fetches (logged notes) + picks_in (logged notes) + all_posts (logged notes) + ends (logged notes) + length (taken notes) + length (marked notes)
+steps-are : (notes : Notes) → steps notes ≡ all_fetches (logged notes) + picks_in (logged notes) + all_posts (logged notes) + ends (logged notes) + length (taken notes) + length (flagged notes)
 steps-are [] = refl
 steps-are (Logged (Fetch r i entry) ∷ notes) = let rest = steps-are notes in omega (arith, rest)
 steps-are (Logged (event.Pick seen pick) ∷ notes) = let rest = steps-are notes in omega (arith, rest)
 steps-are (Logged (Post c r i cqe) ∷ notes) = let rest = steps-are notes in omega (arith, rest)
 steps-are (Logged (ClosedSq q r) ∷ notes) = let rest = steps-are notes in omega (arith, rest)
 steps-are (Taken tag r i ∷ notes) = let rest = steps-are notes in let more = length-append (taken notes) (place_at r i ∷ []) in omega (arith, rest, more)
-steps-are (Marked r i marks ∷ notes) = let rest = steps-are notes in omega (arith, rest)
+steps-are (Flagged r i flags ∷ notes) = let rest = steps-are notes in omega (arith, rest)
 steps-are (note ∷ notes) = steps-are notes
 
 pub steps_are_few : StepsAreFew

@@ -318,8 +318,8 @@ module _ (c : Controller) (slots : List Slot) (k : Content) (g : Items) (n : Has
       deletes = λ r x at. cookie_left notes slots new same x.tag (place_at 0 x.index) (t.cookies.deletes r x at);
       none = t.cookies.none;
     };
-    none_marked = t.none_marked;
-    marks = t.marks;
+    none_flagged = t.none_flagged;
+    flags = t.flags;
   }
     where
       same : SameCookies slots new

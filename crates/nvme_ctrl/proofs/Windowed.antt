@@ -31,7 +31,7 @@ use Rattle.nvme_ctrl.specs.declared.state.Controller.{Controller}
 use Rattle.nvme_ctrl.specs.kept.Content.{PendingDelete, SqContent, Content, with_sq}
 use Rattle.nvme_ctrl.specs.kept.Kept.{Item, ReadyItem, DeleteItem, Items, HasDeletions, IsSqOf, deletion_in, picked_of, picked_region, IsWaitingIn, IsOutIn, IsReadyIn, IsUnanswered, HasEntry, HasCookie, HoldsCookies, HasNumbers, HasItems, HoldsDoorbells, HoldsTags, tags_of, places_of, ready_tags, candidate_of, untaken, is_free}
 use Rattle.nvme_ctrl.specs.inside.Loose.{Keeps}
-use Rattle.nvme_ctrl.specs.kept.Pool.{slot_at, marks_in, IsChain, IsNew, SameItems, SameLinks}
+use Rattle.nvme_ctrl.specs.kept.Pool.{slot_at, flags_in, IsChain, IsNew, SameItems, SameLinks}
 use Rattle.nvme_ctrl.specs.kept.State.{no_sq_state, sq_at}
 use Rattle.nvme_ctrl.proofs.LifeLaws.{StaysIn}
 use Rattle.nvme_ctrl.proofs.Passed.{passed_left}
@@ -184,7 +184,7 @@ module _ (rules : FrontRules) (notes : Notes) (a : Controller) (slots : List Slo
     sc = ap (λ (y : Slot). y.sc) e ∙ w.sc;
     dw0 = ap (λ (y : Slot). y.dw0) e ∙ w.dw0;
     not_both = w.not_both;
-    marks = ap marks_in e ∙ w.marks;
+    flags = ap flags_in e ∙ w.flags;
   }
 
   had_state : (x n : ℕ) → (slot_at pool x).state ≡ n → (slot_at slots x).state ≡ n
@@ -333,8 +333,8 @@ module _ (rules : FrontRules) (notes : Notes) (a : Controller) (slots : List Slo
     free_count = m.free_count ∙ ap (λ (n : ℕ). n + all_posts (logged notes)) (sym same.size);
     cookies = cookies_after;
     passed = passed_left notes g later (λ x. refl) refl m.passed;
-    none_marked = m.none_marked;
-    marks = m.marks;
+    none_flagged = m.none_flagged;
+    flags = m.flags;
   } where
     left : SameCookies slots pool
     left = same_cookies slots pool same
@@ -431,8 +431,8 @@ keeps_outstanding rules notes a slots k g board v n m h is arbiter same = record
     free_count = m.free_count;
     cookies = m.cookies;
     passed = m.passed;
-    none_marked = m.none_marked;
-    marks = m.marks;
+    none_flagged = m.none_flagged;
+    flags = m.flags;
   });
   apart = h.apart;
 }
@@ -513,8 +513,8 @@ keeps_table rules notes a slots k g table t h tells stays = record {
     free_count = m.free_count;
     cookies = m.cookies;
     passed = m.passed;
-    none_marked = m.none_marked;
-    marks = m.marks;
+    none_flagged = m.none_flagged;
+    flags = m.flags;
   });
   apart = h.apart;
 }

@@ -12,7 +12,7 @@ use Rattle.nvme_log.specs.declared.event.Event.{Event}
 use Rattle.nvme_entry.specs.declared.submission.Sqe.{Sqe}
 use Rattle.nvme_log.specs.Completions.{own_status, own_dw0}
 use Rattle.nvme_log.specs.Examples.{two_slots, one_deletion, create_cq, get_arbitration, admin_picked, admin_posted, read, done, admin_seen, reads_seen, picked_of}
-use Rattle.nvme_ctrl.specs.Notes.{logged, Logged, Tail, Head, Kept, Taken, Answered, Marked}
+use Rattle.nvme_ctrl.specs.Notes.{logged, Logged, Tail, Head, Kept, Taken, Answered, Flagged}
 use Rattle.nvme_ctrl.specs.Tags.{is_place}
 use Rattle.nvme_ctrl.specs.Account.{IsLawful}
 use Rattle.nvme_ctrl.specs.Examples.{told, three_of_four, four_fetched, first_picked, first_answered, first_posted, third_answered, succeeded, out_of_range, create_picked, reads_submitted, reads_waiting, read_picked, read_taken, delete_begun, aborts_posted, read_answered, reads_posted, not_retried, more_told, two_deletions, two_closing, third_served, second_gone}
@@ -156,22 +156,22 @@ finished_early h = let e : false ≡ true = h.deletes.2 in cc e
 pub finished_other : IsLawful two_deletions third_served (Logged (ClosedSq 1 2)) → ⊥
 finished_other h = let e : 2 ≡ 1 = same_Some 2 1 h.deletes.1 in omega (arith, e)
 
--- ---- marks
-pub marked_twice : IsLawful one_deletion (Marked 1 0 not_retried ∷ read_answered) (Marked 1 0 more_told) → ⊥
-marked_twice h = cc h.first
+-- ---- flags
+pub flagged_twice : IsLawful one_deletion (Flagged 1 0 not_retried ∷ read_answered) (Flagged 1 0 more_told) → ⊥
+flagged_twice h = cc h.first
 
-pub marked_unanswered : IsLawful one_deletion read_taken (Marked 1 0 not_retried) → ⊥
-marked_unanswered h = cc h.answered
+pub flagged_unanswered : IsLawful one_deletion read_taken (Flagged 1 0 not_retried) → ⊥
+flagged_unanswered h = cc h.answered
 
-pub marked_own : IsLawful two_slots first_answered (Marked 0 0 not_retried) → ⊥
-marked_own h = cc h.by_device.stands
+pub flagged_own : IsLawful two_slots first_answered (Flagged 0 0 not_retried) → ⊥
+flagged_own h = cc h.by_device.stands
 
 -- a tag that a post gives back
 abbrev given_back : ℕ → ℕ → Option Place → Option Place
 given_back r i held = if is_place r i held then None else held
 
-pub marked_posted : IsLawful one_deletion reads_posted (Marked 1 0 not_retried) → ⊥
-marked_posted h = by (7 == h.by_device.tag) h.by_device.stands where
+pub flagged_posted : IsLawful one_deletion reads_posted (Flagged 1 0 not_retried) → ⊥
+flagged_posted h = by (7 == h.by_device.tag) h.by_device.stands where
   by : (b : Bool) → given_back 1 0 (given_back 1 2 (given_back 1 1 (if b then Some (place_at 1 0) else None))) ≡ Some (place_at 1 0) → ⊥
   by true lost = cc lost
   by false lost = cc lost

@@ -23,12 +23,12 @@ use Rattle.nvme_log.specs.Account.{IndexCounts, ServedWhileOpen, PostsOwnBy}
 use Rattle.nvme_arbiter.specs.Limits.{queue_limit}
 use Rattle.nvme_log.specs.Rules.{upto}
 use Rattle.nvme_log.specs.Aborts.{is_index, just_picked}
-use Rattle.nvme_ctrl.specs.Notes.{Notes, Note, Logged, Tail, Head, Kept, Passed, Taken, Answered, Marked, Held, Classed, EachNote, logged}
+use Rattle.nvme_ctrl.specs.Notes.{Notes, Note, Logged, Tail, Head, Kept, Passed, Taken, Answered, Flagged, Held, Classed, EachNote, logged}
 use Rattle.nvme_ctrl.specs.Doorbells.{sq_slots, cq_slots, submitted, consumed}
 use Rattle.nvme_ctrl.specs.Own.{may_be_own, before_pick}
 use Rattle.nvme_ctrl.specs.Observation.{observed_of}
 use Rattle.nvme_ctrl.specs.Deletions.{DeletesNone, FollowsDeletions}
-use Rattle.nvme_ctrl.specs.Tags.{is_passed, is_of_device, handed, taken, holder, answer_of, cookie_of, marks_of, answers, is_through}
+use Rattle.nvme_ctrl.specs.Tags.{is_passed, is_of_device, handed, taken, holder, answer_of, cookie_of, flags_of, answers, is_through}
 
 -- ---- events
 -- a fetch takes a command that the host submitted (Submission Queue y Tail Doorbell)
@@ -138,9 +138,9 @@ pub record IsAnswer (rules : FrontRules) (notes : Notes) (r i : ℕ) (answer : A
   pub first : answer_of notes r i ≡ None
   pub executed : MatchBool (is_of_device notes r i) (HasTag notes r i) (IsCarriedOut rules notes i answer)
 
--- the device marks a completion once: that of a command that it has and answered
-pub record IsMarked (notes : Notes) (r i : ℕ) : Type 0 where
-  pub first : marks_of notes r i ≡ None
+-- the device flags a completion once: that of a command that it has and answered
+pub record IsFlagged (notes : Notes) (r i : ℕ) : Type 0 where
+  pub first : flags_of notes r i ≡ None
   pub answered : is_some (answer_of notes r i) ≡ true
   pub by_device : HasTag notes r i
 
@@ -165,7 +165,7 @@ IsLawful rules notes (Kept r i cookie) = IsKept notes r i
 IsLawful rules notes (Passed i) = IsPassed notes i
 IsLawful rules notes (Taken tag r i) = IsTaken notes tag r i
 IsLawful rules notes (Answered r i answer) = IsAnswer rules notes r i answer
-IsLawful rules notes (Marked r i marks) = IsMarked notes r i
+IsLawful rules notes (Flagged r i flags) = IsFlagged notes r i
 IsLawful rules notes (Held q on) = MayBeHeld notes q
 IsLawful rules notes (Classed q class) = MayBeClassed notes q class
 

@@ -10,12 +10,12 @@ use Rattle.nvme_log.specs.Places.{fetched, waiting, entry_at}
 use Rattle.nvme_log.specs.declared.place.Place.{Place}
 use Rattle.nvme_log.specs.Completions.{posted_to, unposted_of}
 use Rattle.nvme_log.specs.Answers.{Answer}
-use Rattle.nvme_ctrl.specs.Notes.{Notes, Logged, Tail, Head, Kept, Taken, Answered, Marked, logged}
+use Rattle.nvme_ctrl.specs.Notes.{Notes, Logged, Tail, Head, Kept, Taken, Answered, Flagged, logged}
 use Rattle.nvme_ctrl.specs.Doorbells.{submitted, sq_slots, cq_slots}
-use Rattle.nvme_ctrl.specs.Marks.{marks_or}
-use Rattle.nvme_ctrl.specs.Tags.{holder, is_out, answer_of, cookie_of, marks_of, is_through, all_fetches, all_posts}
+use Rattle.nvme_ctrl.specs.StatusFlags.{flags_or}
+use Rattle.nvme_ctrl.specs.Tags.{holder, is_out, answer_of, cookie_of, flags_of, is_through, all_fetches, all_posts}
 use Rattle.nvme_ctrl.specs.Account.{IsTail, IsHead}
-use Rattle.nvme_ctrl.specs.declared.marks.Marks.{Marks}
+use Rattle.nvme_ctrl.specs.declared.status_flags.StatusFlags.{StatusFlags}
 use Rattle.nvme_ctrl.specs.declared.slot.Slot.{Slot}
 use Rattle.nvme_ctrl.specs.declared.state.Controller.{Controller}
 use Rattle.nvme_ctrl.specs.Standing.{Stands}
@@ -84,12 +84,12 @@ pub record HasTaken (rules : FrontRules) (late : Bool) (notes : Notes) (tag : �
   pub unanswered : answer_of notes region index ≡ None
   pub stands : Stands rules late (Taken tag region index ∷ notes) c slots
 
--- the device answers the command of a tag, and marks its completion
-pub record HasAnswered (rules : FrontRules) (late : Bool) (notes : Notes) (tag : ℕ) (answer : Answer) (marks : Marks) (c : Controller) (slots : List Slot) : Type 0 where
+-- the device answers the command of a tag, and flags its completion
+pub record HasAnswered (rules : FrontRules) (late : Bool) (notes : Notes) (tag : ℕ) (answer : Answer) (flags : StatusFlags) (c : Controller) (slots : List Slot) : Type 0 where
   pub region : ℕ
   pub index : ℕ
   pub held : holder notes tag ≡ Some (record { region = region; index = index })
-  pub stands : Stands rules late (Marked region index marks ∷ Answered region index answer ∷ notes) c slots
+  pub stands : Stands rules late (Flagged region index flags ∷ Answered region index answer ∷ notes) c slots
 
 -- a tag is that of a command that the device has: it has this command identifier, and is of the submission queue of this identifier
 pub record IsTagOf (notes : Notes) (qid cid tag : ℕ) : Type 0 where
@@ -103,8 +103,8 @@ pub record IsTagOf (notes : Notes) (qid cid tag : ℕ) : Type 0 where
 
 -- ---- completions
 -- a completion is posted to an open completion queue, into the slot that is its next, and what the caller keeps with its command is given back. It
--- has the identifier of its command's queue. Its marks are those of the device where it answered, else those of the completion's status
-pub record HasPosted (rules : FrontRules) (late : Bool) (notes : Notes) (cqid slot : ℕ) (cqe : Cqe) (cookie : ℕ) (marks : Marks) (c : Controller) (slots : List Slot) : Type 0 where
+-- has the identifier of its command's queue. Its flags are those of the device where it answered, else those of the completion's status
+pub record HasPosted (rules : FrontRules) (late : Bool) (notes : Notes) (cqid slot : ℕ) (cqe : Cqe) (cookie : ℕ) (flags : StatusFlags) (c : Controller) (slots : List Slot) : Type 0 where
   pub x : ℕ
   pub is_open : open_cq (logged notes) cqid ≡ Some x
   pub region : ℕ
@@ -112,7 +112,7 @@ pub record HasPosted (rules : FrontRules) (late : Bool) (notes : Notes) (cqid sl
   pub queue : qid_of_region (logged notes) region ≡ Some cqe.sqid
   pub slot_is : slot ≡ length (posted_to (logged notes) x) % cq_slots rules x
   pub kept : cookie_of notes region index ≡ Some cookie
-  pub marked : marks ≡ marks_or cqe.status (marks_of notes region index)
+  pub flagged : flags ≡ flags_or cqe.status (flags_of notes region index)
   -- its command was aborted or answered
   pub through : is_through notes region index ≡ true
   pub stands : Stands rules late (Logged (Post x region index cqe) ∷ notes) c slots

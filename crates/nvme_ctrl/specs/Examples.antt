@@ -19,7 +19,7 @@ use Rattle.nvme_arbiter.specs.declared.settings.Mechanism.TheVariants.{Weighted}
 use Rattle.nvme_arbiter.specs.declared.pick.Seen.{Seen}
 use Rattle.nvme_arbiter.specs.declared.pick.Pick.{Pick}
 use Rattle.nvme_arbiter.specs.Settings.{settings_of}
-use Rattle.nvme_ctrl.specs.declared.marks.Marks.{Marks}
+use Rattle.nvme_ctrl.specs.declared.status_flags.StatusFlags.{StatusFlags}
 
 -- ---- four commands whose completions pass a ring of two slots twice
 -- the settings of the Arbitration feature, as an answer
@@ -291,14 +291,14 @@ both_gone =
     ∷ Answered 0 4 succeeded
     ∷ Logged (ClosedSq 1 1) ∷ first_left
 
--- ---- marks
-abbrev pub unmarked : Marks
-unmarked = record { more = false; do_not_retry = false }
+-- ---- flags
+abbrev pub unflagged : StatusFlags
+unflagged = record { more = false; do_not_retry = false }
 
-abbrev pub not_retried : Marks
+abbrev pub not_retried : StatusFlags
 not_retried = record { more = false; do_not_retry = true }
 
-abbrev pub more_told : Marks
+abbrev pub more_told : StatusFlags
 more_told = record { more = true; do_not_retry = false }
 
 -- ---- an admin command that is the device's

@@ -1,6 +1,6 @@
 pub mod Notes
 pub mod Doorbells
-pub mod Marks
+pub mod StatusFlags
 pub mod Tags
 pub mod Rings
 pub mod Generations
@@ -14,6 +14,7 @@ pub mod inside
 pub mod Standing
 pub mod Calls
 pub mod Posts
+pub mod NextQueue
 pub mod Steps
 pub mod Making
 pub mod Ranges

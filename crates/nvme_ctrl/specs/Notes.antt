@@ -5,7 +5,7 @@ use Rattle.nvme_arbiter.specs.declared.settings.Class.{Class}
 use Rattle.nvme_log.specs.declared.event.Event.{Event}
 use Rattle.nvme_log.specs.Rules.{Past}
 use Rattle.nvme_log.specs.Answers.{Answer}
-use Rattle.nvme_ctrl.specs.declared.marks.Marks.{Marks}
+use Rattle.nvme_ctrl.specs.declared.status_flags.StatusFlags.{StatusFlags}
 
 pub data Note : Type 0 where
   -- the controller did a step that the log of a front has too: a fetch, a pick, what an admin command makes, a post, the end of a deletion
@@ -22,8 +22,8 @@ pub data Note : Type 0 where
   Taken : (tag r i : ℕ) → Note
   -- a picked command was answered: one of an I/O queue or one that was passed on by the device, any other admin command by the controller
   Answered : (r i : ℕ) (answer : Answer) → Note
-  -- the device marks the completion of a command that it answered (Status Field: More, Do Not Retry)
-  Marked : (r i : ℕ) (marks : Marks) → Note
+  -- the device flags the completion of a command that it answered (Status Field: More, Do Not Retry)
+  Flagged : (r i : ℕ) (flags : StatusFlags) → Note
   -- the device holds an open submission queue, which leaves it out of arbitration, or holds it no longer (profile)
   Held : (q : ℕ) (on : Bool) → Note
   -- the device gives an open submission queue another priority class than it had (profile)

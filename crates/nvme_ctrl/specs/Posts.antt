@@ -7,9 +7,9 @@ use Rattle.nvme_log.specs.Completions.{is_posted, posted_to}
 use Rattle.nvme_ctrl.specs.Notes.{Notes, logged}
 use Rattle.nvme_ctrl.specs.Doorbells.{gap, cq_slots, consumed}
 use Rattle.nvme_ctrl.specs.Tags.{is_through}
-use Rattle.nvme_ctrl.specs.kept.Pool.{slot_at, marks_in}
+use Rattle.nvme_ctrl.specs.kept.Pool.{slot_at, flags_in}
 use Rattle.nvme_ctrl.specs.kept.State.{sq_at, cq_at}
-use Rattle.nvme_ctrl.specs.declared.marks.Marks.{Marks}
+use Rattle.nvme_ctrl.specs.declared.status_flags.StatusFlags.{StatusFlags}
 use Rattle.nvme_ctrl.specs.declared.posts.Post.{Post}
 use Rattle.nvme_ctrl.specs.declared.ring.Ring.{Ring}
 use Rattle.nvme_ctrl.specs.declared.slot.Slot.{Slot}
@@ -28,12 +28,12 @@ AllPosted notes x = (r i : ℕ) → cq_region_of (logged notes) r ≡ Some x →
 abbrev pub NonePostable : FrontRules → Notes → ℕ → Type 0
 NonePostable rules notes x = IsFullRing rules notes x ⊎ AllPosted notes x
 
--- a completion is that of the command in a slot, with what the caller kept with it, and its marks
-pub record IsPostOf (command : Slot) (cqe : Cqe) (cookie : ℕ) (marks : Marks) : Type 0 where
+-- a completion is that of the command in a slot, with what the caller kept with it, and its flags
+pub record IsPostOf (command : Slot) (cqe : Cqe) (cookie : ℕ) (flags : StatusFlags) : Type 0 where
   pub cid : cqe.cid ≡ command.entry.cid
   pub dw0 : cqe.dw0 ≡ command.dw0
   pub cookie_is : cookie ≡ command.cookie
-  pub marks_are : marks ≡ marks_in command
+  pub flags_are : flags ≡ flags_in command
 
 -- ---- what is posted next
 -- the completion queue entry of a command (Completion Queue Entry)
@@ -58,7 +58,7 @@ first_post c slots cq = record {
   cqe = completion_of c (slot_at slots cq.ready.first) (cq.phase == 1);
   tag = cq.ready.first;
   cookie = (slot_at slots cq.ready.first).cookie;
-  marks = marks_in (slot_at slots cq.ready.first);
+  flags = flags_in (slot_at slots cq.ready.first);
 }
 
 -- the next post to a completion queue in a state: none where its ring is full, and where no command is ready

@@ -2,7 +2,7 @@
 use Rattle.std.specs.Prelude.{ℕ, ◌+◌, ◌*◌, ◌≤◌, [], ◌∷◌}
 use Rattle.nvme_log.specs.declared.event.Event.TheVariants.{Fetch, Pick, Post, ClosedSq}
 use Rattle.nvme_log.specs.Rules.{FrontRules}
-use Rattle.nvme_ctrl.specs.Notes.{Notes, Logged, Taken, Marked, logged}
+use Rattle.nvme_ctrl.specs.Notes.{Notes, Logged, Taken, Flagged, logged}
 use Rattle.nvme_ctrl.specs.Tags.{all_fetches}
 use Rattle.nvme_ctrl.specs.Account.{IsAccount}
 
@@ -14,7 +14,7 @@ steps (Logged (Pick seen pick) ∷ notes) = steps notes + 1
 steps (Logged (Post c r i cqe) ∷ notes) = steps notes + 1
 steps (Logged (ClosedSq q r) ∷ notes) = steps notes + 1
 steps (Taken tag r i ∷ notes) = steps notes + 1
-steps (Marked r i marks ∷ notes) = steps notes + 1
+steps (Flagged r i flags ∷ notes) = steps notes + 1
 steps (note ∷ notes) = steps notes
 
 abbrev pub steps_each : ℕ

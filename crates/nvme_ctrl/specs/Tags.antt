@@ -1,4 +1,4 @@
--- The commands that the device has, their tags, their answers and their marks, and what the caller keeps with them.
+-- The commands that the device has, their tags, their answers and their flags, and what the caller keeps with them.
 -- (Base Specification, Completion Queue Entry; tags: profile)
 use Rattle.std.specs.Prelude.{ℕ, ◌+◌, ◌==◌, ◌&&◌, ◌||◌, Bool, false, not, if◌then◌else◌, List, [], ◌∷◌, ◌++◌, Option, Some, None, is_none, is_some}
 use Rattle.nvme_entry.specs.Status.{success}
@@ -9,8 +9,8 @@ use Rattle.nvme_log.specs.declared.place.Place.{Place}
 use Rattle.nvme_log.specs.Queues.{open_sq}
 use Rattle.nvme_log.specs.Dispatches.{place_at, dispatched_by}
 use Rattle.nvme_log.specs.Answers.{Answer, Answers}
-use Rattle.nvme_ctrl.specs.Notes.{Notes, Logged, Kept, Passed, Taken, Answered, Marked, logged}
-use Rattle.nvme_ctrl.specs.declared.marks.Marks.{Marks}
+use Rattle.nvme_ctrl.specs.Notes.{Notes, Logged, Kept, Passed, Taken, Answered, Flagged, logged}
+use Rattle.nvme_ctrl.specs.declared.status_flags.StatusFlags.{StatusFlags}
 
 -- an admin command was passed on to the device
 abbrev pub is_passed : Notes → ℕ → Bool
@@ -90,8 +90,8 @@ answers notes place = answer_or (answer_of notes place.region place.index)
 abbrev pub is_through : Notes → ℕ → ℕ → Bool
 is_through notes r i = is_aborted (logged notes) r i || is_some (answer_of notes r i)
 
--- the marks that the device gave the completion of a place
-abbrev pub marks_of : Notes → ℕ → ℕ → Option Marks
-marks_of [] r i = None
-marks_of (Marked region index marks ∷ notes) r i = if region == r && index == i then Some marks else marks_of notes r i
-marks_of (note ∷ notes) r i = marks_of notes r i
+-- the flags that the device gave the completion of a place
+abbrev pub flags_of : Notes → ℕ → ℕ → Option StatusFlags
+flags_of [] r i = None
+flags_of (Flagged region index flags ∷ notes) r i = if region == r && index == i then Some flags else flags_of notes r i
+flags_of (note ∷ notes) r i = flags_of notes r i

@@ -1,7 +1,7 @@
 // The commands that the device takes, and its answers. (tags: profile)
-use crate::marks::{Marks, bit};
-use crate::slot::{ANSWERED, OUT, Slot, put_item, slot_at};
+use crate::slot::{ANSWERED, OUT, Slot, put_item, put_out, slot_at};
 use crate::state::Controller;
+use crate::status_flags::{StatusFlags, bit};
 use nvme_entry::Status;
 
 /// What the device answers to a command.
@@ -10,8 +10,8 @@ pub struct Answer {
     pub status: Status,
     /// Dword 0 of the completion.
     pub dw0: u32,
-    /// The marks of the completion.
-    pub marks: Marks,
+    /// The flags of the completion.
+    pub flags: StatusFlags,
 }
 
 impl Controller {
@@ -45,17 +45,7 @@ impl Controller {
         let mut sq = self.sq(qid);
         let tag = sq.window.pop(slots)?;
         self.put_sq(qid, sq);
-        let slot = slot_at(slots, tag);
-        let generation = slot.generation.wrapping_add(1);
-        put_item(
-            slots,
-            tag,
-            Slot {
-                state: OUT,
-                generation,
-                ..slot
-            },
-        );
+        put_out(slots, tag);
         self.picked -= 1;
         Some(tag)
     }
@@ -70,7 +60,7 @@ impl Controller {
         ensures generations { SameGenerations slots.old slots.new }
         ensures own { own_of self.new ≡ own_of self.old }
         ensures answer { (rules : FrontRules) (late : Bool) (notes : Notes) → Stands rules late notes self.old slots.old → result ≡ is_out notes tag }
-        ensures stands { (rules : FrontRules) (late : Bool) (notes : Notes) → Stands rules late notes self.old slots.old → result ≡ true → HasAnswered rules late notes tag (record { status = answer.status; dw0 = answer.dw0 }) answer.marks self.new slots.new }
+        ensures stands { (rules : FrontRules) (late : Bool) (notes : Notes) → Stands rules late notes self.old slots.old → result ≡ true → HasAnswered rules late notes tag (record { status = answer.status; dw0 = answer.dw0 }) answer.flags self.new slots.new }
     {
         let slot = slot_at(slots, tag);
         if slot.state != OUT {
@@ -84,8 +74,8 @@ impl Controller {
                 sct: answer.status.sct,
                 sc: answer.status.sc,
                 dw0: answer.dw0,
-                more: bit(answer.marks.more),
-                do_not_retry: bit(answer.marks.do_not_retry),
+                more: bit(answer.flags.more),
+                do_not_retry: bit(answer.flags.do_not_retry),
                 ..slot
             },
         );

@@ -4,10 +4,10 @@ ghost use Rattle.nvme_entry.specs.AdminCommand.{admin_command_of};
 ghost use Rattle.nvme_ctrl.specs.Making.{slots_asked};
 
 use crate::board_counts::{hide, show_empty, went};
-use crate::marks::{Marks, bit};
 use crate::ring::Ring;
 use crate::slot::{DELETING, DROPPED, ENDED, Slot, put_item, slot_at};
 use crate::state::{Controller, CqState, Deletion, SqState};
+use crate::status_flags::{StatusFlags, bit};
 use nvme_admin::Effect;
 use nvme_arbiter::{Class, Settings};
 use nvme_entry::{AdminCommand, Sqe, Status, admin_of};
@@ -47,11 +47,11 @@ impl Controller {
     ghost use Rattle.nvme_ctrl.specs.Notes.{Notes};
     ghost use Rattle.nvme_ctrl.specs.kept.Content.{Candidate, Ready, Content, with_ready};
     ghost use Rattle.nvme_log.specs.Dispatches.{place_at};
-    ghost use Rattle.nvme_ctrl.specs.kept.Kept.{Item, Items, IsThrough, IsCookie, is_passed_at, IsUnmarked};
+    ghost use Rattle.nvme_ctrl.specs.kept.Kept.{Item, Items, IsThrough, IsCookie, is_passed_at, IsUnflagged};
     ghost use Rattle.nvme_ctrl.specs.inside.Loose.{IsLoose, Keeps, MakesReady, ended, with_item};
     ghost use Rattle.nvme_ctrl.specs.kept.Pool.{slot_at, item_at};
 
-    // The command of a slot ends without the device: its completion is ready in a completion queue, with the marks of its
+    // The command of a slot ends without the device: its completion is ready in a completion queue, with the flags of its
     // status.
     pub(crate) fn end(
         &mut self,
@@ -62,14 +62,14 @@ impl Controller {
         dw0: u32,
         cqid: u16,
     )
-        ensures kept { (rules : FrontRules) (notes : Notes) (k : Content) (g : Items) (t : Ready) → Keeps rules notes self.old slots.old k g → IsLoose slots.old g tag → MakesReady slots.old tag state status dw0 t → IsThrough notes t → IsCookie notes slots.old tag t.place → t.passed ≡ is_passed_at notes t.place → IsUnmarked notes t.place → (x : ℕ) → k.cq_life cqid ≡ Some x → k.sq_id t.place.region ≡ Some t.sqid → Keeps rules notes self.new slots.new (with_ready k x t) (with_item g x (ended tag t)) }
+        ensures kept { (rules : FrontRules) (notes : Notes) (k : Content) (g : Items) (t : Ready) → Keeps rules notes self.old slots.old k g → IsLoose slots.old g tag → MakesReady slots.old tag state status dw0 t → IsThrough notes t → IsCookie notes slots.old tag t.place → t.passed ≡ is_passed_at notes t.place → IsUnflagged notes t.place → (x : ℕ) → k.cq_life cqid ≡ Some x → k.sq_id t.place.region ≡ Some t.sqid → Keeps rules notes self.new slots.new (with_ready k x t) (with_item g x (ended tag t)) }
         ensures left { self.new ≡ record self.old { cqs = self.new.cqs } }
         ensures size { length slots.new ≡ length slots.old }
         ensures generations { SameGenerations slots.old slots.new }
         ensures others { (y : ℕ) → y ≢ tag → item_at slots.new y ≡ item_at slots.old y }
     {
         let slot = slot_at(slots, tag);
-        let marks = Marks::of(status);
+        let flags = StatusFlags::of(status);
         put_item(
             slots,
             tag,
@@ -78,8 +78,8 @@ impl Controller {
                 sct: status.sct,
                 sc: status.sc,
                 dw0,
-                more: bit(marks.more),
-                do_not_retry: bit(marks.do_not_retry),
+                more: bit(flags.more),
+                do_not_retry: bit(flags.do_not_retry),
                 ..slot
             },
         );

@@ -41,14 +41,14 @@ impl Controller {
         ensures some { IfSome result (λ entry. IsFetchable self.now qid entry) }
         ensures none { (e : entry.SqEntry) → IsFetchable self.now qid e → result ≢ None }
     {
-        let queue = self.table.sq(qid)?;
-        if queue.closing || self.free.len == 0 {
+        let sq = self.sq(qid);
+        if sq.ring.filled() == 0 || self.free.len == 0 {
             return None;
         }
-        let sq = self.sq(qid);
+        let queue = self.table.sq(qid)?;
         let waiting = sq.window.len.saturating_sub(self.picked_in(qid));
         let held = waiting.saturating_add(sq.unposted);
-        if sq.ring.filled() == 0 || held >= self.depth(qid) || waiting >= window_of(sq.ring.slots) {
+        if queue.closing || held >= self.depth(qid) || waiting >= window_of(sq.ring.slots) {
             return None;
         }
         Some(queue)

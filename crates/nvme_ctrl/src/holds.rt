@@ -1,7 +1,7 @@
 // The queues that a device holds, and the classes that it sets. (Base Specification, Command Arbitration; profile)
 use crate::board_counts::show;
-use crate::marks::bit;
 use crate::state::Controller;
+use crate::status_flags::bit;
 use nvme_arbiter::{Class, HIGHEST_COUNT};
 
 impl Controller {

@@ -3,21 +3,22 @@ ghost use Rattle.std.specs.Prelude.{◌≡◌, ◌∷◌, [], true, false, Some,
 ghost use Rattle.nvme_entry.specs.Status.{invalid_opcode, code, success, abort_requested, lba_out_of_range};
 ghost use Rattle.nvme_log.specs.declared.event.Event.TheVariants.{Fetch, OpenCq, Post, ClosedSq, OpenSq};
 ghost use Rattle.nvme_log.specs.Examples.{create_cq, two_slots, one_deletion, get_arbitration, admin_picked, admin_posted, read, done, admin_seen, reads_seen, picked_of};
-ghost use Rattle.nvme_ctrl.specs.Notes.{Logged, Tail, Head, Kept, Passed, Taken, Answered, Marked, logged, Held, Classed};
+ghost use Rattle.nvme_ctrl.specs.Notes.{Logged, Tail, Head, Kept, Passed, Taken, Answered, Flagged, logged, Held, Classed};
 ghost use Rattle.nvme_arbiter.specs.declared.settings.Class.TheVariants.{Admin, Urgent, Low};
 ghost use Rattle.nvme_ctrl.specs.Observation.{is_held, class_set};
 ghost use Rattle.nvme_ctrl.specs.Steps.{IsNextPick};
-ghost use Rattle.nvme_ctrl.specs.Marks.{own_marks};
-ghost use Rattle.nvme_ctrl.specs.Tags.{cookie_of, marks_of, all_fetches};
+ghost use Rattle.nvme_ctrl.specs.StatusFlags.{own_flags};
+ghost use Rattle.nvme_ctrl.specs.Tags.{cookie_of, flags_of, all_fetches};
 ghost use Rattle.nvme_ctrl.specs.Own.{is_own, no_own, with_opcode, with_feature};
 ghost use Rattle.nvme_ctrl.specs.Making.{is_named};
 ghost use Rattle.nvme_ctrl.specs.Account.{IsLawful, IsAccount};
-ghost use Rattle.nvme_ctrl.specs.Examples.{taken_thrice, identify, identify_fetched, identify_picked, identify_passed, identify_taken, identify_answered, identified, get_feature, set_feature, told, three_of_four, four_fetched, first_picked, first_answered, first_posted, third_answered, two_passes, succeeded, out_of_range, without_region, with_late_region, creates_fetched, create_picked, create_refused, reads_submitted, reads_waiting, read_picked, read_taken, delete_begun, aborts_posted, read_answered, reads_posted, deletion_noted, unmarked, not_retried, more_told, abort_of_read, abort_waiting, abort_picked, abort_passed, abort_taken, aborted_read, read_aborted, abort_answered, abort_done, held_and_deleted, classed_and_picked, weighted_rules, two_waiting, pick_of, two_deletions, two_closing, third_served, second_gone, both_gone};
+ghost use Rattle.nvme_ctrl.specs.Examples.{taken_thrice, identify, identify_fetched, identify_picked, identify_passed, identify_taken, identify_answered, identified, get_feature, set_feature, told, three_of_four, four_fetched, first_picked, first_answered, first_posted, third_answered, two_passes, succeeded, out_of_range, without_region, with_late_region, creates_fetched, create_picked, create_refused, reads_submitted, reads_waiting, read_picked, read_taken, delete_begun, aborts_posted, read_answered, reads_posted, deletion_noted, unflagged, not_retried, more_told, abort_of_read, abort_waiting, abort_picked, abort_passed, abort_taken, aborted_read, read_aborted, abort_answered, abort_done, held_and_deleted, classed_and_picked, weighted_rules, two_waiting, pick_of, two_deletions, two_closing, third_served, second_gone, both_gone};
 ghost use Rattle.nvme_ctrl.specs.Generations.{TagsAreUsedUp, TagsComeAgain, tag_at, tag_of, number_of, slot_of};
 ghost use Rattle.nvme_ctrl.specs.StepCounts.{StepsAreFew, steps};
 ghost use Rattle.nvme_ctrl.specs.Depths.{DepthsSuffice, DepthsLeaveRoom, HeldWaitOrAreUnposted};
 ghost use Rattle.nvme_ctrl.specs.Progress.{IsWithDevice, NoneWaitDeleted, ServedAwait, UnfetchedAwait, WaitingAwait, WaitsForHost, WaitsForQueue};
 ghost use Rattle.nvme_ctrl.specs.Laws.{ControllersKeepAccounts, RegionsLeaveAccounts, EventsAreAccounted, SlotsAreFetchedInOrder, CompletionsFollowAnswers, OneCompletionEach, SlotsAreFree, CompletionsTellTheHead, DeletesAreAnsweredLast, NoneFetchedAfterDeletion, NonePickedAfterDeletion, PicksAreLawful, TagsAreApart, ObservedAsInTheLog, SeenOneByOne, HeldQueuesWait, HeldQueuesWaitUntilTold, FewHoldSlots};
+ghost use Rattle.nvme_ctrl.specs.NextQueue.{FetchesTakeTurns, PostsTakeTurns};
 
 /// The log at which a controller stands is an account, where no region was added late: after a Create that named its
 /// address was picked. So all that follows holds of it.
@@ -229,36 +230,36 @@ pub fn wrong_answers_are_refused()
     ensures told_early { IsLawful one_deletion reads_posted (Answered 0 2 succeeded) → ⊥ }
 {}
 
-/// Marks are told of their place alone. The device gives them once, to a command that it has and answered.
-pub fn marks_are_given_once()
-    ensures told { marks_of (Marked 1 1 more_told ∷ Marked 1 0 not_retried ∷ read_answered) 1 0 ≡ Some not_retried }
-    ensures other_index { marks_of (Marked 1 1 more_told ∷ Marked 1 0 not_retried ∷ read_answered) 1 2 ≡ None }
-    ensures other_region { marks_of (Marked 1 1 more_told ∷ Marked 1 0 not_retried ∷ read_answered) 0 0 ≡ None }
-    ensures marked { IsLawful one_deletion read_answered (Marked 1 0 not_retried) }
-    ensures marked_twice { IsLawful one_deletion (Marked 1 0 not_retried ∷ read_answered) (Marked 1 0 more_told) → ⊥ }
-    ensures marked_unanswered { IsLawful one_deletion read_taken (Marked 1 0 not_retried) → ⊥ }
-    ensures marked_own { IsLawful two_slots first_answered (Marked 0 0 not_retried) → ⊥ }
-    ensures marked_posted { IsLawful one_deletion reads_posted (Marked 1 0 not_retried) → ⊥ }
+/// StatusFlags are told of their place alone. The device gives them once, to a command that it has and answered.
+pub fn flags_are_given_once()
+    ensures told { flags_of (Flagged 1 1 more_told ∷ Flagged 1 0 not_retried ∷ read_answered) 1 0 ≡ Some not_retried }
+    ensures other_index { flags_of (Flagged 1 1 more_told ∷ Flagged 1 0 not_retried ∷ read_answered) 1 2 ≡ None }
+    ensures other_region { flags_of (Flagged 1 1 more_told ∷ Flagged 1 0 not_retried ∷ read_answered) 0 0 ≡ None }
+    ensures flagged { IsLawful one_deletion read_answered (Flagged 1 0 not_retried) }
+    ensures flagged_twice { IsLawful one_deletion (Flagged 1 0 not_retried ∷ read_answered) (Flagged 1 0 more_told) → ⊥ }
+    ensures flagged_unanswered { IsLawful one_deletion read_taken (Flagged 1 0 not_retried) → ⊥ }
+    ensures flagged_own { IsLawful two_slots first_answered (Flagged 0 0 not_retried) → ⊥ }
+    ensures flagged_posted { IsLawful one_deletion reads_posted (Flagged 1 0 not_retried) → ⊥ }
 {}
 
-/// Worked: what the controller answers itself is marked Do Not Retry where no retry changes it. Neither More nor Do Not
+/// Worked: what the controller answers itself is flagged Do Not Retry where no retry changes it. Neither More nor Do Not
 /// Retry is set for success, for a command that was aborted, for a queue that has submission queues yet, and for any
 /// other status.
-pub fn own_answers_are_marked()
-    ensures invalid_opcode { own_marks (code 0 0x01) ≡ not_retried }
-    ensures invalid_field { own_marks (code 0 0x02) ≡ not_retried }
-    ensures sequence_error { own_marks (code 0 0x0c) ≡ not_retried }
-    ensures completion_queue_invalid { own_marks (code 1 0x00) ≡ not_retried }
-    ensures invalid_queue_identifier { own_marks (code 1 0x01) ≡ not_retried }
-    ensures invalid_queue_size { own_marks (code 1 0x02) ≡ not_retried }
-    ensures feature_not_saveable { own_marks (code 1 0x0d) ≡ not_retried }
-    ensures prp_offset_invalid { own_marks (code 0 0x13) ≡ not_retried }
-    ensures invalid_interrupt_vector { own_marks (code 1 0x08) ≡ not_retried }
-    ensures success { own_marks (code 0 0x00) ≡ unmarked }
-    ensures abort_requested { own_marks (code 0 0x07) ≡ unmarked }
-    ensures aborted_by_deletion { own_marks (code 0 0x08) ≡ unmarked }
-    ensures invalid_queue_deletion { own_marks (code 1 0x0c) ≡ unmarked }
-    ensures other { own_marks (code 2 0x01) ≡ unmarked }
+pub fn own_answers_are_flagged()
+    ensures invalid_opcode { own_flags (code 0 0x01) ≡ not_retried }
+    ensures invalid_field { own_flags (code 0 0x02) ≡ not_retried }
+    ensures sequence_error { own_flags (code 0 0x0c) ≡ not_retried }
+    ensures completion_queue_invalid { own_flags (code 1 0x00) ≡ not_retried }
+    ensures invalid_queue_identifier { own_flags (code 1 0x01) ≡ not_retried }
+    ensures invalid_queue_size { own_flags (code 1 0x02) ≡ not_retried }
+    ensures feature_not_saveable { own_flags (code 1 0x0d) ≡ not_retried }
+    ensures prp_offset_invalid { own_flags (code 0 0x13) ≡ not_retried }
+    ensures invalid_interrupt_vector { own_flags (code 1 0x08) ≡ not_retried }
+    ensures success { own_flags (code 0 0x00) ≡ unflagged }
+    ensures abort_requested { own_flags (code 0 0x07) ≡ unflagged }
+    ensures aborted_by_deletion { own_flags (code 0 0x08) ≡ unflagged }
+    ensures invalid_queue_deletion { own_flags (code 1 0x0c) ≡ unflagged }
+    ensures other { own_flags (code 2 0x01) ≡ unflagged }
 {}
 
 /// An admin command that is the device's is passed on at once when it was picked, and once, where the controller has no
@@ -349,10 +350,10 @@ pub fn steps_are_few()
 {}
 
 /// Worked: a log of six commands, of which one is a Delete, and one goes to the device, has 18 notes of calls that do
-/// something. A note of the device's marks is one, too.
+/// something. A note of the device's flags is one, too.
 pub fn worked_steps()
     ensures all { steps deletion_noted ≡ 18 }
-    ensures answered { steps (Marked 1 0 not_retried ∷ read_answered) ≡ 16 }
+    ensures answered { steps (Flagged 1 0 not_retried ∷ read_answered) ≡ 16 }
     ensures fetched { all_fetches (logged deletion_noted) ≡ 6 }
 {}
 
@@ -364,4 +365,11 @@ pub fn worked_tags()
     ensures current { slot_of taken_thrice (record { slot = 0; generation = 3 }) ≡ Some 0 }
     ensures used_up { slot_of taken_thrice (record { slot = 0; generation = 2 }) ≡ None }
     ensures later { slot_of taken_thrice (record { slot = 0; generation = 4 }) ≡ None }
+{}
+
+/// A queue that has work comes within 65 calls of `next_fetch`, or of `next_to_post`, each of which is told what the one
+/// before it told: each that tells another queue brings its turn nearer. (profile)
+pub fn queues_take_turns()
+    ensures fetches { FetchesTakeTurns }
+    ensures posts { PostsTakeTurns }
 {}

@@ -1,7 +1,7 @@
 // The posts of a controller. (Base Specification, Completion Queue Entry, Phase Tag)
-use crate::marks::Marks;
-use crate::slot::{DROPPED, FREE, Slot, put_item, slot_at};
+use crate::slot::{DROPPED, Slot, put_free, slot_at};
 use crate::state::{Controller, CqState};
+use crate::status_flags::StatusFlags;
 use nvme_entry::{Cqe, Status};
 
 /// A completion to write into a slot of the ring of a completion queue.
@@ -15,8 +15,8 @@ pub struct Post {
     pub tag: u16,
     /// What the caller kept with its command.
     pub cookie: u32,
-    /// Its marks: those that the device answered, else those of a status of the controller.
-    pub marks: Marks,
+    /// Its flags: those that the device answered, else those of a status of the controller.
+    pub flags: StatusFlags,
 }
 
 impl CqState {
@@ -96,7 +96,7 @@ impl Controller {
             cqe: self.completion(&command, cq.phase == 1),
             tag: cq.ready.first,
             cookie: command.cookie,
-            marks: command.marks(),
+            flags: command.flags(),
         })
     }
 
@@ -111,8 +111,8 @@ impl Controller {
         ensures own { own_of self.new ≡ own_of self.old }
         ensures told { (rules : FrontRules) (late : Bool) (notes : Notes) → Stands rules late notes self.old slots.old → result ≡ None → (x : ℕ) → open_cq (logged notes) cqid ≡ Some x → NonePostable rules notes x }
         ensures value { result ≡ next_post_of self.old slots.old cqid }
-        ensures command { IfSome result (λ p. IsPostOf (slot_at slots.old p.tag) p.cqe p.cookie p.marks) }
-        ensures stands { (rules : FrontRules) (late : Bool) (notes : Notes) → Stands rules late notes self.old slots.old → IfSome result (λ p. HasPosted rules late notes cqid p.slot p.cqe p.cookie p.marks self.new slots.new) }
+        ensures command { IfSome result (λ p. IsPostOf (slot_at slots.old p.tag) p.cqe p.cookie p.flags) }
+        ensures stands { (rules : FrontRules) (late : Bool) (notes : Notes) → Stands rules late notes self.old slots.old → IfSome result (λ p. HasPosted rules late notes cqid p.slot p.cqe p.cookie p.flags self.new slots.new) }
     {
         let post = self.next_post(slots, cqid)?;
         let command = slot_at(slots, post.tag);
@@ -121,14 +121,7 @@ impl Controller {
         cq.write();
         self.put_cq(cqid, cq);
         self.count_post(&command);
-        put_item(
-            slots,
-            post.tag,
-            Slot {
-                state: FREE,
-                ..command
-            },
-        );
+        put_free(slots, post.tag);
         self.free.push(slots, post.tag);
         Some(post)
     }

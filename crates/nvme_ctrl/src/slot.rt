@@ -1,8 +1,8 @@
 // The slots of a pool, each of which holds a command from its fetch until its completion is posted.
-ghost use Rattle.std.specs.Prelude.{◌≡◌, slice_set};
+ghost use Rattle.std.specs.Prelude.{◌≡◌, ◌+◌, ◌%◌, slice_set};
 ghost use Rattle.nvme_ctrl.specs.kept.Pool.{slot_at, put_next, put_item};
 
-use crate::marks::Marks;
+use crate::status_flags::StatusFlags;
 use nvme_entry::{Sqe, Status};
 
 /// Nothing is in the slot.
@@ -41,14 +41,14 @@ pub struct Slot {
     pub sqid: u8,
     /// What it is used for, one of the constants above.
     pub state: u8,
-    /// The marks of its completion, where it ended: each 1 or 0.
+    /// The flags of its completion, where it ended: each 1 or 0.
     pub more: u8,
     pub do_not_retry: u8,
 }
 
 impl Slot {
     ghost use Rattle.std.specs.Prelude.{◌≡◌};
-    ghost use Rattle.nvme_ctrl.specs.kept.Pool.{no_slot, marks_in};
+    ghost use Rattle.nvme_ctrl.specs.kept.Pool.{no_slot, flags_in};
 
     /// A free slot.
     pub fn free() -> Slot
@@ -85,11 +85,11 @@ impl Slot {
         }
     }
 
-    /// The marks of its completion.
-    pub fn marks(&self) -> Marks
-        ensures { result ≡ marks_in self.now }
+    /// The flags of its completion.
+    pub fn flags(&self) -> StatusFlags
+        ensures { result ≡ flags_in self.now }
     {
-        Marks {
+        StatusFlags {
             more: self.more == 1,
             do_not_retry: self.do_not_retry == 1,
         }
@@ -122,8 +122,10 @@ fn put(slots: &mut [Slot], x: u16, slot: Slot)
 pub fn put_next(slots: &mut [Slot], x: u16, next: u16)
     ensures { slots.new ≡ put_next slots.old x next }
 {
-    let slot = slot_at(slots, x);
-    put(slots, x, Slot { next, ..slot });
+    let x = usize::from(x);
+    if x < slots.len() {
+        slots[x].next = next;
+    }
 }
 
 /// Puts something else into a slot, and leaves its link.
@@ -132,4 +134,26 @@ pub fn put_item(slots: &mut [Slot], x: u16, slot: Slot)
 {
     let next = slot_at(slots, x).next;
     put(slots, x, Slot { next, ..slot });
+}
+
+/// The slot is free, and holds what it held.
+pub fn put_free(slots: &mut [Slot], x: u16)
+    ensures { slots.new ≡ put_item slots.old x (record (slot_at slots.old x) { state = 0 }) }
+{
+    let x = usize::from(x);
+    if x < slots.len() {
+        slots[x].state = FREE;
+    }
+}
+
+/// The device has the command of the slot, whose generation is the next.
+pub fn put_out(slots: &mut [Slot], x: u16)
+    ensures { slots.new ≡ put_item slots.old x (record (slot_at slots.old x) { state = 2; generation = ((slot_at slots.old x).generation + 1) % 65536 }) }
+{
+    let x = usize::from(x);
+    if x < slots.len() {
+        let slot = &mut slots[x];
+        slot.state = OUT;
+        slot.generation = slot.generation.wrapping_add(1);
+    }
 }

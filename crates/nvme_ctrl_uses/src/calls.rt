@@ -5,7 +5,7 @@ ghost use Rattle.nvme_ctrl.specs.Standing.{IsController};
 use crate::ROOM;
 use nvme_admin::{AdminError, Limits, Region};
 use nvme_arbiter::{Class, Mechanism, Pick, Seen, Settings};
-use nvme_ctrl::{Answer, Controller, Marks, Post, Slot, Step, Waiting};
+use nvme_ctrl::{Answer, Controller, Post, Slot, StatusFlags, Step, Waiting};
 use nvme_entry::{Sqe, Status};
 use nvme_placing::{PRP_OFFSET_INVALID, Placement};
 use std::alloc::AllocError;
@@ -36,16 +36,16 @@ const DEPTH: u16 = 16;
 const DONE: Answer = Answer {
     status: Status::SUCCESS,
     dw0: 0,
-    marks: Marks::NONE,
+    flags: StatusFlags::NONE,
 };
 
-// Do Not Retry alone, and both marks.
-const DNR: Marks = Marks {
+// Do Not Retry alone, and both flags.
+const DNR: StatusFlags = StatusFlags {
     more: false,
     do_not_retry: true,
 };
 
-const BOTH: Marks = Marks {
+const BOTH: StatusFlags = StatusFlags {
     more: true,
     do_not_retry: true,
 };
@@ -154,13 +154,13 @@ fn head(rt: &impl Abort, ctrl: &mut Controller, slots: &[Slot], cqid: u16, slot:
     assert_eq!(rt; ctrl.cq_head(cqid, slot), rung);
 }
 
-// A completion is posted: the slot, SQHD, the command identifier, the phase tag, the status and the marks.
+// A completion is posted: the slot, SQHD, the command identifier, the phase tag, the status and the flags.
 fn posted(
     rt: &impl Abort,
     post: Option<Post>,
     want: (u16, u16, u16, bool),
     status: Status,
-    marks: Marks,
+    flags: StatusFlags,
 ) {
     let Some(post) = post else {
         assert!(rt; false, "none is posted");
@@ -168,7 +168,7 @@ fn posted(
     };
     let cqe = post.cqe;
     assert_eq!(rt; (post.slot, cqe.sqhd, cqe.cid, cqe.phase), want);
-    assert_eq!(rt; (cqe.status, post.marks), (status, marks));
+    assert_eq!(rt; (cqe.status, post.flags), (status, flags));
     assert_eq!(rt; post.cookie, u32::from(cqe.cid));
 }
 
@@ -250,19 +250,19 @@ fn step(rt: &impl Abort, ctrl: &mut Controller, slots: &mut [Slot], carries_out:
 }
 
 // A completion is posted to a completion queue, as `posted` says.
-fn post_marked(
+fn post_flagged(
     rt: &impl Abort,
     ctrl: &mut Controller,
     slots: &mut [Slot],
     cqid: u16,
     want: (u16, u16, u16, bool),
     status: Status,
-    marks: Marks,
+    flags: StatusFlags,
 )
     requires { IsController ctrl.old slots.old }
     ensures { IsController ctrl.new slots.new }
 {
-    posted(rt, post_next(ctrl, slots, cqid), want, status, marks);
+    posted(rt, post_next(ctrl, slots, cqid), want, status, flags);
 }
 
 // So is one with neither mark.
@@ -277,7 +277,7 @@ fn post(
     requires { IsController ctrl.old slots.old }
     ensures { IsController ctrl.new slots.new }
 {
-    post_marked(rt, ctrl, slots, cqid, want, status, Marks::NONE);
+    post_flagged(rt, ctrl, slots, cqid, want, status, StatusFlags::NONE);
 }
 
 // Two commands go through the rings from a slot on, with a phase tag.
@@ -314,6 +314,11 @@ fn fill(rt: &impl Abort, ctrl: &mut Controller, slots: &mut [Slot], cid: u16)
     tail(rt, ctrl, slots, 1, 4, false);
     tail(rt, ctrl, slots, 1, 3, true);
     tail(rt, ctrl, slots, 1, 0, false);
+    // (queue 1 has the next turn, whichever had the last one)
+    assert_eq!(rt;
+        (ctrl.next_fetch(0), ctrl.next_fetch(1)),
+        (Some((1, 0)), Some((1, 0)))
+    );
     fetch(rt, ctrl, slots, 1, 0, &read(cid));
     fetch(rt, ctrl, slots, 1, 1, &read(cid + 1));
     fetch(rt, ctrl, slots, 1, 2, &read(cid + 2));
@@ -344,7 +349,9 @@ fn device_answers_in_any_order(rt: HostRuntime) -> Result<(), Fail> {
         return Err(Fail::from(AllocError));
     };
     let [first, second, third] = tags;
+    assert_eq!(rt; ctrl.next_to_post(&slots, 64), None);
     assert!(rt; complete(&mut ctrl, &mut slots, third, DONE));
+    assert_eq!(rt; ctrl.next_to_post(&slots, 1), Some(1));
     // (and once)
     assert!(rt; !complete(&mut ctrl, &mut slots, third, DONE));
     assert!(rt; complete(&mut ctrl, &mut slots, first, DONE));
@@ -357,11 +364,11 @@ fn device_answers_in_any_order(rt: HostRuntime) -> Result<(), Fail> {
     let answer = Answer {
         status,
         dw0: 9,
-        marks: BOTH,
+        flags: BOTH,
     };
     assert!(rt; complete(&mut ctrl, &mut slots, second, answer));
     let last = (2, 3, 21, true);
-    post_marked(&rt, &mut ctrl, &mut slots, 1, last, status, BOTH);
+    post_flagged(&rt, &mut ctrl, &mut slots, 1, last, status, BOTH);
     Ok(())
 }
 
@@ -414,7 +421,7 @@ fn abort_taken(rt: &impl Abort, ctrl: &mut Controller, slots: &mut [Slot])
     let answer = Answer {
         status: Status::ABORT_REQUESTED,
         dw0: 0,
-        marks: Marks::NONE,
+        flags: StatusFlags::NONE,
     };
     assert!(rt; complete(ctrl, slots, tag, answer));
     assert_eq!(rt; ctrl.named(slots, 1, 20), None);
@@ -572,7 +579,7 @@ fn reset_leaves_nothing(rt: HostRuntime) -> Result<(), Fail> {
     step(&rt, &mut ctrl, &mut slots, true);
     // (no region has the address)
     let status = Status::INVALID_FIELD;
-    post_marked(&rt, &mut ctrl, &mut slots, 0, (0, 1, 50, true), status, DNR);
+    post_flagged(&rt, &mut ctrl, &mut slots, 0, (0, 1, 50, true), status, DNR);
     Ok(())
 }
 
@@ -631,7 +638,7 @@ fn memory_is_used_again(rt: HostRuntime) -> Result<(), Fail> {
     post(&rt, &mut ctrl, &mut slots, 0, (2, 5, 12, true), done);
     post(&rt, &mut ctrl, &mut slots, 0, (3, 5, 13, true), done);
     let last = (4, 5, 14, true);
-    post_marked(&rt, &mut ctrl, &mut slots, 0, last, PRP_OFFSET_INVALID, DNR);
+    post_flagged(&rt, &mut ctrl, &mut slots, 0, last, PRP_OFFSET_INVALID, DNR);
     // (the ring of 2 slots has one entry at most, and the region is told as the identifier)
     tail(&rt, &mut ctrl, &slots, 1, 2, false);
     tail(&rt, &mut ctrl, &slots, 1, 1, true);

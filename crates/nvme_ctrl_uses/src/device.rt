@@ -2,7 +2,7 @@
 ghost use Rattle.nvme_ctrl.specs.Standing.{IsController};
 
 use crate::memory::{Memory, SLOTS};
-use nvme_ctrl::{Answer, Controller, Marks, Slot, Step, slot_at};
+use nvme_ctrl::{Answer, Controller, Slot, StatusFlags, Step, slot_at};
 use nvme_entry::{Sqe, Status};
 
 /// The steps of one call of `execute`: enough for all commands of both queues.
@@ -39,7 +39,7 @@ pub fn answer_to(entry: &Sqe) -> Answer {
     Answer {
         status,
         dw0: 0,
-        marks: Marks::of(status),
+        flags: StatusFlags::of(status),
     }
 }
 
@@ -77,7 +77,7 @@ pub fn post_queue(ctrl: &mut Controller, slots: &mut [Slot], memory: &mut Memory
         let Some(post) = ctrl.post(slots, cqid) else {
             return;
         };
-        memory.write(cqid, post.slot, post.cqe, post.marks);
+        memory.write(cqid, post.slot, post.cqe, post.flags);
     }
 }
 

@@ -1,5 +1,5 @@
 // Guest memory, as far as the controller's rings lie in it.
-use nvme_ctrl::Marks;
+use nvme_ctrl::StatusFlags;
 use nvme_entry::{Cqe, Sqe, Status};
 
 /// The slots of each ring.
@@ -8,13 +8,13 @@ pub const SLOTS: usize = 8;
 /// The slots of two rings of a kind: that of the admin queue, and that of one I/O queue.
 pub const ALL_SLOTS: usize = 16;
 
-/// The rings, one after the other by queue: the submission rings, and the completion rings with the marks of each
+/// The rings, one after the other by queue: the submission rings, and the completion rings with the flags of each
 /// completion, which a device puts into bits 30 and 31 of its Dword 3.
 #[derive(Drop)]
 pub struct Memory {
     pub sqs: [Sqe; ALL_SLOTS],
     pub cqs: [Cqe; ALL_SLOTS],
-    pub marks: [Marks; ALL_SLOTS],
+    pub flags: [StatusFlags; ALL_SLOTS],
 }
 
 // Where a slot of a queue's ring lies.
@@ -36,7 +36,7 @@ impl Memory {
         Memory {
             sqs: [Sqe::default(); ALL_SLOTS],
             cqs: [cqe; ALL_SLOTS],
-            marks: [Marks::NONE; ALL_SLOTS],
+            flags: [StatusFlags::NONE; ALL_SLOTS],
         }
     }
 
@@ -46,11 +46,11 @@ impl Memory {
     }
 
     /// Writes a completion into a slot of a completion ring, where there is one.
-    pub fn write(&mut self, cqid: u16, slot: u16, cqe: Cqe, marks: Marks) {
+    pub fn write(&mut self, cqid: u16, slot: u16, cqe: Cqe, flags: StatusFlags) {
         let at = place(cqid, slot);
         if at < ALL_SLOTS {
             self.cqs[at] = cqe;
-            self.marks[at] = marks;
+            self.flags[at] = flags;
         }
     }
 }

@@ -9,10 +9,10 @@ use Rattle.nvme_log.specs.Rules.{FrontRules}
 use Rattle.nvme_log.specs.Places.{entry_at}
 use Rattle.nvme_log.specs.Answers as log
 use Rattle.nvme_log.specs.declared.place.Place.{Place}
-use Rattle.nvme_ctrl.specs.Notes.{Notes, Answered, Marked, logged}
+use Rattle.nvme_ctrl.specs.Notes.{Notes, Answered, Flagged, logged}
 use Rattle.nvme_ctrl.specs.Tags.{holder, answer_of}
 use Rattle.nvme_ctrl.specs.Standing as ctrl
-use Rattle.nvme_ctrl.specs.declared.marks.Marks.{Marks}
+use Rattle.nvme_ctrl.specs.declared.status_flags.StatusFlags.{StatusFlags}
 use Rattle.nvme_engine.specs.Standing.{StandsAt, AnswersByOutcome}
 use Rattle.nvme_engine.specs.Calls.{HasAnswered}
 use Rattle.nvme_engine.specs.declared.engine.Engine.{Engine}
@@ -23,9 +23,9 @@ none_held : (notes : Notes) (tag : ℕ) (p : Place) → notes ≡ [] → holder 
 none_held notes tag p none is = (let no : holder notes tag ≡ None = ap (λ (ns : Notes). holder ns tag) none in cc (no, is))
 
 -- an answer that is the outcome keeps all answers the outcomes
-pub answered_by_outcome : (rules : FrontRules) (notes : Notes) (marks : Marks) (r i : ℕ) (entry : Sqe) (answer : log.Answer) → AnswersByOutcome rules notes
-    → entry_at (logged notes) r i ≡ Some entry → answer ≡ log.outcome_answer rules entry → AnswersByOutcome rules (Marked r i marks ∷ Answered r i answer ∷ notes)
-answered_by_outcome rules notes marks r i entry answer were at is x j other own io there given = elim (cases_Bool (r == x && i == j)) [
+pub answered_by_outcome : (rules : FrontRules) (notes : Notes) (flags : StatusFlags) (r i : ℕ) (entry : Sqe) (answer : log.Answer) → AnswersByOutcome rules notes
+    → entry_at (logged notes) r i ≡ Some entry → answer ≡ log.outcome_answer rules entry → AnswersByOutcome rules (Flagged r i flags ∷ Answered r i answer ∷ notes)
+answered_by_outcome rules notes flags r i entry answer were at is x j other own io there given = elim (cases_Bool (r == x && i == j)) [
   | inl same ↦ (
       let parts = and_parts (r == x) (i == j) same in
       let here : entry_at (logged notes) r i ≡ Some other = (λ k. entry_at (logged notes) (eqb-true r x parts.0 k) (eqb-true i j parts.1 k)) ∙ there in
@@ -40,9 +40,9 @@ module _ (rules : FrontRules) (late : Bool) (notes : Notes) (e : Engine) (s : St
   abbrev answer : log.Answer
   answer = record { status = status; dw0 = 0 }
 
-  stands_answered : (marks : Marks) → ctrl.Stands s.their s.their_late (Marked p.region p.index marks ∷ Answered p.region p.index answer ∷ notes) f.controller f.slots.items
-      → StandsAt rules late (Marked p.region p.index marks ∷ Answered p.region p.index answer ∷ notes) f
-  stands_answered marks t = record {
+  stands_answered : (flags : StatusFlags) → ctrl.Stands s.their s.their_late (Flagged p.region p.index flags ∷ Answered p.region p.index answer ∷ notes) f.controller f.slots.items
+      → StandsAt rules late (Flagged p.region p.index flags ∷ Answered p.region p.index answer ∷ notes) f
+  stands_answered flags t = record {
     their = s.their;
     their_late = s.their_late;
     alike = s.alike;
@@ -57,7 +57,7 @@ module _ (rules : FrontRules) (late : Bool) (notes : Notes) (e : Engine) (s : St
     rung = s.rung;
     read = s.read;
     cookies = s.cookies;
-    answers = answered_by_outcome rules notes marks p.region p.index entry answer s.answers at (ap (λ (x : StatusCode). record { status = x; dw0 = 0 }) is);
+    answers = answered_by_outcome rules notes flags p.region p.index entry answer s.answers at (ap (λ (x : StatusCode). record { status = x; dw0 = 0 }) is);
     untaken = s.untaken;
     lawful = s.lawful;
     places = s.places;
@@ -67,12 +67,12 @@ module _ (rules : FrontRules) (late : Bool) (notes : Notes) (e : Engine) (s : St
   }
 
   -- the place of the tag is told by its region and its index
-  pub has_answered : (region index : ℕ) (marks : Marks) → holder notes tag ≡ Some (record { region = region; index = index })
-      → ctrl.Stands s.their s.their_late (Marked region index marks ∷ Answered region index answer ∷ notes) f.controller f.slots.items
+  pub has_answered : (region index : ℕ) (flags : StatusFlags) → holder notes tag ≡ Some (record { region = region; index = index })
+      → ctrl.Stands s.their s.their_late (Flagged region index flags ∷ Answered region index answer ∷ notes) f.controller f.slots.items
       → HasAnswered rules late notes p status f
-  has_answered region index marks told t =
+  has_answered region index flags told t =
       let same : record { region = region; index = index } ≡ p = same_Some (record { region = region; index = index }) p (sym told ∙ held) in
       record {
-        marks = marks;
-        stands = stands_answered marks (subst (λ (q : Place). ctrl.Stands s.their s.their_late (Marked q.region q.index marks ∷ Answered q.region q.index answer ∷ notes) f.controller f.slots.items) same t);
+        flags = flags;
+        stands = stands_answered flags (subst (λ (q : Place). ctrl.Stands s.their s.their_late (Flagged q.region q.index flags ∷ Answered q.region q.index answer ∷ notes) f.controller f.slots.items) same t);
       }

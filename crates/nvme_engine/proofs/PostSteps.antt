@@ -25,7 +25,7 @@ use Rattle.nvme_engine.proofs.Posting.{not_closed, may_ring, has_posted}
 
 module _ (rules : FrontRules) (late : Bool) (notes : Notes) (e : Engine) (s : StandsAt rules late notes e) (cqid x size : ℕ) (is_open : open_cq (logged notes) cqid ≡ Some x)
     (size_is : size ≡ slots_at (cq_regions_of rules) x) (post : Post) (c : Controller) (slots : List Slot)
-    (did : HasPosted s.their s.their_late notes cqid post.slot post.cqe post.cookie post.marks c slots) where
+    (did : HasPosted s.their s.their_late notes cqid post.slot post.cqe post.cookie post.flags c slots) where
   same_x : did.x ≡ x
   same_x = same_Some did.x x (sym did.is_open ∙ is_open)
 

@@ -19,11 +19,11 @@ use Rattle.nvme_log.specs.Dispatches.{dispatched_by}
 use Rattle.nvme_log.specs.Completions.{outstanding}
 use Rattle.nvme_log.specs.Effects.{made_by}
 use Rattle.nvme_log.specs.Answers.{Answer}
-use Rattle.nvme_ctrl.specs.Notes.{Notes, Logged, Tail, Head, Kept, Taken, Answered, Marked, logged}
+use Rattle.nvme_ctrl.specs.Notes.{Notes, Logged, Tail, Head, Kept, Taken, Answered, Flagged, logged}
 use Rattle.nvme_ctrl.specs.Steps.{with_logged, with_answer}
 use Rattle.nvme_ctrl.specs.Tags.{holder, answer_of, is_through}
 use Rattle.nvme_ctrl.specs.Posts.{next_post_of}
-use Rattle.nvme_ctrl.specs.declared.marks.Marks.{Marks}
+use Rattle.nvme_ctrl.specs.declared.status_flags.StatusFlags.{StatusFlags}
 use Rattle.nvme_ctrl.specs.declared.posts.Post.{Post}
 use Rattle.nvme_engine.specs.Standing.{StandsBut, StandsAt}
 use Rattle.nvme_engine.specs.declared.engine.Engine.{Engine}
@@ -86,8 +86,8 @@ pub record HasCarriedOut (rules : FrontRules) (late : Bool) (notes : Notes) (pic
 -- ---- answers
 -- the command of a tag is answered with a status
 pub record HasAnswered (rules : FrontRules) (late : Bool) (notes : Notes) (p : Place) (status : StatusCode) (e : Engine) : Type 0 where
-  pub marks : Marks
-  pub stands : StandsAt rules late (Marked p.region p.index marks ∷ Answered p.region p.index (record { status = status; dw0 = 0 }) ∷ notes) e
+  pub flags : StatusFlags
+  pub stands : StandsAt rules late (Flagged p.region p.index flags ∷ Answered p.region p.index (record { status = status; dw0 = 0 }) ∷ notes) e
 
 -- ---- completions
 -- the completion that is posted next to the completion queue of an identifier

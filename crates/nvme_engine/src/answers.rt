@@ -1,6 +1,6 @@
 // The picked commands that are taken, and their answers.
 use crate::engine::Engine;
-use nvme_ctrl::{Answer, Marks};
+use nvme_ctrl::{Answer, StatusFlags};
 use nvme_entry::{Sqe, Status};
 
 /// A picked command that is taken: its tag, its index among the fetches of its region, and its entry.
@@ -48,7 +48,7 @@ impl Engine {
         let answer = Answer {
             status,
             dw0: 0,
-            marks: Marks::NONE,
+            flags: StatusFlags::NONE,
         };
         self.controller.complete(&mut self.slots, tag, answer);
     }

@@ -17,7 +17,7 @@ use Rattle.nvme_pool.specs.Seat.{Ends, SameSeat, OneGained}
 use Rattle.nvme_log.specs.Limits.{most_events}
 use Rattle.nvme_log.specs.Places.{entry_at}
 use Rattle.nvme_log.specs.Rules.{Past}
-use Rattle.nvme_ctrl.specs.Notes.{Answered, Marked, logged}
+use Rattle.nvme_ctrl.specs.Notes.{Answered, Flagged, logged}
 use Rattle.nvme_engine.specs.Calls.{HasAnswered}
 use Rattle.nvme_engine.specs.declared.engine.Engine.{Engine}
 use Rattle.nvme_jobs.specs.Balance.{Balances}
@@ -252,14 +252,14 @@ module _ (s : FrontState) (k : IsRunning s) (jobs : JobsView) (d : Dispatched) (
 
     gained-runs : IsRunning gained_front
     gained-runs = record {
-      notes = Marked d.place.region d.place.index answered.marks ∷ Answered d.place.region d.place.index (record { status = status; dw0 = 0 }) ∷ k.notes;
+      notes = Flagged d.place.region d.place.index answered.flags ∷ Answered d.place.region d.place.index (record { status = status; dw0 = 0 }) ∷ k.notes;
       stands = answered.stands;
       past_is = k.past_is;
       got = k.got;
       sent = k.sent;
       counted = k.counted;
       jobs = jobs-gained s.config.spaces (past_of s) s.jobs jobs d result h k.jobs;
-      tags = tags_answered (rules_of s) s.late k.notes s.engine k.stands d gained_tagged (record { status = status; dw0 = 0 }) answered.marks s.jobs jobs
+      tags = tags_answered (rules_of s) s.late k.notes s.engine k.stands d gained_tagged (record { status = status; dw0 = 0 }) answered.flags s.jobs jobs
           (in_hand-gained s.config.spaces s.jobs jobs d result h) k.tags;
     }
 

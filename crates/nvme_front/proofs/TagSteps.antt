@@ -13,11 +13,11 @@ use Rattle.nvme_log.specs.declared.place.Place.{Place}
 use Rattle.nvme_log.specs.Answers.{Answer}
 use Rattle.nvme_log.specs.Limits.{max_outstanding}
 use Rattle.nvme_log.specs.Rules.{FrontRules}
-use Rattle.nvme_ctrl.specs.Notes.{Notes, Logged, Head, Answered, Marked}
+use Rattle.nvme_ctrl.specs.Notes.{Notes, Logged, Head, Answered, Flagged}
 use Rattle.nvme_ctrl.specs.Tags.{holder, answer_of, is_out, is_unanswered, is_through}
-use Rattle.nvme_ctrl.specs.declared.marks.Marks.{Marks}
+use Rattle.nvme_ctrl.specs.declared.status_flags.StatusFlags.{StatusFlags}
 use Rattle.nvme_ctrl.specs.kept.Pool.{AreApart}
-use Rattle.nvme_ctrl.proofs.OutTags.{still_not_out-answered, still_not_out-marked}
+use Rattle.nvme_ctrl.proofs.OutTags.{still_not_out-answered, still_not_out-flagged}
 use Rattle.nvme_ctrl.proofs.OwnStatus.{All-unmap}
 use Rattle.nvme_engine.specs.Standing.{StandsAt}
 use Rattle.nvme_engine.specs.declared.engine.Engine.{Engine}
@@ -115,10 +115,10 @@ module _ (rules : FrontRules) (late : Bool) (notes : Notes) (e : Engine) (s : St
     ]
 
   -- ---- the command of a tag is answered
-  module _ (d : Dispatched) (tagged : IsTagged notes d) (answer : Answer) (marks : Marks) where
+  module _ (d : Dispatched) (tagged : IsTagged notes d) (answer : Answer) (flags : StatusFlags) where
     -- the notes afterwards
     abbrev answered_notes : Notes
-    answered_notes = Marked d.place.region d.place.index marks ∷ Answered d.place.region d.place.index answer ∷ notes
+    answered_notes = Flagged d.place.region d.place.index flags ∷ Answered d.place.region d.place.index answer ∷ notes
 
     -- another tag stays as it was
     other_out : (u : ℕ) (q : Place) → holder notes u ≡ Some q → is_out notes u ≡ true → u ≢ d.tag → is_out answered_notes u ≡ true
@@ -139,7 +139,7 @@ module _ (rules : FrontRules) (late : Bool) (notes : Notes) (e : Engine) (s : St
     was_out t out = elim (cases_Bool (is_out notes t)) [
       | inl was ↦ was
       | inr not_so ↦ absurd (true≢false (sym out
-          ∙ still_not_out-marked d.place.region d.place.index marks (Answered d.place.region d.place.index answer ∷ notes) t
+          ∙ still_not_out-flagged d.place.region d.place.index flags (Answered d.place.region d.place.index answer ∷ notes) t
           (still_not_out-answered d.place.region d.place.index answer notes t not_so)))
     ]
 

@@ -2,3 +2,4 @@ pub mod TurnLemmas
 pub mod RoundLemmas
 pub mod JudgeLemmas
 pub mod StartLemmas
+pub mod StateLemmas

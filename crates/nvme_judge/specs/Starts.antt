@@ -1,10 +1,11 @@
 -- Where a trace begins: with what its arbiter kept then, which some history left. (Base Specification, Command Arbitration; what a head tells: profile)
 use Rattle.std.specs.Prelude.{◌≡◌, ℕ, ◌==◌, ◌&&◌, ◌||◌, Bool, true, nat_le, Option, Some, None, is_some, is_none}
+use Rattle.nvme_arbiter.specs.ByClass.{same_for_all}
 use Rattle.nvme_arbiter.specs.Limits.{highest_qid}
 use Rattle.nvme_arbiter.specs.Settings.{ArbitrationFields, weight_of}
 use Rattle.nvme_arbiter.specs.History.{History}
-use Rattle.nvme_arbiter.specs.Lawful.{IsLawfulRun}
-use Rattle.nvme_arbiter.specs.Standing.{StandsAt}
+use Rattle.nvme_arbiter.specs.Lawful.{IsLawfulRun, IsLimitedRun}
+use Rattle.nvme_arbiter.specs.Standing.{StandsAt, nothing_used}
 use Rattle.nvme_arbiter.specs.declared.settings.Class.{Class}
 use Rattle.nvme_arbiter.specs.declared.settings.Class.TheVariants.{Admin, Urgent, High, Medium, Low}
 use Rattle.nvme_arbiter.specs.declared.settings.Mechanism.{Mechanism}
@@ -61,3 +62,13 @@ pub record IsPrior (kept : Kept) (prior : History) : Type 0 where
 -- such a state is that of some history, after which no queue waits since the latest pick of another
 abbrev pub StartsHavePriors : Type 0
 StartsHavePriors = (kept : Kept) → CanBegin kept → (prior : History) × IsPrior kept prior × IsQuiet prior
+
+-- ---- the states that picks leave
+-- what its mechanism doesn't use is as at first
+abbrev pub KeepsItsOwn : Mechanism → Kept → Type 0
+KeepsItsOwn RoundRobin kept = (kept.last.by_class ≡ same_for_all None) × (kept.used ≡ nothing_used)
+KeepsItsOwn Weighted kept = kept.last.all ≡ None
+
+-- each state that lawful picks leave, with any limits, can be that of a head
+abbrev pub StatesCanBegin : Type 0
+StatesCanBegin = (mechanism : Mechanism) (first : ArbitrationFields) (past : History) (kept : Kept) → IsLimitedRun mechanism first past → StandsAt mechanism first past kept → KeepsItsOwn mechanism kept → CanBegin kept

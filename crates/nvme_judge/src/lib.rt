@@ -9,4 +9,4 @@ mod starts;
 mod turns;
 
 pub use judge::{RuleJudge, count_in};
-pub use starts::{last_fits, starts_have_priors, used_fits};
+pub use starts::{last_fits, starts_have_priors, states_can_begin, used_fits};

@@ -1,6 +1,6 @@
 // The states with which a judge may begin: those that some history leaves.
 ghost use Rattle.std.specs.Prelude.{◌≡◌};
-ghost use Rattle.nvme_judge.specs.Starts.{can_serve, can_be_last, last_fits, can_use, used_fits, StartsHavePriors};
+ghost use Rattle.nvme_judge.specs.Starts.{can_serve, can_be_last, last_fits, can_use, used_fits, StartsHavePriors, StatesCanBegin};
 
 use nvme_arbiter::{Class, HIGHEST_QID, Last, Mechanism, Settings, Used};
 
@@ -77,4 +77,9 @@ pub fn used_fits(mechanism: Mechanism, settings: &Settings, last: &Last, used: &
 /// Each such state is that of some lawful history.
 pub fn starts_have_priors()
     ensures { StartsHavePriors }
+{}
+
+/// Each state that lawful picks leave is such a state.
+pub fn states_can_begin()
+    ensures { StatesCanBegin }
 {}

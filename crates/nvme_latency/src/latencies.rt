@@ -39,6 +39,14 @@ impl Latencies {
         self.times.extend_from_slice(others.times())
     }
 
+    /// Adds latencies of others in their order. Where there is no memory for them, those that were there stay.
+    pub fn join(&mut self, others: &Latencies) -> Result<(), AllocError>
+        ensures ok { OnOk result (times_of self.new ≡ times_of self.old ++ times_of others.now) }
+        ensures err { OnErr result (times_of self.new ≡ times_of self.old) }
+    {
+        self.times.extend_from_slice(others.times.as_slice())
+    }
+
     /// How many there are.
     pub fn count(&self) -> usize
         ensures { result ≡ length (times_of self.now) }

@@ -7,6 +7,3 @@ mod ranked;
 
 pub use latencies::Latencies;
 pub use ranked::{PARTS, Ranked};
-
-#[cfg(test)]
-mod tests;

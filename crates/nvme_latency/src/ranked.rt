@@ -1,5 +1,5 @@
 // Latencies by their rank.
-ghost use Rattle.std.specs.Prelude.{◌≡◌, ◌≤◌, ◌<◌, ◌+◌, ◌*◌, ◌/◌, [], MatchOption, length, sum};
+ghost use Rattle.std.specs.Prelude.{◌≡◌, ◌≤◌, ◌<◌, ◌⊎◌, ◌+◌, ◌-◌, ◌*◌, ◌/◌, [], IfNone, IfSome, MatchOption, get_or, length, sum};
 ghost use Rattle.std.specs.List.Sorted.{IsNonDecreasing, IsSorted};
 ghost use Rattle.std.specs.Ordering.{nat_cmp};
 ghost use Rattle.nvme_latency.specs.declared.ranked.TheConstants.{PARTS};
@@ -77,8 +77,19 @@ impl Ranked {
         Some(self.times[self.times.len() - 1])
     }
 
-    // The rank of a quantile: how many latencies it has to reach.
-    fn rank(&self, parts: u32) -> usize
+    /// The latency of a rank, which is 1 for the shortest one. None where no latency has it.
+    pub fn at(&self, rank: usize) -> Option<u64>
+        ensures some { IfSome result (λ t. t ≡ get_or (ranked_times self.now) (rank - 1) 0) }
+        ensures none { IfNone result ((rank ≡ 0) ⊎ (length (ranked_times self.now) < rank)) }
+    {
+        if rank == 0 || rank > self.times.len() {
+            return None;
+        }
+        Some(self.times[rank - 1])
+    }
+
+    /// The rank of a quantile of so many of `PARTS` parts: how many latencies it has to reach.
+    pub fn rank(&self, parts: u32) -> usize
         requires some { 0 < parts }
         requires whole { parts ≤ PARTS }
         requires not_empty { 0 < length (ranked_times self.now) }

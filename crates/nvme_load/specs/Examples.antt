@@ -1,19 +1,21 @@
 -- Worked examples of the definitions. (profile)
-use Rattle.std.specs.Prelude.{◌≡◌, ℕ, List, [], ◌∷◌, Some, None}
+use Rattle.std.specs.Prelude.{◌≡◌, ℕ, true, false, List, [], ◌∷◌, Some, None}
 use Rattle.std.proofs.Common.{lit<, lit≤}
 use Rattle.nvme_clock.specs.Examples.{words}
 use Rattle.nvme_clock.specs.declared.draws.TwoPoints.{TwoPoints as Points}
 use Rattle.nvme_clock.specs.declared.quantiles.Quantiles.{Quantiles as Table}
 use Rattle.nvme_clock.specs.Quantiles.{values_of}
 use Rattle.nvme_load.specs.declared.arrivals.Arrivals.{Arrivals}
-use Rattle.nvme_load.specs.declared.arrivals.Arrivals.TheVariants.{Poisson, Regular, OnOff, Closed}
+use Rattle.nvme_load.specs.declared.arrivals.Arrivals.TheVariants.{Poisson, Regular, OnOff, Closed, Replay as Listed}
 use Rattle.nvme_load.specs.declared.mean.Mean.{Mean}
 use Rattle.nvme_load.specs.declared.mix.Operation.TheVariants.{Read, Write, Flush}
 use Rattle.nvme_load.specs.declared.places.Order.TheVariants.{Uniform, Sequential}
+use Rattle.nvme_load.specs.declared.replay.Replay.{Replay}
+use Rattle.nvme_load.specs.declared.replay.Request.{Request}
 use Rattle.nvme_load.specs.declared.services.Distribution.TheVariants.{Fixed, Exponential, TwoPoints, Quantiles}
 use Rattle.nvme_load.specs.declared.services.Service.{Service}
 use Rattle.nvme_load.specs.declared.services.Services.{Services}
-use Rattle.nvme_load.specs.Arrivals.{at_start, next_after}
+use Rattle.nvme_load.specs.Arrivals.{at_start, ends_at, next_after, request_at}
 use Rattle.nvme_load.specs.Mixes.{operation}
 use Rattle.nvme_load.specs.Phases.{on_before, when_on}
 use Rattle.nvme_load.specs.Places.{place, sequential_place}
@@ -88,6 +90,13 @@ half = 0x8000_0000_0000_0000 ∷ 0x8000_0000_0000_0000 ∷ []
 abbrev pub quarter : List ℕ
 quarter = 0x4000_0000_0000_0000 ∷ 0x8000_0000_0000_0000 ∷ []
 
+-- two commands at one time, and one later
+abbrev pub list : List Request
+list =
+    record { at = 30; operation = Read; block = 0; blocks = 8 }
+    ∷ record { at = 30; operation = Write; block = 8; blocks = 4 }
+    ∷ record { at = 45; operation = Flush; block = 0; blocks = 0 } ∷ []
+
 pub record ArrivalExamples : Type 0 where
   pub on_before_first : on_before 3 2 2 ≡ 2
   pub on_before_off : on_before 3 2 3 ≡ 3
@@ -96,23 +105,31 @@ pub record ArrivalExamples : Type 0 where
   pub on_at_first : when_on 3 2 0 ≡ 0
   pub on_at_second : when_on 3 2 3 ≡ 5
   pub on_at_later : when_on 3 2 7 ≡ 11
-  pub within_phase : (next_after on_off 1 (words quarter)).0 ≡ Some 2
-  pub at_next_phase : (next_after on_off 1 (words half)).0 ≡ Some 5
-  pub within_next_phase : (next_after on_off 2 (words half)).0 ≡ Some 6
-  pub from_off_phase : (next_after on_off 4 (words half)).0 ≡ Some 7
-  pub on_off_next : (next_after on_off 1 (next_after on_off 1 (words (0x4000_0000_0000_0000 ∷ 0x8000_0000_0000_0000 ∷ half))).1).0 ≡ Some 5
-  pub poisson : (next_after (Poisson mean) 10 (words quarter)).0 ≡ Some 25_010
-  pub poisson_next : (next_after (Poisson mean) 10 (next_after (Poisson mean) 10 (words (0x4000_0000_0000_0000 ∷ 0x8000_0000_0000_0000 ∷ half))).1).0 ≡ Some 50_010
-  pub every_seventh : (next_after regular 10 (words (5 ∷ []))).0 ≡ Some 17
-  pub regular_draws_nothing : (next_after regular 10 (words (5 ∷ []))).1 ≡ words (5 ∷ [])
-  pub last_time : (next_after regular 0xffff_ffff_ffff_fff8 (words [])).0 ≡ Some 0xffff_ffff_ffff_ffff
-  pub too_late : (next_after regular 0xffff_ffff_ffff_fff9 (words [])).0 ≡ None
-  pub think : (next_after closed 10 (words (5 ∷ []))).0 ≡ Some 19
-  pub think_draws_nothing : (next_after closed 10 (words (5 ∷ []))).1 ≡ words (5 ∷ [])
+  pub within_phase : (next_after on_off 0 1 (words quarter)).0 ≡ Some 2
+  pub at_next_phase : (next_after on_off 0 1 (words half)).0 ≡ Some 5
+  pub within_next_phase : (next_after on_off 0 2 (words half)).0 ≡ Some 6
+  pub from_off_phase : (next_after on_off 0 4 (words half)).0 ≡ Some 7
+  pub on_off_next : (next_after on_off 0 1 (next_after on_off 0 1 (words (0x4000_0000_0000_0000 ∷ 0x8000_0000_0000_0000 ∷ half))).1).0 ≡ Some 5
+  pub poisson : (next_after (Poisson mean) 0 10 (words quarter)).0 ≡ Some 25_010
+  pub poisson_next : (next_after (Poisson mean) 0 10 (next_after (Poisson mean) 0 10 (words (0x4000_0000_0000_0000 ∷ 0x8000_0000_0000_0000 ∷ half))).1).0 ≡ Some 50_010
+  pub every_seventh : (next_after regular 0 10 (words (5 ∷ []))).0 ≡ Some 17
+  pub regular_draws_nothing : (next_after regular 0 10 (words (5 ∷ []))).1 ≡ words (5 ∷ [])
+  pub last_time : (next_after regular 0 0xffff_ffff_ffff_fff8 (words [])).0 ≡ Some 0xffff_ffff_ffff_ffff
+  pub too_late : (next_after regular 0 0xffff_ffff_ffff_fff9 (words [])).0 ≡ None
+  pub think : (next_after closed 0 10 (words (5 ∷ []))).0 ≡ Some 19
+  pub think_draws_nothing : (next_after closed 0 10 (words (5 ∷ []))).1 ≡ words (5 ∷ [])
   pub depth_at_start : at_start closed ≡ 4
   pub on_off_start : at_start on_off ≡ 0
   pub poisson_start : at_start (Poisson mean) ≡ 0
   pub regular_start : at_start regular ≡ 0
+  pub first_listed : (l : Replay) → l.requests.items ≡ list → (next_after (Listed l) 0 0 (words (5 ∷ []))).0 ≡ Some 30
+  pub second_listed : (l : Replay) → l.requests.items ≡ list → (next_after (Listed l) 1 30 (words (5 ∷ []))).0 ≡ Some 30
+  pub last_listed : (l : Replay) → l.requests.items ≡ list → (next_after (Listed l) 2 30 (words (5 ∷ []))).0 ≡ Some 45
+  pub list_ended : (l : Replay) → l.requests.items ≡ list → (next_after (Listed l) 3 45 (words (5 ∷ []))).0 ≡ None
+  pub lists_draw_nothing : (l : Replay) → (next_after (Listed l) 0 0 (words (5 ∷ []))).1 ≡ words (5 ∷ [])
+  pub second_request : (l : Replay) → l.requests.items ≡ list → request_at (Listed l) 1 ≡ Some (record { at = 30; operation = Write; block = 8; blocks = 4 })
+  pub not_ended : (l : Replay) → l.requests.items ≡ list → ends_at (Listed l) 2 ≡ false
+  pub ended : (l : Replay) → l.requests.items ≡ list → ends_at (Listed l) 3 ≡ true
 
 -- of 100 blocks, twelve commands of eight blocks fit; the words below 2^64 - 4 are accepted
 pub record PlaceExamples : Type 0 where

@@ -5,6 +5,7 @@ pub mod Means
 pub mod Mixes
 pub mod Phases
 pub mod Places
+pub mod Replays
 pub mod Services
 pub mod Shares
 pub mod Times

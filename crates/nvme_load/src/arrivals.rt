@@ -3,6 +3,7 @@ ghost use Rattle.std.specs.Prelude.{◌≡◌, ◌≤◌, ◌<◌, IfErr, IfOk, 
 
 use crate::mean::Mean;
 use crate::phases::Phases;
+use crate::replay::{Replay, Request};
 use rand_core::Rng;
 use thiserror::Error;
 
@@ -62,7 +63,7 @@ impl Closed {
 }
 
 /// When the commands of a queue come.
-#[derive(Clone, Copy, Debug, PartialEq, Eq)]
+#[derive(Drop)]
 pub enum Arrivals {
     /// At exponential times one after another.
     Poisson(Mean),
@@ -72,10 +73,12 @@ pub enum Arrivals {
     OnOff(Phases),
     /// So many at time 0, and one behind each completion.
     Closed(Closed),
+    /// Those of a list, at the times that it says.
+    Replay(Replay),
 }
 
 impl Arrivals {
-    ghost use Rattle.nvme_load.specs.Arrivals.{at_start, next_after};
+    ghost use Rattle.nvme_load.specs.Arrivals.{at_start, ends_at, next_after, request_at};
 
     /// How many commands come at time 0 at once. Where none does, the first one comes `next_after` time 0.
     pub fn at_start(&self) -> u32
@@ -87,10 +90,32 @@ impl Arrivals {
         }
     }
 
-    /// When a command comes behind one that came at this time, or of a closed host behind a completion at this time. None
-    /// where it is 2^64 picoseconds or later.
-    pub fn next_after<R: Rng>(&self, time: u64, rng: &mut R) -> Option<u64>
-        ensures value { (result, R.stream rng.new) ≡ next_after self.now time (R.stream rng.old) }
+    /// The command of a number, which counts those of its queue before it, where a list says what it is. None where that is
+    /// drawn, and behind the end of a list.
+    pub fn request(&self, number: u64) -> Option<Request>
+        ensures { result ≡ request_at self.now number }
+    {
+        match self {
+            Arrivals::Replay(list) => list.request(number),
+            _ => None,
+        }
+    }
+
+    /// Whether no command of this number comes, nor one behind it: a list has ended.
+    pub fn ends_at(&self, number: u64) -> bool
+        ensures { result ≡ ends_at self.now number }
+    {
+        match self {
+            Arrivals::Replay(list) => list.ends_at(number),
+            _ => false,
+        }
+    }
+
+    /// When the command of a number comes, which counts those of its queue before it: behind one that came at this time, or of
+    /// a closed host behind a completion at this time. One of a list comes at its own time. None where it is 2^64 picoseconds
+    /// or later, or where the list has ended.
+    pub fn next_after<R: Rng>(&self, number: u64, time: u64, rng: &mut R) -> Option<u64>
+        ensures value { (result, R.stream rng.new) ≡ next_after self.now number time (R.stream rng.old) }
         ensures forward { IfSome result (λ at. time ≤ at) }
     {
         match self {
@@ -98,6 +123,7 @@ impl Arrivals {
             Arrivals::Regular(gap) => time.checked_add(gap.picoseconds),
             Arrivals::OnOff(phases) => phases.next_after(time, rng),
             Arrivals::Closed(host) => time.checked_add(host.think),
+            Arrivals::Replay(list) => list.next_after(number, time),
         }
     }
 }

@@ -8,6 +8,7 @@ mod mean;
 mod mix;
 mod phases;
 mod places;
+mod replay;
 mod services;
 
 pub use arrivals::{Arrivals, ArrivalsFault, Closed, Gap};
@@ -15,7 +16,5 @@ pub use mean::{Mean, MeanFault};
 pub use mix::{Mix, MixFault, Operation};
 pub use phases::{Phases, PhasesFault};
 pub use places::{Extent, ExtentFault, MAX_BLOCKS, Order, Places};
+pub use replay::{Replay, ReplayFault, Request};
 pub use services::{Distribution, Service, Services};
-
-#[cfg(test)]
-mod tests;

@@ -6,6 +6,7 @@ ghost use Rattle.nvme_model.specs.declared.model.TheConstants.{MAX_COMMANDS, MAX
 use crate::device::Device;
 use crate::queue::Queue;
 use nvme_arbiter::{Mechanism, Settings};
+use nvme_load::Arrivals;
 use thiserror::Error;
 
 /// The most queues.
@@ -124,5 +125,18 @@ impl Model {
             end,
             warm_up,
         })
+    }
+
+    /// Puts arrivals in the place of those of a queue, by its identifier. Nothing changes where there is no such queue.
+    pub fn put_arrivals(&mut self, number: usize, arrivals: Arrivals)
+        ensures rest { self.new ≡ record self.old { queues = self.new.queues; some = self.new.some; at_most = self.new.at_most } }
+        ensures count { length self.new.queues.items ≡ length self.old.queues.items }
+    {
+        let Some(place) = number.checked_sub(1) else {
+            return;
+        };
+        if place < self.queues.len() {
+            self.queues[place].arrivals = arrivals;
+        }
     }
 }

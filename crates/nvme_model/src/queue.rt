@@ -28,11 +28,11 @@ pub struct Queue {
     pub class: Class,
     /// How many slots each of its rings has.
     pub slots: u16,
-    /// When its commands come.
+    /// When its commands come. Where they come by a list, that says what they do and where they lie.
     pub arrivals: Arrivals,
-    /// What they do.
+    /// What they do, where no list says it.
     pub mix: Mix,
-    /// Where they lie.
+    /// Where they lie, where no list says it.
     pub places: Places,
     /// How long the device takes for each.
     pub services: Services,

@@ -63,6 +63,9 @@ fn text_of(kind: Kind) -> &'static str {
         Kind::Service => "a duration such as \"80us\", or a table",
         Kind::Placing => "\"pool\" or \"striped\"",
         Kind::Offsets => "\"uniform\" or \"sequential\"",
+        Kind::File => "the name of a file",
+        Kind::Form => "\"csv\", \"msr\", \"alibaba\", \"blkparse\" or \"fio\"",
+        Kind::Speed => "a number above 0, as 2 or \"0.5\"",
     }
 }
 
@@ -72,7 +75,8 @@ fn expected_at(key: Key) -> &'static str {
         Key::Version => "1",
         Key::Device => "a table [device]",
         Key::Queue => "an array of 1 to 64 tables: queues are written [[queue]]",
-        Key::Arrivals => "a table of poisson, every, closed or bursts",
+        Key::Arrivals => "a table of poisson, every, closed, bursts or replay",
+        Key::Form => "\"csv\", \"msr\", \"alibaba\", \"blkparse\" or \"fio\"",
         Key::Read | Key::Write | Key::Flush => "how long it takes, of the queue or of the device",
         Key::Poisson => "commands a second as a whole number, or a duration such as \"80us\"",
         Key::OneIn => "a whole number from 1 to 9223372036854775807",
@@ -119,12 +123,13 @@ impl Flaw {
             Fault::Refused(refusal) => write!(f, "{found}{refusal}", found = self.found),
             Fault::Beside(key) => write!(f, "can't stand beside {name}", name = key.name()),
             Fault::NotStriped => f.write_str("has no effect without placing = \"striped\""),
+            Fault::NotCsv => f.write_str("has no effect without form = \"csv\""),
             Fault::NoService => f.write_str(
                 "expected one of fixed, exponential, usual (with rare and one_in) and quantiles",
             ),
-            Fault::NoArrivals => {
-                f.write_str("expected one of poisson, every, closed (with think) and bursts")
-            }
+            Fault::NoArrivals => f.write_str(
+                "expected one of poisson, every, closed (with think), bursts and replay",
+            )
         }
     }
 }

@@ -5,7 +5,7 @@ ghost use Rattle.nvme_model_file.specs.Documents.{SaysIn, is_simulation_text};
 use crate::fault::ModelFault;
 use crate::told::{bad_bytes, bad_text, fault_in};
 use nvme_model::Model;
-use nvme_model_form::{is_simulation, model_of};
+use nvme_model_form::{Source, is_simulation, model_of, sources_of};
 use nvme_workload::{DocumentError, document};
 use std::alloc::{AllocError, Global};
 
@@ -40,6 +40,23 @@ pub fn model_in(alloc: Global, bytes: &[u8]) -> Result<Model, ModelFault>
     };
     match model_of(alloc, &table) {
         Ok(model) => Ok(model),
+        Err(error) => Err(fault_in(alloc, bytes, &table, error)),
+    }
+}
+
+/// The files that the queues of a simulation file replay, in the order of the queues, or the first fault of what is said of
+/// them. `model_in` tells the other faults: a text that is no TOML document has no such file.
+pub fn sources_in(alloc: Global, bytes: &[u8]) -> Result<Vec<Source>, ModelFault> {
+    let Ok(text) = std::str::from_utf8(bytes) else {
+        return Ok(Vec::new(alloc));
+    };
+    let table = match document(alloc, text) {
+        Ok(table) => table,
+        Err(DocumentError::NoMemory) => return Err(ModelFault::NoMemory),
+        Err(DocumentError::NotToml(_)) => return Ok(Vec::new(alloc)),
+    };
+    match sources_of(alloc, &table) {
+        Ok(sources) => Ok(sources),
         Err(error) => Err(fault_in(alloc, bytes, &table, error)),
     }
 }

@@ -6,10 +6,8 @@ mod file;
 mod told;
 
 pub use fault::{Flaw, ModelFault, Told};
-pub use file::{model_in, simulation_in};
+pub use file::{model_in, simulation_in, sources_in};
 pub use nvme_model_form::{
-    Fault, Key, Kind, ModelError, Owner, Place, Refusal, Target, is_simulation, model_of,
+    Fault, Key, Kind, ModelError, Owner, Place, Refusal, Source, Target, is_simulation, model_of,
+    sources_of,
 };
-
-#[cfg(test)]
-mod tests;

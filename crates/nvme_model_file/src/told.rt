@@ -3,8 +3,8 @@ use crate::fault::{Flaw, ModelFault};
 use nvme_load::Operation;
 use nvme_model_form::{
     ARRIVAL_KEYS, BURST_KEYS, DEVICE_KEYS, FILE_KEYS, FLUSH_KEYS, Fault, Key, Kind, MIX_KEYS,
-    ModelError, Owner, PAUSE_KEYS, Place, QUEUE_KEYS, SERVICE_KEYS, SIMULATION_KEYS, Target,
-    key_of,
+    ModelError, Owner, PAUSE_KEYS, Place, QUEUE_KEYS, REPLAY_KEYS, SERVICE_KEYS, SIMULATION_KEYS,
+    Target, key_of,
 };
 use nvme_short::{PathStep, Spot, found_in, nearest, offset_of, spot_behind, start_of};
 use nvme_short_form::ShortError;
@@ -41,6 +41,7 @@ fn keys_at(place: Place) -> &'static [Key] {
         Place::Queue(_) => &QUEUE_KEYS,
         Place::Mix(_) => &MIX_KEYS,
         Place::Arrivals(_) => &ARRIVAL_KEYS,
+        Place::Replay(_) => &REPLAY_KEYS,
         Place::Bursts(_) => &BURST_KEYS,
         Place::Service(_, Operation::Flush) => &FLUSH_KEYS,
         Place::Service(_, _) => &SERVICE_KEYS,
@@ -52,6 +53,7 @@ fn words_of(kind: Kind) -> &'static [&'static str] {
     match kind {
         Kind::Placing => &["pool", "striped"],
         Kind::Offsets => &["uniform", "sequential"],
+        Kind::Form => &["csv", "msr", "alibaba", "blkparse", "fio"],
         _ => &[],
     }
 }
@@ -84,7 +86,7 @@ fn push_place<'a>(path: &mut Vec<PathStep<'a>>, place: Place) -> Result<(), Allo
             push_queue(path, number)?;
             push_key(path, Key::Mix)
         }
-        Place::Arrivals(number) => {
+        Place::Arrivals(number) | Place::Replay(number) => {
             push_queue(path, number)?;
             push_key(path, Key::Arrivals)
         }

@@ -2,10 +2,10 @@
 use Rattle.std.specs.Prelude.{ℕ, ◌+◌, ◌^◌, ◌&&◌, nat_lt, if◌then◌else◌, Option, Some, None}
 use Rattle.toml.specs.Data.{Data, Members, as_table}
 use Rattle.nvme_model_form.specs.declared.key.Key.TheVariants as key
-use Rattle.nvme_model_form.specs.Keys.{arrival_keys, burst_keys}
+use Rattle.nvme_model_form.specs.Keys.{arrival_keys, burst_keys, replay_keys}
 use Rattle.nvme_model_form.specs.Readings.{◌>>=◌, ◌>>◌, only_keys, value_in, whole}
 use Rattle.nvme_model_form.specs.Times.{duration_at, duration_or_none, gap_of, mean_of}
-use Rattle.nvme_model_form.specs.Views.{Coming, ByPoisson, ByGap, InBursts, BehindOthers}
+use Rattle.nvme_model_form.specs.Views.{Coming, ByPoisson, ByGap, InBursts, BehindOthers, Replayed}
 
 unfoldable pub poisson_of : Data → Option ℕ
 poisson_of d = gap_of d >>= mean_of
@@ -33,15 +33,23 @@ bursts_of d = do
   phases_of mean on off
 
 -- by the one key of four that a table has, where none thinks but a closed host
-abbrev pub arrivals_by : Members → (poisson every closed bursts think : Option Data) → Option Coming
-arrivals_by table (Some d) None None None None = poisson_of d >>= (λ mean. Some (ByPoisson mean))
-arrivals_by table None (Some d) None None None = regular_of d
-arrivals_by table None None (Some d) None think = closed_of d table
-arrivals_by table None None None (Some d) None = bursts_of d
-arrivals_by table _ _ _ _ _ = None
+abbrev pub drawn_by : Members → (poisson every closed bursts think : Option Data) → Option Coming
+drawn_by table (Some d) None None None None = poisson_of d >>= (λ mean. Some (ByPoisson mean))
+drawn_by table None (Some d) None None None = regular_of d
+drawn_by table None None (Some d) None think = closed_of d table
+drawn_by table None None None (Some d) None = bursts_of d
+drawn_by table _ _ _ _ _ = None
 
-unfoldable pub arrivals_in : Members → Option Coming
-arrivals_in table = only_keys arrival_keys table >> arrivals_by table (value_in key.Poisson table) (value_in key.Every table) (value_in key.Closed table) (value_in key.Bursts table) (value_in key.Think table)
+unfoldable pub drawn_in : Members → Option Coming
+drawn_in table = only_keys arrival_keys table >> drawn_by table (value_in key.Poisson table) (value_in key.Every table) (value_in key.Closed table) (value_in key.Bursts table) (value_in key.Think table)
+
+-- where a table has the key of a file, that is replayed. What its other keys say is another matter (`sources_of`)
+abbrev pub arrivals_by : Members → Option Data → Option Coming
+arrivals_by table None = drawn_in table
+arrivals_by table (Some d) = only_keys replay_keys table >> Some Replayed
+
+abbrev pub arrivals_in : Members → Option Coming
+arrivals_in table = arrivals_by table (value_in key.Replay table)
 
 unfoldable pub arrivals_at : Members → Option Coming
 arrivals_at queue = do

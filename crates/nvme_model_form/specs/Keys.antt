@@ -46,6 +46,9 @@ text_of key.Think = codes "think"
 text_of key.Bursts = codes "bursts"
 text_of key.On = codes "on"
 text_of key.Off = codes "off"
+text_of key.Replay = codes "replay"
+text_of key.Form = codes "form"
+text_of key.Speed = codes "speed"
 
 -- the file's own table
 abbrev pub file_keys : List Key
@@ -73,7 +76,11 @@ mix_keys = key.Read ∷ key.Write ∷ key.Flush ∷ []
 
 -- `arrivals`
 abbrev pub arrival_keys : List Key
-arrival_keys = key.Poisson ∷ key.Every ∷ key.Closed ∷ key.Think ∷ key.Bursts ∷ []
+arrival_keys = key.Poisson ∷ key.Every ∷ key.Closed ∷ key.Think ∷ key.Bursts ∷ key.Replay ∷ []
+
+-- `arrivals` that replay a file
+abbrev pub replay_keys : List Key
+replay_keys = key.Replay ∷ key.Form ∷ key.Speed ∷ key.Queue ∷ []
 
 -- `bursts`
 abbrev pub burst_keys : List Key

@@ -1,5 +1,5 @@
 -- The queues, by what a file says. (profile)
-use Rattle.std.specs.Prelude.{ℕ, ◌+◌, ◌==◌, nat_le, nat_lt, if◌then◌else◌, codes, List, [], ◌∷◌, ◌++◌, Option, Some, None}
+use Rattle.std.specs.Prelude.{ℕ, ◌+◌, ◌==◌, nat_le, nat_lt, is_some, if◌then◌else◌, codes, List, [], ◌∷◌, ◌++◌, Option, Some, None}
 use Rattle.toml.specs.Data.{Data, Members, as_str, as_array, as_table}
 use Rattle.nvme_arbiter.specs.declared.settings.Class.{Class}
 use Rattle.nvme_arbiter.specs.declared.settings.Class.TheVariants as class
@@ -16,8 +16,8 @@ use Rattle.nvme_model_form.specs.declared.key.Key.TheVariants as key
 use Rattle.nvme_model_form.specs.Keys.{queue_keys, mix_keys}
 use Rattle.nvme_model_form.specs.Readings.{◌>>=◌, ◌>>◌, accepted, in_turn, item_count, only_keys, value_in, number_or}
 use Rattle.nvme_model_form.specs.Arrivals.{arrivals_at}
-use Rattle.nvme_model_form.specs.Services.{service_for, flush_for}
-use Rattle.nvme_model_form.specs.Views.{Shares, Asking}
+use Rattle.nvme_model_form.specs.Services.{service_for, flush_for, needed}
+use Rattle.nvme_model_form.specs.Views.{Coming, ByPoisson, ByGap, InBursts, BehindOthers, Replayed, Shares, Asking}
 
 -- QPRIO: Base Specification, Create I/O Submission Queue, CDW11 02:01
 abbrev pub class_of_qprio : ℕ → Class
@@ -69,6 +69,17 @@ optional_order (Some d) = order_named (as_str d)
 abbrev pub order_in : Members → Option Order
 order_in queue = optional_order (value_in key.Offsets queue)
 
+-- what a list says of commands, a table says nothing of
+abbrev pub without : Key → Members → Option (Unit {0})
+without key table = if is_some (value_in key table) then None else Some tt
+
+abbrev pub listed_alone : Coming → Members → Option (Unit {0})
+listed_alone Replayed queue = without key.Mix queue >> without key.Blocks queue >> without key.Offsets queue
+listed_alone (ByPoisson mean) queue = Some tt
+listed_alone (ByGap gap) queue = Some tt
+listed_alone (InBursts mean on off) queue = Some tt
+listed_alone (BehindOthers depth think) queue = Some tt
+
 -- a queue of this number, over a device with a namespace of this size
 unfoldable pub queue_in : (number size : ℕ) → (device queue : Members) → Option Asking
 queue_in number size device queue = do
@@ -76,12 +87,13 @@ queue_in number size device queue = do
   class ← class_in number queue
   slots ← slots_in queue
   coming ← arrivals_at queue
+  listed_alone coming queue
   shares ← mix_in queue
   blocks ← blocks_in size queue
   order ← order_in queue
-  read ← service_for operation.Read shares.read queue device
-  write ← service_for operation.Write shares.write queue device
-  flush ← flush_for shares.flush queue device
+  read ← service_for operation.Read (needed coming shares.read) queue device
+  write ← service_for operation.Write (needed coming shares.write) queue device
+  flush ← flush_for (needed coming shares.flush) queue device
   Some (record { class = class; slots = slots; coming = coming; shares = shares; size = size; blocks = blocks; order = order; read = read; write = write; flush = flush })
 
 -- the queues before, with one more

@@ -8,7 +8,7 @@ use Rattle.nvme_model_form.specs.declared.key.Key.TheVariants as key
 use Rattle.nvme_model_form.specs.Keys.{service_keys, flush_keys}
 use Rattle.nvme_model_form.specs.Readings.{◌>>=◌, ◌>>◌, in_turn, only_keys, value_in, whole}
 use Rattle.nvme_model_form.specs.Times.{duration_of, duration_at, duration_or_none, mean_of}
-use Rattle.nvme_model_form.specs.Views.{Spread, Always, Exponentially, OneOfTwo, ByQuantiles, Taking}
+use Rattle.nvme_model_form.specs.Views.{Coming, ByPoisson, ByGap, InBursts, BehindOthers, Replayed, Spread, Always, Exponentially, OneOfTwo, ByQuantiles, Taking}
 
 -- the durations of an array, with those before them
 unfoldable pub with_time : ℕ → List ℕ → Data → Option (List ℕ)
@@ -68,6 +68,14 @@ abbrev pub key_of : Operation → Key
 key_of Read = key.Read
 key_of Write = key.Write
 key_of Flush = key.Flush
+
+-- how large a share of a queue's commands needs a service of their operation: none where a list says what they do
+abbrev pub needed : Coming → ℕ → ℕ
+needed Replayed share = 0
+needed (ByPoisson mean) share = share
+needed (ByGap gap) share = share
+needed (InBursts mean on off) share = share
+needed (BehindOthers depth think) share = share
 
 -- the queue's own service, or else the device's. An operation without a share may have none
 abbrev pub service_by : Operation → ℕ → Option Data → Option Data → Option Taking

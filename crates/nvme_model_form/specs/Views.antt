@@ -23,12 +23,15 @@ pub data Coming : Type 0 where
   ByGap : (gap : ℕ) → Coming
   InBursts : (mean on off : ℕ) → Coming
   BehindOthers : (depth think : ℕ) → Coming
+  Replayed : Coming
 
 abbrev pub coming_of : Arrivals → Coming
 coming_of (arrivals.Poisson mean) = ByPoisson mean.picoseconds
 coming_of (arrivals.Regular gap) = ByGap gap.picoseconds
 coming_of (arrivals.OnOff phases) = InBursts phases.mean.picoseconds phases.on phases.off
 coming_of (arrivals.Closed host) = BehindOthers host.depth host.think
+-- (its list is that of a file)
+coming_of (arrivals.Replay list) = Replayed
 
 -- ---- how long the device takes
 

@@ -2,15 +2,16 @@
 ghost use Rattle.toml.specs.View.{view, table_view};
 ghost use Rattle.nvme_model_form.specs.Readings.{Means, seen};
 ghost use Rattle.nvme_model_form.specs.Views.{coming_of};
-ghost use Rattle.nvme_model_form.specs.Arrivals.{poisson_of, regular_of, closed_of, phases_of, bursts_of, arrivals_in, arrivals_at};
+ghost use Rattle.nvme_model_form.specs.Arrivals.{poisson_of, regular_of, closed_of, phases_of, bursts_of, drawn_in, arrivals_in, arrivals_at};
 
 use crate::error::{Fault, ModelError, Refusal, refused};
 use crate::key::Key;
 use crate::place::{Place, Target};
-use crate::tables::{ARRIVAL_KEYS, BURST_KEYS};
+use crate::tables::{ARRIVAL_KEYS, BURST_KEYS, REPLAY_KEYS};
 use crate::times::{duration_at, duration_or_none, gap_of, mean_of};
 use crate::values::{only_keys, table_of, value_at, value_in, whole};
-use nvme_load::{Arrivals, Closed, Gap, Mean, Phases};
+use nvme_load::{Arrivals, Closed, Gap, Mean, Phases, Replay};
+use std::alloc::Global;
 use toml::{Table, Value};
 
 /// The most commands that a closed host has out.
@@ -72,10 +73,10 @@ fn bursts_of(number: usize, value: &Value) -> Result<Arrivals, ModelError>
     phases_of(place, mean, on, off)
 }
 
-/// The arrivals of the queue of this number, by the one of four keys that their table has.
-#[tactic(auto, unfolding(crate::specs::Arrivals::arrivals_in))]
-pub(crate) fn arrivals_in(number: usize, table: &Table) -> Result<Arrivals, ModelError>
-    ensures { Means (seen coming_of result) (arrivals_in (table_view table.now)) }
+// The arrivals of the queue of this number, by the one of four keys that their table has.
+#[tactic(auto, unfolding(crate::specs::Arrivals::drawn_in))]
+fn drawn_in(number: usize, table: &Table) -> Result<Arrivals, ModelError>
+    ensures { Means (seen coming_of result) (drawn_in (table_view table.now)) }
 {
     let place = Place::Arrivals(number);
     only_keys(place, &ARRIVAL_KEYS, table)?;
@@ -95,12 +96,36 @@ pub(crate) fn arrivals_in(number: usize, table: &Table) -> Result<Arrivals, Mode
     }
 }
 
-/// The arrivals of the queue of this number.
+// The arrivals of the queue of this number, which replays a file where their table has that key.
+fn arrivals_in(
+    alloc: Global,
+    number: usize,
+    size: u64,
+    table: &Table,
+) -> Result<Arrivals, ModelError>
+    ensures { Means (seen coming_of result) (arrivals_in (table_view table.now)) }
+{
+    match value_in(Key::Replay, table) {
+        None => drawn_in(number, table),
+        Some(_) => {
+            only_keys(Place::Replay(number), &REPLAY_KEYS, table)?;
+            Ok(Arrivals::Replay(Replay::empty(alloc, size)))
+        }
+    }
+}
+
+/// The arrivals of the queue of this number. The list of one that replays a file has no command yet: `sources_of` says which
+/// file that is.
 #[tactic(auto, unfolding(crate::specs::Arrivals::arrivals_at))]
-pub(crate) fn arrivals_at(number: usize, queue: &Table) -> Result<Arrivals, ModelError>
+pub(crate) fn arrivals_at(
+    alloc: Global,
+    number: usize,
+    size: u64,
+    queue: &Table,
+) -> Result<Arrivals, ModelError>
     ensures { Means (seen coming_of result) (arrivals_at (table_view queue.now)) }
 {
     let place = Place::Queue(number);
     let value = value_at(place, Key::Arrivals, queue)?;
-    arrivals_in(number, table_of(place, Key::Arrivals, value)?)
+    arrivals_in(alloc, number, size, table_of(place, Key::Arrivals, value)?)
 }

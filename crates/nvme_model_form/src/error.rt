@@ -31,6 +31,12 @@ pub enum Kind {
     Placing,
     /// `"uniform"` or `"sequential"`.
     Offsets,
+    /// The name of a file.
+    File,
+    /// The form of a file that is replayed.
+    Form,
+    /// A number above 0: a whole one, or a text of digits, or of digits, a point and digits.
+    Speed,
 }
 
 /// Why a value of the right kind is refused. Each says what is expected.
@@ -94,6 +100,8 @@ pub enum Fault {
     Beside(Key),
     /// The key has no effect without `placing = "striped"`.
     NotStriped,
+    /// The key has no effect without `form = "csv"`.
+    NotCsv,
     /// Of the keys that say which service it is there is none, or there are several.
     NoService,
     /// Of the keys that say which arrivals they are there is none, or there are several; or `think` isn't beside `closed`.

@@ -15,7 +15,7 @@ pub enum Key {
     Simulation,
     /// `device` of the file: the device.
     Device,
-    /// `queue` of the file: the queues, which count from 1.
+    /// `queue` of the file: the queues, which count from 1. Of arrivals: the queue whose lines of a log are replayed.
     Queue,
     /// `seed` of the simulation: of all that is drawn.
     Seed,
@@ -85,6 +85,12 @@ pub enum Key {
     On,
     /// `off` of bursts: how long each off phase is.
     Off,
+    /// `replay` of arrivals: the name of a file.
+    Replay,
+    /// `form` of arrivals: that of the file.
+    Form,
+    /// `speed` of arrivals: how many times as fast as in the file commands come.
+    Speed,
 }
 
 impl Key {
@@ -136,6 +142,9 @@ impl Key {
             Key::Bursts => "bursts",
             Key::On => "on",
             Key::Off => "off",
+            Key::Replay => "replay",
+            Key::Form => "form",
+            Key::Speed => "speed",
         }
     }
 }

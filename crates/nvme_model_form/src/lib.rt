@@ -11,6 +11,7 @@ mod place;
 mod queue;
 mod services;
 mod simulation;
+mod sources;
 mod spread;
 mod tables;
 mod times;
@@ -20,7 +21,8 @@ pub use error::{Fault, Kind, ModelError, Refusal};
 pub use form::{is_simulation, model_of};
 pub use key::Key;
 pub use place::{Owner, Place, Target, key_of};
+pub use sources::{Source, sources_of};
 pub use tables::{
     ARRIVAL_KEYS, BURST_KEYS, DEVICE_KEYS, FILE_KEYS, FLUSH_KEYS, MIX_KEYS, PAUSE_KEYS, QUEUE_KEYS,
-    SERVICE_KEYS, SIMULATION_KEYS,
+    REPLAY_KEYS, SERVICE_KEYS, SIMULATION_KEYS,
 };

@@ -32,6 +32,8 @@ pub enum Place {
     Mix(usize),
     /// `arrivals` of a queue.
     Arrivals(usize),
+    /// `arrivals` of a queue that replays a file.
+    Replay(usize),
     /// `bursts` of the arrivals of a queue.
     Bursts(usize),
     /// The service of an operation.
@@ -69,7 +71,9 @@ impl fmt::Display for Place {
             Place::Pauses => f.write_str("device, pauses"),
             Place::Queue(queue) => write!(f, "queue {queue}"),
             Place::Mix(queue) => write!(f, "queue {queue}, mix"),
-            Place::Arrivals(queue) => write!(f, "queue {queue}, arrivals"),
+            Place::Arrivals(queue) | Place::Replay(queue) => {
+                write!(f, "queue {queue}, arrivals")
+            }
             Place::Bursts(queue) => write!(f, "queue {queue}, arrivals, bursts"),
             Place::Service(Owner::Device, operation) => {
                 write!(f, "device, {name}", name = key_of(*operation).name())

@@ -2,8 +2,8 @@
 ghost use Rattle.std.specs.Prelude.{◌≡◌, ◌+◌, ◌<◌, ◌≤◌, [], length, map, Some, IfOk, OnOk};
 ghost use Rattle.toml.specs.View.{view, items_view, table_view};
 ghost use Rattle.nvme_model_form.specs.Readings.{Means, seen, in_turn};
-ghost use Rattle.nvme_model_form.specs.Views.{asking_of, shares_of};
-ghost use Rattle.nvme_model_form.specs.Queues.{class_in, slots_in, share_in, mix_of, mix_in, blocks_in, order_in, queue_in, with_queue, queues_in, queue_count};
+ghost use Rattle.nvme_model_form.specs.Views.{asking_of, coming_of, shares_of};
+ghost use Rattle.nvme_model_form.specs.Queues.{class_in, slots_in, share_in, mix_of, mix_in, blocks_in, listed_alone, order_in, queue_in, with_queue, queues_in, queue_count, without};
 ghost use Rattle.nvme_model.specs.declared.model.TheConstants.{MAX_QUEUES};
 
 use crate::arrivals::arrivals_at;
@@ -14,7 +14,7 @@ use crate::services::services_for;
 use crate::tables::{MIX_KEYS, QUEUE_KEYS};
 use crate::values::{bad, number_or, only_keys, table_of, value_at, value_in};
 use nvme_arbiter::Class;
-use nvme_load::{Extent, MAX_BLOCKS, Mix, Order, Places};
+use nvme_load::{Arrivals, Extent, MAX_BLOCKS, Mix, Order, Places};
 use nvme_model::{MAX_QUEUES, MAX_SLOTS, MIN_SLOTS, Queue, QueuesFault};
 use nvme_short_form::qprio_in;
 use std::alloc::Global;
@@ -102,6 +102,33 @@ fn order_in(number: usize, queue: &Table) -> Result<Order, ModelError>
     }
 }
 
+// That a table doesn't have a key, of which the list of a replay says more.
+fn without(number: usize, key: Key, queue: &Table) -> Result<(), ModelError>
+    ensures { Means result (without key (table_view queue.now)) }
+{
+    match value_in(key, queue) {
+        Some(_) => {
+            let fault = Fault::Beside(Key::Replay);
+            Err(ModelError::At(Place::Queue(number), Target::Key(key), fault))
+        }
+        None => Ok(()),
+    }
+}
+
+// That a queue whose commands a list says has no key of what they do and where they lie.
+fn listed_alone(number: usize, arrivals: &Arrivals, queue: &Table) -> Result<(), ModelError>
+    ensures { Means result (listed_alone (coming_of arrivals.now) (table_view queue.now)) }
+{
+    match arrivals {
+        Arrivals::Replay(_) => {
+            without(number, Key::Mix, queue)?;
+            without(number, Key::Blocks, queue)?;
+            without(number, Key::Offsets, queue)
+        }
+        _ => Ok(()),
+    }
+}
+
 // The queue of this number that a table says.
 #[tactic(auto, unfolding(crate::specs::Queues::queue_in))]
 fn queue_in(
@@ -117,11 +144,12 @@ fn queue_in(
     only_keys(place, &QUEUE_KEYS, queue)?;
     let class = class_in(number, queue)?;
     let slots = slots_in(number, queue)?;
-    let arrivals = arrivals_at(number, queue)?;
+    let arrivals = arrivals_at(alloc, number, size, queue)?;
+    listed_alone(number, &arrivals, queue)?;
     let mix = mix_in(number, queue)?;
     let extent = extent_in(number, size, queue)?;
     let order = order_in(number, queue)?;
-    let services = services_for(alloc, number, mix, queue, device)?;
+    let services = services_for(alloc, number, &arrivals, mix, queue, device)?;
     let places = Places::new(extent, order);
     match Queue::new(class, slots, arrivals, mix, places, services) {
         Ok(queue) => Ok(queue),

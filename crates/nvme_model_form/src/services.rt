@@ -2,8 +2,8 @@
 ghost use Rattle.std.specs.Prelude.{◌≡◌, Some, IfOk};
 ghost use Rattle.toml.specs.View.{view, table_view};
 ghost use Rattle.nvme_model_form.specs.Readings.{Means, only_keys};
-ghost use Rattle.nvme_model_form.specs.Views.{spread_of, taking_of};
-ghost use Rattle.nvme_model_form.specs.Services.{keys_of, service_in, service_of, service_for, flush_for};
+ghost use Rattle.nvme_model_form.specs.Views.{coming_of, spread_of, taking_of};
+ghost use Rattle.nvme_model_form.specs.Services.{keys_of, service_in, service_of, service_for, flush_for, needed};
 ghost use Rattle.nvme_load.specs.declared.mix.Operation.TheVariants as operation;
 
 use crate::error::{Fault, Kind, ModelError};
@@ -13,7 +13,7 @@ use crate::spread::spread_in;
 use crate::tables::{FLUSH_KEYS, SERVICE_KEYS};
 use crate::times::{duration_of, duration_or_none};
 use crate::values::{only_keys, value_in};
-use nvme_load::{Distribution, Mix, Operation, Service, Services};
+use nvme_load::{Arrivals, Distribution, Mix, Operation, Service, Services};
 use std::alloc::Global;
 use toml::{Table, Value};
 
@@ -114,21 +114,35 @@ fn service_for(
     }
 }
 
+// How large a share of a queue's commands needs a service of their operation: none where a list says what they do.
+fn needed(arrivals: &Arrivals, share: u32) -> u32
+    ensures { result ≡ needed (coming_of arrivals.now) share }
+{
+    match arrivals {
+        Arrivals::Replay(_) => 0,
+        _ => share,
+    }
+}
+
 /// The services of a queue.
 pub(crate) fn services_for(
     alloc: Global,
     number: usize,
+    arrivals: &Arrivals,
     mix: Mix,
     queue: &Table,
     device: &Table,
 ) -> Result<Services, ModelError>
-    ensures read { IfOk result (λ s. service_for operation.Read mix.read (table_view queue.now) (table_view device.now) ≡ Some (taking_of s.read)) }
-    ensures write { IfOk result (λ s. service_for operation.Write mix.write (table_view queue.now) (table_view device.now) ≡ Some (taking_of s.write)) }
-    ensures flush { IfOk result (λ s. flush_for mix.flush (table_view queue.now) (table_view device.now) ≡ Some (spread_of s.flush)) }
+    ensures read { IfOk result (λ s. service_for operation.Read (needed (coming_of arrivals.now) mix.read) (table_view queue.now) (table_view device.now) ≡ Some (taking_of s.read)) }
+    ensures write { IfOk result (λ s. service_for operation.Write (needed (coming_of arrivals.now) mix.write) (table_view queue.now) (table_view device.now) ≡ Some (taking_of s.write)) }
+    ensures flush { IfOk result (λ s. flush_for (needed (coming_of arrivals.now) mix.flush) (table_view queue.now) (table_view device.now) ≡ Some (spread_of s.flush)) }
 {
-    let read = service_for(alloc, number, Operation::Read, mix.read, queue, device)?;
-    let write = service_for(alloc, number, Operation::Write, mix.write, queue, device)?;
-    let flush = service_for(alloc, number, Operation::Flush, mix.flush, queue, device)?;
+    let reads = needed(arrivals, mix.read);
+    let read = service_for(alloc, number, Operation::Read, reads, queue, device)?;
+    let writes = needed(arrivals, mix.write);
+    let write = service_for(alloc, number, Operation::Write, writes, queue, device)?;
+    let flushes = needed(arrivals, mix.flush);
+    let flush = service_for(alloc, number, Operation::Flush, flushes, queue, device)?;
     Ok(Services {
         read,
         write,

@@ -48,13 +48,17 @@ pub const QUEUE_KEYS: [Key; 9] = [
 pub const MIX_KEYS: [Key; 3] = [Key::Read, Key::Write, Key::Flush];
 
 /// The keys of `arrivals`.
-pub const ARRIVAL_KEYS: [Key; 5] = [
+pub const ARRIVAL_KEYS: [Key; 6] = [
     Key::Poisson,
     Key::Every,
     Key::Closed,
     Key::Think,
     Key::Bursts,
+    Key::Replay,
 ];
+
+/// The keys of `arrivals` that replay a file.
+pub const REPLAY_KEYS: [Key; 4] = [Key::Replay, Key::Form, Key::Speed, Key::Queue];
 
 /// The keys of `bursts`.
 pub const BURST_KEYS: [Key; 3] = [Key::Poisson, Key::On, Key::Off];

@@ -5,6 +5,7 @@
 
 mod answer;
 mod finish_log;
+mod groups;
 pub mod laws;
 mod names;
 mod numbers;
@@ -15,10 +16,7 @@ mod tally;
 
 pub use answer::{About, Answer, Member};
 pub use finish_log::{log_header, log_line};
-pub use names::class_name;
+pub use names::{PickingWords, class_name};
 pub use numbers::Numbers;
 pub use nvme_output::WriteFault;
 pub use row::{Row, Spread};
-
-#[cfg(test)]
-mod tests;

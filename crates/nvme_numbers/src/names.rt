@@ -1,6 +1,7 @@
-// The names of classes, mechanisms and operations.
-use nvme_arbiter::{Class, Mechanism};
+// The names of classes, mechanisms and operations, and of settings.
+use nvme_arbiter::{Class, Mechanism, Settings};
 use nvme_load::Operation;
+use std::fmt;
 
 /// The name of a class.
 pub fn class_name(class: Class) -> &'static str {
@@ -27,5 +28,29 @@ pub fn operation_name(operation: Operation) -> &'static str {
         Operation::Read => "read",
         Operation::Write => "write",
         Operation::Flush => "flush",
+    }
+}
+
+/// How commands are picked, in words: the mechanism, the most commands of a pick, and the weights under weighted round robin.
+#[derive(Clone, Copy, Debug, PartialEq, Eq)]
+pub struct PickingWords {
+    pub mechanism: Mechanism,
+    pub settings: Settings,
+}
+
+impl fmt::Display for PickingWords {
+    fn fmt<W: fmt::Write>(&self, f: &mut fmt::Formatter<W>) -> fmt::Result {
+        f.write_str(mechanism_name(self.mechanism))?;
+        match self.settings.burst() {
+            Some(burst) => write!(f, ", burst {burst}")?,
+            None => f.write_str(", no limit of bursts")?,
+        }
+        if self.mechanism == Mechanism::Weighted {
+            let high = self.settings.weight(Class::High);
+            let medium = self.settings.weight(Class::Medium);
+            let low = self.settings.weight(Class::Low);
+            write!(f, ", high {high}, medium {medium}, low {low}")?;
+        }
+        Ok(())
     }
 }

@@ -5,6 +5,3 @@ pub mod laws;
 mod occupancy;
 
 pub use occupancy::{Occupancy, OccupancyFault};
-
-#[cfg(test)]
-mod tests;

@@ -3,8 +3,6 @@
 
 mod placement;
 mod table;
-#[cfg(test)]
-mod tests;
 mod tokens;
 
 pub use placement::{INVALID_INTERRUPT_VECTOR, PRP_OFFSET_INVALID, Placement};

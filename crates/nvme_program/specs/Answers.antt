@@ -62,7 +62,7 @@ module _ {W : Type 0} (contents : W → Option (List ℕ)) (old new : W) where
   Does request.CheckSpec bytes = HasLawful Appended Specification bytes
   Does request.CheckAll bytes = HasLawful Appended Profile bytes
   Does (request.Trace mode workers) bytes = OfFile (HasTrace Appended mode) bytes
-  Does (request.Chart range) bytes = IsTrace bytes
+  Does (request.Chart drawing) bytes = IsTrace bytes
   Does (request.Stats numbers) bytes = IsTrace bytes
   Does (request.Settings reading) bytes = (x : ℕ) × (reading ≡ Ok x)
   Does (request.Unfit why) bytes = ⊥
@@ -87,7 +87,7 @@ module _ {W : Type 0} (contents : W → Option (List ℕ)) (old new : W) where
   FailsToWrite request.CheckSpec bytes = FailsToCheck Specification bytes
   FailsToWrite request.CheckAll bytes = FailsToSurvey bytes
   FailsToWrite (request.Trace mode workers) bytes = OfFile (HasTrace AppendedPart mode) bytes
-  FailsToWrite (request.Chart range) bytes = IsTrace bytes
+  FailsToWrite (request.Chart drawing) bytes = IsTrace bytes
   FailsToWrite (request.Stats numbers) bytes = IsTrace bytes
   FailsToWrite (request.Settings reading) bytes = (x : ℕ) × (reading ≡ Ok x)
   FailsToWrite (request.Unfit why) bytes = ⊥

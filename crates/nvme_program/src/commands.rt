@@ -86,7 +86,7 @@ fn done<R: Read + Drop, W: Write, T: Threads + Wait + Sync>(
         Request::CheckSpec => checked(alloc, Basis::Specification, input, output),
         Request::CheckAll => surveyed(alloc, input, output),
         Request::Trace(mode, workers) => traced_file(rt, alloc, mode, workers, input, output),
-        Request::Chart(range) => charted(alloc, range, input, output),
+        Request::Chart(drawing) => charted(alloc, drawing, input, output),
         Request::Stats(numbers) => counted(alloc, numbers, input, output),
         Request::Settings(reading) => translated(reading, output),
         Request::Unfit(fault) => Err(Fault::Options(fault)),

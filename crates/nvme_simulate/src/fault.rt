@@ -12,6 +12,8 @@ pub enum Stream {
     Log,
     /// A line for each pick.
     Trace,
+    /// The picture.
+    Chart,
 }
 
 /// Why a simulation has no answer.

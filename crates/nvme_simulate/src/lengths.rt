@@ -22,12 +22,19 @@ fn until_end(queue: &Queue) -> u128 {
             let turns = CLOCK.checked_div(turn).unwrap_or(u128::MAX);
             turns.saturating_mul(u128::from(host.depth))
         }
+        Arrivals::Replay(list) => list.requests.len() as u128,
     }
+}
+
+// Whether all commands are those of lists: no more come once these have ended.
+fn are_lists(model: &Model) -> bool {
+    let mut queues = model.queues.iter();
+    queues.all(|queue| matches!(&queue.arrivals, Arrivals::Replay(_)))
 }
 
 // Whether fewer commands come until the clock ends, by their mean times, than are to come.
 pub(crate) fn is_too_long(model: &Model) -> bool {
-    if model.end.time.is_some() {
+    if model.end.time.is_some() || are_lists(model) {
         return false;
     }
     let mut sum = 0u128;

@@ -1,10 +1,12 @@
-// Whether more commands come than a device can run. Loads are millionths of a channel, rounded down.
+// What open queues ask for and what a device can do, in parts of a channel, rounded down; whether more commands come than it
+// can run.
 use nvme_clock::{Quantiles, TwoPoints};
 use nvme_load::{Arrivals, Distribution, Mix, Service};
 use nvme_model::{Device, Model, Queue};
 use std::fmt;
 
-const MILLIONTHS: u128 = 1_000_000;
+// The millionths of a load of 1, or of a channel.
+pub(crate) const MILLIONTHS: u128 = 1_000_000;
 
 // Millionths in a thousandth.
 const PER_THOUSANDTH: u128 = 1_000;
@@ -79,38 +81,41 @@ pub(crate) fn mean_service(queue: &Queue) -> u128 {
     part(sum, 1, read.saturating_add(write).saturating_add(flush))
 }
 
-// The load of commands that run so long, of which one comes in each gap.
-fn load(service: u128, gap: u64) -> u128 {
-    part(service, MILLIONTHS, u128::from(gap))
+// The load of commands that run so long, of which one comes in each gap, in so many parts of a channel.
+fn load(service: u128, gap: u64, parts: u128) -> u128 {
+    part(service, parts, u128::from(gap))
 }
 
-// What an open queue asks for. None of a closed host, which waits for completions.
-fn offered_by(queue: &Queue) -> Option<u128> {
+// What an open queue asks for, in so many parts of a channel. None of a closed host, which waits for completions, and of a
+// list, which ends.
+fn offered_by(queue: &Queue, parts: u128) -> Option<u128> {
     let service = mean_service(queue);
     match &queue.arrivals {
-        Arrivals::Poisson(mean) => Some(load(service, mean.picoseconds)),
-        Arrivals::Regular(gap) => Some(load(service, gap.picoseconds)),
+        Arrivals::Poisson(mean) => Some(load(service, mean.picoseconds, parts)),
+        Arrivals::Regular(gap) => Some(load(service, gap.picoseconds, parts)),
         Arrivals::OnOff(phases) => {
             let cycle = u128::from(phases.on).saturating_add(u128::from(phases.off));
-            let busy = load(service, phases.mean.picoseconds);
+            let busy = load(service, phases.mean.picoseconds, parts);
             Some(part(busy, u128::from(phases.on), cycle))
         }
-        Arrivals::Closed(_) => None,
+        Arrivals::Closed(_) | Arrivals::Replay(_) => None,
     }
 }
 
-// What all open queues ask for.
-fn offered_to(model: &Model) -> u128 {
-    let mut sum = 0u128;
+// What all open queues ask for, in so many parts of a channel. None where no queue is open.
+pub(crate) fn offered_to(model: &Model, parts: u128) -> Option<u128> {
+    let mut sum: Option<u128> = None;
     for queue in &model.queues {
-        sum = sum.saturating_add(offered_by(queue).unwrap_or(0));
+        if let Some(offered) = offered_by(queue, parts) {
+            sum = Some(sum.unwrap_or(0).saturating_add(offered));
+        }
     }
     sum
 }
 
-// What the channels can do, less their pauses.
-fn capacity_of(device: &Device) -> u128 {
-    let whole = (device.channels as u128).saturating_mul(MILLIONTHS);
+// What the channels can do, less their pauses, in so many parts of a channel.
+pub(crate) fn capacity_of(device: &Device, parts: u128) -> u128 {
+    let whole = (device.channels as u128).saturating_mul(parts);
     match device.pauses {
         Some(pauses) => {
             let runs = pauses.every.saturating_sub(pauses.length);
@@ -122,7 +127,8 @@ fn capacity_of(device: &Device) -> u128 {
 
 /// Whether more commands come of a model's open queues than its device can run, so that ever more wait as time goes on.
 pub fn overload_of(model: &Model) -> Option<Overload<'_>> {
-    let (offered, capacity) = (offered_to(model), capacity_of(&model.device));
+    let offered = offered_to(model, MILLIONTHS).unwrap_or(0);
+    let capacity = capacity_of(&model.device, MILLIONTHS);
     if offered > capacity {
         Some(Overload {
             model,
@@ -151,7 +157,7 @@ impl Overload<'_> {
     fn write_queues<W: fmt::Write>(&self, f: &mut fmt::Formatter<W>) -> fmt::Result {
         let mut before = "queues ";
         for (index, queue) in self.model.queues.iter().enumerate() {
-            if offered_by(queue).is_some() {
+            if offered_by(queue, MILLIONTHS).is_some() {
                 let number = index.saturating_add(1);
                 write!(f, "{before}{number}")?;
                 before = ", ";

@@ -1,6 +1,9 @@
 // What a command line says in place of a simulation file.
-ghost use Rattle.std.specs.Prelude.{◌≡◌, IfOk, unwrap_or};
+ghost use Rattle.std.specs.Prelude.{◌≡◌, ◌≢◌, None, IfOk, unwrap_or};
+ghost use Rattle.nvme_simulate.specs.Scaling.{AreScaled};
 
+use crate::scaling::scaled;
+use crate::target::{Load, LoadFault};
 use nvme_clock::{DurationFault, duration_in};
 use nvme_model::{End, EndFault, Model};
 use thiserror::Error;
@@ -17,6 +20,9 @@ pub enum OverrideFault {
     /// Both say when a simulation ends.
     #[error("--commands and --time don't go together")]
     TwoEnds,
+    /// It is no load.
+    #[error("--load: {0}")]
+    Load(LoadFault),
 }
 
 /// What stands in place of what a simulation file says.
@@ -28,6 +34,8 @@ pub struct Overrides {
     pub end: Option<End>,
     /// How many of the commands that came first no number counts.
     pub warm_up: Option<u64>,
+    /// What part of what the device can do the open queues ask for.
+    pub load: Option<Load>,
 }
 
 // The end that options say: after so many commands, or at a time.
@@ -46,23 +54,42 @@ fn end_of(commands: Option<u64>, time: Option<&str>) -> Result<Option<End>, Over
     }
 }
 
+// The load that an option says.
+fn load_of(load: Option<&str>) -> Result<Option<Load>, OverrideFault> {
+    let Some(text) = load else {
+        return Ok(None);
+    };
+    match Load::new(text) {
+        Ok(load) => Ok(Some(load)),
+        Err(fault) => Err(OverrideFault::Load(fault)),
+    }
+}
+
 impl Overrides {
-    /// What these options say, of which each may be left out. The time is a duration, as `30s`.
+    /// What these options say, of which each may be left out. The time is a duration, as `30s`, and the load a decimal, as
+    /// `0.7`.
     pub fn new(
         seed: Option<u64>,
         commands: Option<u64>,
         time: Option<&str>,
         warm_up: Option<u64>,
+        load: Option<&str>,
     ) -> Result<Overrides, OverrideFault>
         ensures seed { IfOk result (λ o. o.seed ≡ seed) }
         ensures warm_up { IfOk result (λ o. o.warm_up ≡ warm_up) }
     {
         let end = end_of(commands, time)?;
-        Ok(Overrides { seed, end, warm_up })
+        let load = load_of(load)?;
+        Ok(Overrides {
+            seed,
+            end,
+            warm_up,
+            load,
+        })
     }
 
-    /// The model with these in place of its own.
-    pub fn applied(&self, mut model: Model) -> Model
+    // The model with these in place of its own, but for the load.
+    fn replaced(&self, mut model: Model) -> Model
         ensures seed { result.seed ≡ unwrap_or self.now.seed model.seed }
         ensures end { result.end ≡ unwrap_or self.now.end model.end }
         ensures warm_up { result.warm_up ≡ unwrap_or self.now.warm_up model.warm_up }
@@ -81,5 +108,24 @@ impl Overrides {
             model.warm_up = warm_up;
         }
         model
+    }
+
+    /// The model with these in place of its own. Where they say a load, the gaps of its open queues are scaled to it
+    /// (`scaled`), and refused where that can't be.
+    pub fn applied(&self, model: Model) -> Result<Model, LoadFault>
+        ensures seed { IfOk result (λ m. m.seed ≡ unwrap_or self.now.seed model.seed) }
+        ensures end { IfOk result (λ m. m.end ≡ unwrap_or self.now.end model.end) }
+        ensures warm_up { IfOk result (λ m. m.warm_up ≡ unwrap_or self.now.warm_up model.warm_up) }
+        ensures mechanism { IfOk result (λ m. m.mechanism ≡ model.mechanism) }
+        ensures settings { IfOk result (λ m. m.settings ≡ model.settings) }
+        ensures device { IfOk result (λ m. m.device ≡ model.device) }
+        ensures queues { self.now.load ≡ None → IfOk result (λ m. m.queues ≡ model.queues) }
+        ensures scaling { IfOk result (λ m. self.now.load ≢ None → AreScaled model.queues.items m.queues.items) }
+    {
+        let model = self.replaced(model);
+        match self.load {
+            Some(load) => scaled(model, load),
+            None => Ok(model),
+        }
     }
 }

@@ -2,6 +2,7 @@
 ghost use Rattle.nvme_simulation.specs.Simulations.{IsSimulation};
 
 use crate::digest::Digest;
+use crate::distributions::Subject;
 use crate::fault::{SimulateFault, Stream};
 use crate::lengths::is_too_long;
 use crate::progress::Progress;
@@ -136,17 +137,34 @@ fn played_to_end<L: Write, T: Write, P: Write>(
     })
 }
 
+// Writes the picture of a run.
+fn put_chart<W: Write>(
+    alloc: Global,
+    subject: &Subject,
+    numbers: &Numbers,
+    digest: &Digest,
+    chart: &mut W,
+) -> Result<(), SimulateFault> {
+    let picture = subject.picture(alloc, numbers, digest)?;
+    match picture.write_svg(chart) {
+        Ok(()) => Ok(()),
+        Err(_) => Err(SimulateFault::Write(Stream::Chart)),
+    }
+}
+
 /// Runs a model to its end, and writes its answer, with the digest of its file. What happens is written to the streams
-/// meanwhile. A model whose commands would come for longer than the clock goes, by their mean times, is refused before
-/// anything is written.
-pub fn simulate<L: Write, T: Write, P: Write, W: Write>(
+/// meanwhile, and a picture of the latencies to `chart`, where there is one, before the answer. A model whose commands would
+/// come for longer than the clock goes, by their mean times, is refused before anything is written.
+pub fn simulate<L: Write, T: Write, P: Write, W: Write, C: Write>(
     alloc: Global,
     model: Model,
     digest: &Digest,
     form: Form,
     streams: &mut Streams<L, T, P>,
     output: &mut W,
+    chart: &mut Option<C>,
 ) -> Result<(), SimulateFault> {
+    let subject = Subject::of(alloc, &model)?;
     let Played {
         simulation,
         numbers,
@@ -156,6 +174,9 @@ pub fn simulate<L: Write, T: Write, P: Write, W: Write>(
         version: VERSION,
         digest: digest.as_str(),
     };
+    if let Some(chart) = chart {
+        put_chart(alloc, &subject, &numbers, digest, chart)?;
+    }
     let answer = numbers.answer(end, simulation.channels(), about)?;
     form.put(&answer, output)
 }

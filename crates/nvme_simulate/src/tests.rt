@@ -1,14 +1,20 @@
-// The digest of `abc` is that of FIPS 180-4. Loads are worked out by hand.
+// The digest of `abc` is that of FIPS 180-4. Loads, and the gaps that are scaled to them, are worked out by hand, and tails by
+// a few lines of Python.
+use crate::groups::groups_of;
 use crate::lengths::is_too_long;
+use crate::scaling::scaled;
+use crate::tails::{Reached, percentiles_of, tail_of};
 use crate::{
-    Digest, Form, OverrideFault, Overrides, Progress, SimulateFault, Stream, Streams, overload_of,
-    put_pick, put_trace_head, simulate,
+    Digest, Form, Listings, Load, LoadFault, OverrideFault, Overrides, Progress, ReplayError,
+    SimulateFault, Source, Stream, Streams, model_in, overload_of, put_pick, put_trace_head,
+    simulate, sources_in,
 };
 use nvme_arbiter::{Class, Mechanism, Pick, Seen, Settings};
 use nvme_channels::Placement;
+use nvme_latency::Latencies;
 use nvme_load::{
-    Arrivals, Closed, Distribution, Extent, Gap, Mean, Mix, Order, Phases, Places, Service,
-    Services,
+    Arrivals, Closed, Distribution, Extent, Gap, Mean, Mix, Operation, Order, Phases, Places,
+    Replay, Request, Service, Services,
 };
 use nvme_model::{Device, End, Model, Pauses, Queue};
 use nvme_simulation::Picked;
@@ -81,28 +87,171 @@ fn loads_above_the_channels_are_told(rt: HostRuntime) -> Result<(), Fail> {
 }
 
 #[test]
+fn loads_are_decimals(rt: HostRuntime) -> Result<(), Fail> {
+    for (text, millionths) in [
+        ("1", 1_000_000),
+        ("0.7", 700_000),
+        ("00.75", 750_000),
+        ("0.000001", 1),
+        ("4.000000", 4_000_000),
+    ] {
+        assert_eq!(rt; Load::new(text)?.millionths, millionths);
+    }
+    for text in [
+        "",
+        ".5",
+        "1.",
+        "0.1234567",
+        "-1",
+        "+1",
+        "1e0",
+        "0.5.0",
+        "0x1",
+        " 1",
+    ] {
+        assert!(rt; matches!(Load::new(text), Err(LoadFault::Digits)), "{text}");
+    }
+    for text in ["0", "0.000000", "4.000001", "5", "99999999999999999999"] {
+        assert!(rt; matches!(Load::new(text), Err(LoadFault::Range)), "{text}");
+    }
+    Ok(())
+}
+
+// What arrivals say: their kind, and three numbers at most.
+fn shape_of(arrivals: &Arrivals) -> (&'static str, u64, u64, u64) {
+    match arrivals {
+        Arrivals::Poisson(mean) => ("poisson", mean.picoseconds, 0, 0),
+        Arrivals::Regular(gap) => ("every", gap.picoseconds, 0, 0),
+        Arrivals::OnOff(phases) => ("bursts", phases.mean.picoseconds, phases.on, phases.off),
+        Arrivals::Closed(host) => ("closed", u64::from(host.depth), host.think, 0),
+        Arrivals::Replay(list) => ("replay", list.size, list.requests.len() as u64, 0),
+    }
+}
+
+// What the arrivals of the second queue of a model say, once it is scaled to a load. Those of the first one, which is closed,
+// stay.
+fn shape_at(
+    rt: &HostRuntime,
+    load: &str,
+    model: Model,
+) -> Result<(&'static str, u64, u64, u64), Fail> {
+    let model = scaled(model, Load::new(load)?)?;
+    let (Some(closed), Some(open)) = (model.queues.first(), model.queues.get(1)) else {
+        return Err(Fail::new("two queues"));
+    };
+    assert_eq!(rt; shape_of(&closed.arrivals), ("closed", 8, 0, 0));
+    assert_eq!(rt; open.slots, 64);
+    Ok(shape_of(&open.arrivals))
+}
+
+// Reads of 100 us ask for 2 channels where one comes each 50 us.
+#[test]
+fn gaps_are_scaled_to_a_load(rt: HostRuntime) -> Result<(), Fail> {
+    let regular = |gap: u64| -> Result<Arrivals, Fail> { Ok(Arrivals::Regular(Gap::new(gap)?)) };
+    for (load, gap) in [
+        ("1", 50_000_000),
+        ("0.5", 100_000_000),
+        ("0.7", 71_428_571),
+        ("4", 12_500_000),
+    ] {
+        let two = model(&rt, regular(50 * MICROSECOND)?, None)?;
+        assert_eq!(rt; shape_at(&rt, load, two)?, ("every", gap, 0, 0));
+    }
+    let pauses = Some(Pauses::new(4_000, 1_000)?);
+    let paused = model(&rt, regular(50 * MICROSECOND)?, pauses)?;
+    assert_eq!(rt; shape_at(&rt, "1", paused)?, ("every", 66_666_667, 0, 0));
+    let mean = Mean::new(500 * MICROSECOND)?;
+    let slow = model(&rt, Arrivals::Poisson(mean), None)?;
+    assert_eq!(rt; shape_at(&rt, "0.8", slow)?, ("poisson", 62_500_000, 0, 0));
+    let phases = Phases::new(Mean::new(50 * MICROSECOND)?, 1_000, 3_000)?;
+    let bursts = model(&rt, Arrivals::OnOff(phases), None)?;
+    assert_eq!(rt;
+        shape_at(&rt, "0.5", bursts)?,
+        ("bursts", 25 * MICROSECOND, 1_000, 3_000)
+    );
+    Ok(())
+}
+
+// A list keeps its times, and is no part of the load.
+#[test]
+fn lists_stay_at_any_load(rt: HostRuntime) -> Result<(), Fail> {
+    let request = Request {
+        at: 7,
+        operation: Operation::Read,
+        block: 0,
+        blocks: 8,
+    };
+    let list = Replay::new(1_024, vec![in rt.alloc(); request]?)?;
+    let mut model = model(&rt, Arrivals::Regular(Gap::new(50 * MICROSECOND)?), None)?;
+    model.queues.push(queue(Arrivals::Replay(list))?)?;
+    let model = scaled(model, Load::new("0.5")?)?;
+    let (Some(open), Some(listed)) = (model.queues.get(1), model.queues.get(2)) else {
+        return Err(Fail::new("three queues"));
+    };
+    assert_eq!(rt;
+        shape_of(&open.arrivals),
+        ("every", 100 * MICROSECOND, 0, 0)
+    );
+    assert_eq!(rt; shape_of(&listed.arrivals), ("replay", 1_024, 1, 0));
+    assert_eq!(rt; listed.arrivals.request(0), Some(request));
+    Ok(())
+}
+
+#[test]
+fn what_cant_be_scaled_is_refused(rt: HostRuntime) -> Result<(), Fail> {
+    let load = Load::new("0.000001")?;
+    let closed = model(&rt, Arrivals::Closed(Closed::new(1, 0)?), None)?;
+    assert!(rt; matches!(scaled(closed, load), Err(LoadFault::NoOpenQueue)));
+    let list = Replay::empty(rt.alloc(), 1_024);
+    let listed = model(&rt, Arrivals::Replay(list), None)?;
+    assert!(rt; matches!(scaled(listed, load), Err(LoadFault::NoOpenQueue)));
+    let mut idle = model(&rt, Arrivals::Regular(Gap::new(1)?), None)?;
+    for queue in idle.queues.iter_mut() {
+        queue.mix = Mix::new(0, 0, 1)?;
+    }
+    assert!(rt; matches!(scaled(idle, load), Err(LoadFault::NoService)));
+    let mut queues = Vec::new(rt.alloc());
+    queues.push(queue(Arrivals::Regular(Gap::new(1)?))?)?;
+    queues.push(queue(Arrivals::Poisson(Mean::new(1 << 57)?))?)?;
+    let device = Device::new(2, 4, Placement::Pool, None)?;
+    let settings = Settings::from_cdw11(0x0703_0103);
+    let end = End::after(10)?;
+    let long = Model::new(Mechanism::Weighted, settings, device, queues, 7, end, 0)?;
+    assert!(rt; matches!(scaled(long, load), Err(LoadFault::LongGap(2))));
+    Ok(())
+}
+
+#[test]
 fn options_stand_in_place_of_the_file(rt: HostRuntime) -> Result<(), Fail> {
     let poisson = Arrivals::Poisson(Mean::new(MICROSECOND)?);
-    let overrides = match Overrides::new(Some(9), None, Some("30s"), None) {
+    let overrides = match Overrides::new(Some(9), None, Some("30s"), None, Some("0.5")) {
         Ok(overrides) => overrides,
         Err(_) => return Err(Fail::new("refused")),
     };
-    let changed = overrides.applied(model(&rt, poisson, None)?);
+    let changed = overrides.applied(model(&rt, poisson, None)?)?;
     assert_eq!(rt; changed.seed, 9);
     assert_eq!(rt; changed.end, End::at(30_000_000_000_000));
     assert_eq!(rt; changed.warm_up, 0);
-    let both = Overrides::new(None, Some(1), Some("30s"), None);
+    let shape = changed.queues.get(1).map(|queue| shape_of(&queue.arrivals));
+    assert_eq!(rt; shape, Some(("poisson", 100 * MICROSECOND, 0, 0)));
+    let both = Overrides::new(None, Some(1), Some("30s"), None, None);
     assert!(rt; matches!(both, Err(OverrideFault::TwoEnds)));
     assert!(rt;
         matches!(
-            Overrides::new(None, Some(0), None, None),
+            Overrides::new(None, Some(0), None, None, None),
             Err(OverrideFault::Commands(_))
         )
     );
     assert!(rt;
         matches!(
-            Overrides::new(None, None, Some("30"), None),
+            Overrides::new(None, None, Some("30"), None, None),
             Err(OverrideFault::Time(_))
+        )
+    );
+    assert!(rt;
+        matches!(
+            Overrides::new(None, None, None, None, Some("none")),
+            Err(OverrideFault::Load(LoadFault::Digits))
         )
     );
     Ok(())
@@ -166,6 +315,7 @@ fn a_model_is_simulated(rt: HostRuntime) -> Result<(), Fail> {
     let end = End::after(10)?;
     let mut trace = Vec::new(rt.alloc());
     let mut output = Vec::new(rt.alloc());
+    let mut chart = Vec::new(rt.alloc());
     let mut streams = Streams {
         log: None::<&mut [u8]>,
         trace: Some(&mut trace),
@@ -173,6 +323,7 @@ fn a_model_is_simulated(rt: HostRuntime) -> Result<(), Fail> {
     };
     let model = model(&rt, arrivals, None)?;
     let digest = Digest::of(b"");
+    let mut picture = Some(&mut chart);
     let done = simulate(
         rt.alloc(),
         model,
@@ -180,9 +331,79 @@ fn a_model_is_simulated(rt: HostRuntime) -> Result<(), Fail> {
         Form::Csv,
         &mut streams,
         &mut output,
+        &mut picture,
     );
     assert!(rt; done.is_ok());
     assert!(rt; trace.as_slice().starts_with(b"{\"version\":1,"));
+    assert!(rt; chart.as_slice().starts_with(b"<svg "));
+    assert!(rt; chart.as_slice().ends_with(b"</svg>\n"));
+    Ok(())
+}
+
+// The latencies are 1 to 1000.
+#[test]
+fn tails_pass_a_twentieth(rt: HostRuntime) -> Result<(), Fail> {
+    let mut latencies = Latencies::new(rt.alloc());
+    for time in 1..=1_000u64 {
+        latencies.add(time)?;
+    }
+    let ranked = latencies.ranked();
+    let percentiles = percentiles_of(rt.alloc(), &ranked)?;
+    for (at, name, time) in [(0, "p50", 500), (1, "p99", 990), (2, "p99.9", 999)] {
+        let found = percentiles.get(at).map(|it| (it.level.name, it.time));
+        assert_eq!(rt; found, Some((name, time)));
+    }
+    let tail = tail_of(rt.alloc(), &ranked, &percentiles)?;
+    assert_eq!(rt; tail.len(), 107);
+    for (at, count, time) in [
+        (0, 1_000, 1),
+        (1, 950, 51),
+        (13, 518, 483),
+        (14, 501, 500),
+        (15, 476, 525),
+        (69, 38, 963),
+        (70, 37, 964),
+        (106, 1, 1_000),
+    ] {
+        assert_eq!(rt; tail.get(at).copied(), Some(Reached { time, count }));
+    }
+    Ok(())
+}
+
+// Beyond the 99th percentile of 60 commands there is none, so it isn't marked.
+#[test]
+fn percentiles_have_a_command_beyond(rt: HostRuntime) -> Result<(), Fail> {
+    let mut latencies = Latencies::new(rt.alloc());
+    for time in 1..=60u64 {
+        latencies.add(time)?;
+    }
+    let percentiles = percentiles_of(rt.alloc(), &latencies.ranked())?;
+    assert_eq!(rt; percentiles.len(), 1);
+    let nothing = Latencies::new(rt.alloc()).ranked();
+    assert!(rt; percentiles_of(rt.alloc(), &nothing)?.is_empty());
+    assert!(rt; tail_of(rt.alloc(), &nothing, &[])?.is_empty());
+    Ok(())
+}
+
+#[test]
+fn queues_of_one_class_have_curves(rt: HostRuntime) -> Result<(), Fail> {
+    let mean = Mean::new(MICROSECOND)?;
+    let mut model = model(&rt, Arrivals::Poisson(mean), None)?;
+    let names = ["q1 high", "q2 high"];
+    let groups = groups_of(rt.alloc(), &model)?;
+    assert_eq!(rt; groups.len(), 2);
+    for (group, name) in groups.iter().zip(&names) {
+        assert_eq!(rt; group.name(rt.alloc())?.as_str(), *name);
+    }
+    for _ in 0..7 {
+        model.queues.push(queue(Arrivals::Poisson(mean))?)?;
+    }
+    let groups = groups_of(rt.alloc(), &model)?;
+    assert_eq!(rt; groups.len(), 1);
+    for group in &groups {
+        assert_eq!(rt; group.name(rt.alloc())?.as_str(), "high");
+        assert_eq!(rt; group.style(), 1);
+    }
     Ok(())
 }
 
@@ -199,6 +420,70 @@ fn commands_come_before_the_clock_ends(rt: HostRuntime) -> Result<(), Fail> {
         let model = Model::new(Mechanism::Weighted, settings, device, queues, 7, end, 0)?;
         assert_eq!(rt; is_too_long(&model), lasts);
     }
+    Ok(())
+}
+
+// A queue that replays a file at twice its speed.
+const REPLAY: &str = "version = 1
+device.read = \"1us\"
+[[queue]]
+arrivals = { replay = \"a.csv\", form = \"msr\", speed = 2 }
+";
+
+// The model of this file, and what its queues replay.
+fn replaying(rt: &HostRuntime) -> Result<(Model, Vec<Source>), Fail> {
+    let model = model_in(rt.alloc(), REPLAY.as_bytes());
+    let sources = sources_in(rt.alloc(), REPLAY.as_bytes());
+    match (model, sources) {
+        (Ok(model), Ok(sources)) => Ok((model, sources)),
+        _ => Err(Fail::new("a fault")),
+    }
+}
+
+// Two reads, of which the second one comes 4 us behind the first one in the file, and so 2 us behind it here.
+#[test]
+fn a_file_is_replayed(rt: HostRuntime) -> Result<(), Fail> {
+    let (model, sources) = replaying(&rt)?;
+    let mut listings = Listings::new(rt.alloc());
+    let unread = listings.put_into(rt.alloc(), &sources, model);
+    assert!(rt;
+        matches!(unread, Err(fault) if fault.file == "a.csv" && fault.error == ReplayError::Unread)
+    );
+    for source in &sources {
+        assert!(rt; !listings.has(source));
+        let bytes = b"7,a,0,Read,0,512,1\n47,a,0,Read,512,1024,1\n";
+        assert!(rt; listings.read(rt.alloc(), source, bytes).is_ok());
+        assert!(rt; listings.has(source));
+    }
+    let (model, sources) = replaying(&rt)?;
+    let Ok(model) = listings.put_into(rt.alloc(), &sources, model) else {
+        return Err(Fail::new("no list"));
+    };
+    assert!(rt; !is_too_long(&model) && overload_of(&model).is_none());
+    let mut log = Vec::new(rt.alloc());
+    let mut output = Vec::new(rt.alloc());
+    let mut streams = Streams {
+        log: Some(&mut log),
+        trace: None::<Vec<u8>>,
+        progress: Progress::new(None::<Vec<u8>>, model.end),
+    };
+    let digest = Digest::of(b"");
+    let done = simulate(
+        rt.alloc(),
+        model,
+        &digest,
+        Form::Text,
+        &mut streams,
+        &mut output,
+        &mut None::<Vec<u8>>,
+    );
+    assert!(rt; done.is_ok());
+    let lines =
+        b"queue,number,operation,block,blocks,channel,came_ps,submitted_ps,picked_ps,started_ps,done_ps
+1,0,read,0,1,0,0,0,0,0,1000000
+1,1,read,1,2,0,2000000,2000000,2000000,2000000,3000000
+";
+    assert_eq!(rt; log.as_slice(), lines.as_slice());
     Ok(())
 }
 
@@ -222,6 +507,7 @@ fn a_log_that_fails_is_told(rt: HostRuntime) -> Result<(), Fail> {
         Form::Text,
         &mut streams,
         &mut output,
+        &mut None::<Vec<u8>>,
     );
     assert!(rt; matches!(done, Err(SimulateFault::Write(Stream::Log))));
     assert!(rt; output.is_empty());

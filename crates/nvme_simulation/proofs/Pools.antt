@@ -16,7 +16,7 @@ use Rattle.nvme_ctrl.specs.Making.{placed_by}
 use Rattle.nvme_ctrl.specs.Notes.{Notes}
 use Rattle.nvme_ctrl.specs.Standing.{Stands}
 use Rattle.nvme_ctrl.specs.Steps.{HasStepped}
-use Rattle.nvme_ctrl.specs.declared.marks.Marks.{Marks}
+use Rattle.nvme_ctrl.specs.declared.status_flags.StatusFlags.{StatusFlags}
 use Rattle.nvme_ctrl.specs.declared.picks.Step.{Step}
 use Rattle.nvme_ctrl.specs.declared.picks.Step.TheVariants.{Idle, Busy, NoRoom, Picked, Passed, Done}
 use Rattle.nvme_ctrl.specs.declared.slot.Slot.{Slot}
@@ -83,5 +83,5 @@ pub fetched : (mechanism : Mechanism) (settings : ArbitrationFields) (before aft
 fetched mechanism settings before after old slots a qid entry cookie h = again mechanism settings before after old slots a _ h.stands
 
 pub answered : (mechanism : Mechanism) (settings : ArbitrationFields) (before after : Controller) (old slots : List Slot) (a : Arbitrates mechanism settings before old)
-    (tag : ℕ) (answer : Answer) (marks : Marks) → HasAnswered a.rules a.late a.notes tag answer marks after slots → Arbitrates mechanism settings after slots
-answered mechanism settings before after old slots a tag answer marks h = again mechanism settings before after old slots a _ h.stands
+    (tag : ℕ) (answer : Answer) (flags : StatusFlags) → HasAnswered a.rules a.late a.notes tag answer flags after slots → Arbitrates mechanism settings after slots
+answered mechanism settings before after old slots a tag answer flags h = again mechanism settings before after old slots a _ h.stands

@@ -17,7 +17,7 @@ fn begin_queue(agenda: &mut Agenda, hosts: &mut Hosts, qid: u16) -> Result<(), S
     for _ in 0..hosts.at_start(qid) {
         agenda.plan(Some(0), Event::Arrival(qid))?;
     }
-    if hosts.is_closed(qid) {
+    if !hosts.goes_on(qid) {
         return Ok(());
     }
     let first = hosts.next_after(qid, 0);

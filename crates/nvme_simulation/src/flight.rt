@@ -83,6 +83,11 @@ impl Flights {
         }
     }
 
+    // How many came: the number of the next one.
+    pub(crate) fn came(&self) -> u64 {
+        self.first.saturating_add(self.kept.len() as u64)
+    }
+
     // Whether all that came are done.
     pub(crate) fn are_done(&self) -> bool
         ensures { result ≡ true → AllDone self.now }

@@ -2,7 +2,7 @@
 use crate::fault::{Broken, SimulationFault};
 use nvme_admin::{Limits, Region};
 use nvme_arbiter::{Mechanism, Seen, Settings};
-use nvme_ctrl::{Answer, Controller, Marks, Post, Slot, Step};
+use nvme_ctrl::{Answer, Controller, Post, Slot, StatusFlags, Step};
 use nvme_entry::{Sqe, Status};
 use nvme_placing::Placement;
 use std::alloc::Global;
@@ -20,7 +20,7 @@ pub(crate) const ADMIN_SLOTS: u16 = 256;
 const DONE: Answer = Answer {
     status: Status::SUCCESS,
     dw0: 0,
-    marks: Marks::NONE,
+    flags: StatusFlags::NONE,
 };
 
 // A command that the device took.

@@ -112,15 +112,22 @@ impl Host {
         self.at_start() > 0
     }
 
-    // When a command comes behind one that came at this time, or behind a completion at this time.
+    // Whether no command comes any more: its list has ended.
+    pub(crate) fn is_at_end(&self) -> bool {
+        self.arrivals.ends_at(self.flights.came())
+    }
+
+    // When the next command comes behind one that came at this time, or behind a completion at this time.
     pub(crate) fn next_after(&mut self, time: u64) -> Option<u64>
         ensures flights { self.new.flights ≡ self.old.flights }
         ensures load { load_of self.new ≡ load_of self.old }
     {
-        self.arrivals.next_after(time, &mut self.streams.arrivals)
+        let number = self.flights.came();
+        self.arrivals
+            .next_after(number, time, &mut self.streams.arrivals)
     }
 
-    // Where a command lies, and how many blocks it has.
+    // Where a command lies that is drawn, and how many blocks it has.
     fn place(&mut self, operation: Operation) -> (u64, u32)
         ensures flights { self.new.flights ≡ self.old.flights }
     {
@@ -131,12 +138,23 @@ impl Host {
         (self.places.draw(&mut self.streams.offsets), blocks)
     }
 
+    // What the next command does, where it lies and how many blocks it has: as its list says, or as is drawn.
+    fn ask(&mut self) -> (Operation, u64, u32)
+        ensures flights { self.new.flights ≡ self.old.flights }
+    {
+        if let Some(listed) = self.arrivals.request(self.flights.came()) {
+            return (listed.operation, listed.block, listed.blocks);
+        }
+        let operation = self.mix.draw(&mut self.streams.operations);
+        let (block, blocks) = self.place(operation);
+        (operation, block, blocks)
+    }
+
     // What the next command asks for. None where it would run for 2^64 picoseconds or longer.
     fn draw(&mut self, counts: bool) -> Option<Request>
         ensures flights { self.new.flights ≡ self.old.flights }
     {
-        let operation = self.mix.draw(&mut self.streams.operations);
-        let (block, blocks) = self.place(operation);
+        let (operation, block, blocks) = self.ask();
         let service = self
             .services
             .draw(&mut self.streams.services, operation, blocks)?;

@@ -78,6 +78,19 @@ impl Hosts {
         self.all.iter().all(|host| host.is_done())
     }
 
+    // Whether no command comes any more, whatever is done: all are those of lists, which have ended.
+    pub(crate) fn are_at_end(&self) -> bool {
+        self.all.iter().all(|host| host.is_at_end())
+    }
+
+    // Whether a command of a queue follows those that came, and waits for no completion.
+    pub(crate) fn goes_on(&self, qid: u16) -> bool {
+        match self.host(qid) {
+            Some(host) => !host.is_closed() && !host.is_at_end(),
+            None => false,
+        }
+    }
+
     // Whether the next command of a queue waits for a completion.
     pub(crate) fn is_closed(&self, qid: u16) -> bool {
         match self.host(qid) {

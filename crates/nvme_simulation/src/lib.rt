@@ -1,5 +1,5 @@
-//! A controller in virtual time: hosts whose commands come at random times, the proved controller, and a device of
-//! channels. No clock is read: all that happens is a function of the model, whose seed is that of all that is drawn.
+//! A controller in virtual time: hosts whose commands come at random times or by lists, the proved controller, and a
+//! device of channels. No clock is read: all that happens is a function of the model, whose seed is that of all that is drawn.
 #![tactic(auto)]
 
 mod agenda;
@@ -18,6 +18,3 @@ mod simulation;
 pub use fault::{Broken, SimulationFault};
 pub use happening::{Happening, Picked};
 pub use simulation::Simulation;
-
-#[cfg(test)]
-mod tests;

@@ -263,9 +263,9 @@ impl Machine {
         self.agenda.plan(next, Event::Arrival(qid))
     }
 
-    // Whether a command of a queue is followed by one that waits for no completion, where more come.
+    // Whether a command of a queue is followed by one that waits for no completion, where more may come.
     fn is_followed(&self, qid: u16, more: bool) -> bool {
-        more && !self.hosts.is_closed(qid)
+        more && self.hosts.goes_on(qid)
     }
 
     // A command of a queue comes, and where more come the next one behind it, but where that waits for a completion.

@@ -207,7 +207,8 @@ impl Simulation {
 
     // Whether all commands came and are done.
     fn is_over(&self) -> bool {
-        self.occupancy.count() == 0 && !self.may_come()
+        let more = self.may_come() && !self.machine.hosts.are_at_end();
+        self.occupancy.count() == 0 && !more
     }
 
     // A channel pauses.

@@ -1,14 +1,24 @@
 // Runs all points, and writes the answer.
-use crate::fault::SweepFault;
+use crate::chart::picture_of;
+use crate::crew::{Batch, Outcome, outcomes_of};
+use crate::fault::{SweepFault, add};
+use crate::lines::Line;
 use crate::object::{put_end, put_point as put_object, put_start};
+use crate::rows::Run;
 use crate::sheet::{put_names, put_point as put_lines};
 use crate::sweep::{Point, Sweep};
 use crate::table::{put_rows, put_titles};
+use crate::tally::Tally;
 use nvme_simulate::{Digest, Form};
 use std::alloc::Global;
 use std::io::{self, Write};
+use std::thread::Threads;
 
-/// How the answer of a sweep is written.
+// How many runs for each thread are made before their points are written. (So their numbers take little memory, and threads
+// seldom wait for the longest run.)
+const RUNS_FOR_EACH: usize = 64;
+
+/// How a sweep is run, and how its answer is written.
 #[derive(Clone, Copy, Debug, PartialEq, Eq)]
 pub struct Style {
     pub form: Form,
@@ -16,6 +26,8 @@ pub struct Style {
     pub has_head: bool,
     /// The digest of the file.
     pub digest: Digest,
+    /// On how many threads it runs at most. The answer is the same on any number.
+    pub jobs: usize,
 }
 
 // Writes what stands before the points.
@@ -43,26 +55,190 @@ fn put_one<W: Write>(
     }
 }
 
+// Writes the picture of lines.
+fn put_chart<'a, W: Write>(
+    alloc: Global,
+    sweep: &Sweep<'a>,
+    lines: &[Line],
+    digest: &Digest,
+    chart: &mut W,
+) -> Result<(), SweepFault<'a>> {
+    let picture = picture_of(alloc, sweep, lines, digest.as_str())?;
+    match picture.write_svg(chart) {
+        Ok(()) => Ok(()),
+        Err(_) => Err(SweepFault::Write),
+    }
+}
+
+// The runs of a point, whose outcomes stand from a place on. The error is the first fault. (A run is missing only behind one
+// that failed.)
+fn runs_from<'a>(
+    alloc: Global,
+    outcomes: &mut [Option<Outcome<'a>>],
+    place: usize,
+    count: usize,
+) -> Result<Vec<Run>, SweepFault<'a>> {
+    let mut runs = Vec::new(alloc);
+    for index in place..place.saturating_add(count) {
+        let Some(outcome) = outcomes.get_mut(index) else {
+            return Err(SweepFault::NoMemory);
+        };
+        match outcome.take() {
+            Some(Ok(run)) => add(&mut runs, run)?,
+            Some(Err(fault)) => return Err(fault),
+            None => return Err(SweepFault::NoMemory),
+        }
+    }
+    Ok(runs)
+}
+
 impl<'a> Sweep<'a> {
-    /// Runs all points one after another, and writes their answer. A terminal is told how far each run is.
-    pub fn answer<P: Write + Drop, W: Write>(
+    // Writes a point by its runs. The lines of a picture are noted where one is wanted.
+    fn put<W: Write>(
         &self,
+        alloc: Global,
+        style: &Style,
+        number: usize,
+        runs: &[Run],
+        output: &mut W,
+        lines: &mut Option<Vec<Line>>,
+    ) -> Result<(), SweepFault<'a>> {
+        let point = self.told(alloc, number, runs)?;
+        if put_one(self, style, number, &point, output).is_err() {
+            return Err(SweepFault::Write);
+        }
+        if let Some(lines) = lines.as_mut() {
+            self.note(alloc, lines, number, &point)?;
+        }
+        Ok(())
+    }
+
+    // Makes the runs of a point one after another. A terminal is told how far each is.
+    fn runs_of<P: Write>(
+        &self,
+        alloc: Global,
+        point: usize,
+        terminal: &mut Option<P>,
+    ) -> Result<Vec<Run>, SweepFault<'a>> {
+        let mut runs = Vec::new(alloc);
+        for number in 0..self.seeds {
+            let run = self.run(alloc, point, number, terminal.as_mut())?;
+            add(&mut runs, run)?;
+        }
+        Ok(runs)
+    }
+
+    // Runs all points one after another, and writes each.
+    fn put_in_turn<P: Write, W: Write>(
+        &self,
+        alloc: Global,
+        style: &Style,
+        terminal: &mut Option<P>,
+        output: &mut W,
+        lines: &mut Option<Vec<Line>>,
+    ) -> Result<(), SweepFault<'a>> {
+        for number in 0..self.points(alloc)? {
+            let runs = self.runs_of(alloc, number, terminal)?;
+            self.put(alloc, style, number, &runs, output, lines)?;
+        }
+        Ok(())
+    }
+
+    // Writes each point of a batch by what its runs came to.
+    fn put_batch<W: Write>(
+        &self,
+        alloc: Global,
+        style: &Style,
+        batch: Batch,
+        mut outcomes: Vec<Option<Outcome<'a>>>,
+        output: &mut W,
+        lines: &mut Option<Vec<Line>>,
+    ) -> Result<(), SweepFault<'a>> {
+        let count = self.runs_of_each();
+        for index in 0..batch.points {
+            let place = index.saturating_mul(count);
+            let runs = runs_from(alloc, outcomes.as_mut_slice(), place, count)?;
+            let number = batch.first.saturating_add(index);
+            self.put(alloc, style, number, &runs, output, lines)?;
+        }
+        Ok(())
+    }
+
+    // Runs all points on threads, batch after batch, and writes each.
+    fn put_by_threads<R: Threads + Sync, P: Write + Drop + Send, W: Write>(
+        &self,
+        rt: &R,
+        alloc: Global,
+        style: &Style,
+        tally: &Tally<P>,
+        output: &mut W,
+        lines: &mut Option<Vec<Line>>,
+    ) -> Result<(), SweepFault<'a>> {
+        let points = self.points(alloc)?;
+        let runs = style.jobs.saturating_mul(RUNS_FOR_EACH);
+        let most = (runs / self.runs_of_each()).max(1);
+        for number in 0..points {
+            let first = number.saturating_mul(most);
+            if first >= points {
+                break;
+            }
+            let batch = Batch {
+                first,
+                points: most.min(points.saturating_sub(first)),
+            };
+            let outcomes = outcomes_of(rt, alloc, self, batch, style.jobs, tally)?;
+            self.put_batch(alloc, style, batch, outcomes, output, lines)?;
+        }
+        Ok(())
+    }
+
+    // Runs all points, and writes each. A terminal is told how far each run is, or of several threads how many runs are done.
+    fn put_all<R: Threads + Sync, P: Write + Drop + Send, W: Write>(
+        &self,
+        rt: &R,
         alloc: Global,
         style: &Style,
         mut terminal: Option<P>,
         output: &mut W,
+        lines: &mut Option<Vec<Line>>,
+    ) -> Result<(), SweepFault<'a>> {
+        let runs = self.points(alloc)?.saturating_mul(self.runs_of_each());
+        if style.jobs.min(runs) < 2 {
+            return self.put_in_turn(alloc, style, &mut terminal, output, lines);
+        }
+        let tally = Tally::new(terminal, runs);
+        let done = self.put_by_threads(rt, alloc, style, &tally, output, lines);
+        tally.end();
+        done
+    }
+
+    /// Runs all points, and writes their answer, which is the same on any number of threads, and then the picture of it to
+    /// `chart`, where there is one. A terminal is told how far it is.
+    pub fn answer<R: Threads + Sync, P: Write + Drop + Send, W: Write, C: Write>(
+        &self,
+        rt: &R,
+        alloc: Global,
+        style: &Style,
+        terminal: Option<P>,
+        output: &mut W,
+        chart: &mut Option<C>,
     ) -> Result<(), SweepFault<'a>> {
         if put_head(self, style, output).is_err() {
             return Err(SweepFault::Write);
         }
-        for number in 0..self.points(alloc)? {
-            let point = self.run(alloc, number, &mut terminal)?;
-            if put_one(self, style, number, &point, output).is_err() {
-                return Err(SweepFault::Write);
-            }
-        }
+        let mut lines = if chart.is_some() {
+            Some(Vec::new(alloc))
+        } else {
+            None
+        };
+        self.put_all(rt, alloc, style, terminal, output, &mut lines)?;
         if style.form == Form::Json && put_end(output).is_err() {
             return Err(SweepFault::Write);
+        }
+        if let Some(chart) = chart
+            && let Some(lines) = &lines
+        {
+            put_chart(alloc, self, lines, &style.digest, chart)?;
         }
         Ok(())
     }

@@ -13,7 +13,9 @@ pub struct CommandWords<'a> {
     pub commands: Option<u64>,
     pub time: Option<&'a str>,
     pub warm_up: Option<u64>,
+    pub load: Option<&'a str>,
     pub seeds: Option<u64>,
+    pub jobs: Option<u64>,
     /// The name of the form.
     pub format: &'a str,
     /// Whether the first command writes the line of names, which no other does.
@@ -48,16 +50,26 @@ fn put_option<W: Write>(name: &str, number: Option<u64>, writer: &mut W) -> io::
     }
 }
 
+// Writes an option with a text, if there is one.
+fn put_text<W: Write>(name: &str, text: Option<&str>, writer: &mut W) -> io::Result<()> {
+    match text {
+        Some(text) => {
+            write!(writer, " --{name} ")?;
+            put_word(text, writer)
+        }
+        None => Ok(()),
+    }
+}
+
 // Writes what each command says.
 fn put_words<W: Write>(words: &CommandWords, writer: &mut W) -> io::Result<()> {
     put_option("seed", words.seed, writer)?;
     put_option("seeds", words.seeds, writer)?;
     put_option("commands", words.commands, writer)?;
-    if let Some(time) = words.time {
-        writer.write_all(b" --time ")?;
-        put_word(time, writer)?;
-    }
+    put_text("time", words.time, writer)?;
     put_option("warm-up", words.warm_up, writer)?;
+    put_text("load", words.load, writer)?;
+    put_option("jobs", words.jobs, writer)?;
     let format = words.format;
     write!(writer, " --format {format}")
 }

@@ -1,6 +1,7 @@
 // Why there is no sweep.
 use nvme_model_file::ModelFault;
-use nvme_simulate::SimulateFault;
+use nvme_plot::LINES;
+use nvme_simulate::{FileFault, LoadFault, ReplayError, SimulateFault};
 use std::alloc::AllocError;
 use std::fmt;
 
@@ -15,6 +16,8 @@ pub enum SweepFault<'a> {
     Twice(&'a str),
     /// There are more than `MAX_POINTS` combinations.
     TooManyPoints,
+    /// A picture would have so many lines, which are more than it tells apart.
+    TooManyLines(usize),
     /// The tables of the file have no such key.
     NoKey(&'a str),
     /// The value of a key isn't one that it takes, as three weights.
@@ -23,6 +26,12 @@ pub enum SweepFault<'a> {
     NotToml,
     /// At this point, whose values are told, the file has this fault.
     Point(String, ModelFault),
+    /// At this point, whose values are told, the file of this name can't be replayed.
+    Replay(String, String, ReplayError),
+    /// At this point, whose values are told, the load is none, or its open queues can't be scaled to it.
+    Load(String, LoadFault),
+    /// The load is swept, and said beside that.
+    TwoLoads,
     /// The simulation of this point, whose values are told, has no answer.
     Stopped(String, SimulateFault),
     /// A write failed.
@@ -60,6 +69,13 @@ impl fmt::Display for SweepFault<'_> {
             }
             SweepFault::Twice(key) => write!(f, "--sweep {key}: the key is swept twice"),
             SweepFault::TooManyPoints => f.write_str("--sweep: expected at most 100000 points"),
+            SweepFault::TooManyLines(lines) => {
+                let (lines, most) = (*lines, LINES);
+                write!(
+                    f,
+                    "--chart: expected at most {most} combinations of the keys before the last one, found {lines}"
+                )
+            }
             SweepFault::NoKey(key) => {
                 write!(f, "--sweep {key}: the file has no table for such a key")
             }
@@ -71,6 +87,16 @@ impl fmt::Display for SweepFault<'_> {
             }
             SweepFault::NotToml => f.write_str("expected a TOML document"),
             SweepFault::Point(point, fault) => write!(f, "{point}: {fault}"),
+            SweepFault::Replay(point, file, error) => {
+                let fault = FileFault {
+                    file: file.as_str(),
+                    error: *error,
+                };
+                write!(f, "{point}: {fault}")
+            }
+            SweepFault::Load(point, fault) if point.is_empty() => write!(f, "--load: {fault}"),
+            SweepFault::Load(point, fault) => write!(f, "--sweep {point}: {fault}"),
+            SweepFault::TwoLoads => f.write_str("--load and --sweep load don't go together"),
             SweepFault::Stopped(point, fault) => write!(f, "simulation: {point}: {fault}"),
             SweepFault::Write => f.write_str("write failed"),
             SweepFault::NoMemory => f.write_str("out of memory"),

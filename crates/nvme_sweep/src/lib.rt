@@ -1,12 +1,16 @@
-//! Sweeps: a simulation at each combination of values of keys of its file, with several seeds, and what is told of them.
+//! Sweeps: a simulation at each combination of values of keys of its file and of its load, with several seeds, on several
+//! threads, and what is told of them.
 #![tactic(auto)]
 
 mod answer;
 mod axis;
+mod chart;
 mod commands;
+mod crew;
 mod estimates;
 mod fault;
 pub mod laws;
+mod lines;
 mod object;
 mod place;
 mod points;
@@ -14,6 +18,7 @@ mod rows;
 mod sheet;
 mod sweep;
 mod table;
+mod tally;
 
 pub use answer::Style;
 pub use axis::{Axis, MAX_POINTS, axes_of};
@@ -23,6 +28,3 @@ pub use fault::SweepFault;
 pub use points::{choices_at, points_of};
 pub use rows::{Scope, SweepRow};
 pub use sweep::{Point, Sweep};
-
-#[cfg(test)]
-mod tests;

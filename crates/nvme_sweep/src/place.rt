@@ -1,7 +1,10 @@
-// A value at a key of a document.
+// A value at a key of a document, and the key that is none of it.
 use crate::fault::SweepFault;
 use std::alloc::{AllocError, Global};
 use toml::{Table, Value};
+
+/// The key of a sweep that is none of the file: the load to which the gaps of all open queues are scaled.
+pub const LOAD: &str = "load";
 
 // The weights of a table, in the order in which they are written.
 const WEIGHTS: [&str; 3] = ["high", "medium", "low"];

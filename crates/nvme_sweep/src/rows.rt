@@ -19,6 +19,11 @@ pub const NAMES: [&str; COUNT] = [
     "latency_max_ps",
 ];
 
+/// The index of the mean of the latencies, and of their 99th percentile.
+pub const MEAN: usize = 1;
+
+pub const P99: usize = 4;
+
 /// Of which commands a row tells.
 #[derive(Clone, Copy, Debug, PartialEq, Eq)]
 pub enum Scope {
@@ -36,6 +41,13 @@ pub struct SweepRow {
     pub scope: Scope,
     /// Commands a second, and latencies in picoseconds, in the order of `NAMES`.
     pub numbers: [Estimate; COUNT],
+}
+
+/// What came of a point with one of its seeds.
+#[derive(Drop)]
+pub struct Run {
+    pub seed: u64,
+    pub measured: Measured,
 }
 
 // The numbers of a row of one run.
@@ -79,13 +91,13 @@ fn row_of(run: &Measured, scope: Scope) -> Option<&Row> {
 // A number of a scope over runs.
 fn number_over(
     alloc: Global,
-    runs: &[Measured],
+    runs: &[Run],
     scope: Scope,
     index: usize,
 ) -> Result<Estimate, AllocError> {
     let mut values = Vec::new(alloc);
     for run in runs {
-        let numbers = row_of(run, scope).map(numbers_of);
+        let numbers = row_of(&run.measured, scope).map(numbers_of);
         let number = numbers.and_then(|numbers| numbers.get(index).copied().flatten());
         if let Some(number) = number {
             values.push(number)?;
@@ -95,7 +107,7 @@ fn number_over(
 }
 
 // The row of a scope over runs.
-fn row_over(alloc: Global, runs: &[Measured], scope: Scope) -> Result<SweepRow, AllocError> {
+fn row_over(alloc: Global, runs: &[Run], scope: Scope) -> Result<SweepRow, AllocError> {
     let nothing = Estimate {
         mean: None,
         half: None,
@@ -123,12 +135,12 @@ fn scopes_of(alloc: Global, run: &Measured) -> Result<Vec<Scope>, AllocError> {
 }
 
 /// The rows of a point, over the runs of its seeds: a row for each queue, for each class that has one, and for all.
-pub fn rows_of(alloc: Global, runs: &[Measured]) -> Result<Vec<SweepRow>, AllocError> {
+pub fn rows_of(alloc: Global, runs: &[Run]) -> Result<Vec<SweepRow>, AllocError> {
     let mut rows = Vec::new(alloc);
     let Some(run) = runs.first() else {
         return Ok(rows);
     };
-    for scope in &scopes_of(alloc, run)? {
+    for scope in &scopes_of(alloc, &run.measured)? {
         rows.push(row_over(alloc, runs, *scope)?)?;
     }
     Ok(rows)

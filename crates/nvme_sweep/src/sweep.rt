@@ -1,16 +1,20 @@
 // Runs a simulation at each point.
+ghost use Rattle.std.specs.Prelude.{◌<◌};
+
 use crate::axis::{Axis, lengths_of};
-use crate::fault::{SweepFault, add};
-use crate::place::put;
+use crate::fault::SweepFault;
+use crate::place::{LOAD, put};
 use crate::points::{choices_at, points_of};
-use crate::rows::{SweepRow, rows_of};
-use nvme_model_file::{ModelFault, model_in};
-use nvme_simulate::{Model, Overrides, Progress, SimulateFault, measure};
+use crate::rows::{Run, SweepRow, rows_of};
+use nvme_model_file::{ModelFault, model_in, sources_in};
+use nvme_simulate::{
+    Listings, Load, LoadFault, Model, Overrides, Progress, ReplayError, SimulateFault, measure,
+};
 use nvme_workload::{DocumentError, document};
 use std::alloc::{AllocError, Global};
 use std::io::Write;
 
-/// The points of a sweep over the keys of a simulation file.
+/// The points of a sweep over the keys of a simulation file, and over its load.
 #[derive(Drop)]
 pub struct Sweep<'a> {
     /// The keys and their values; the last one is the fastest.
@@ -19,6 +23,8 @@ pub struct Sweep<'a> {
     pub seeds: u64,
     /// What stands in place of the file's keys.
     pub overrides: Overrides,
+    /// The requests of the files that the queues of the file replay. A sweep reads no other files.
+    pub listings: Listings,
     /// The file's text.
     pub text: &'a str,
 }
@@ -39,6 +45,13 @@ impl<'a> Sweep<'a> {
         Ok(points_of(&lengths_of(alloc, &self.axes)?).unwrap_or(0))
     }
 
+    // How many runs each point has.
+    pub(crate) fn runs_of_each(&self) -> usize
+        ensures { 0 < result }
+    {
+        (self.seeds as usize).max(1)
+    }
+
     /// The value of each key at a point, in the order of the keys.
     pub fn values_at(&self, alloc: Global, point: usize) -> Result<Vec<&'a str>, AllocError> {
         let mut values = Vec::new(alloc);
@@ -53,8 +66,8 @@ impl<'a> Sweep<'a> {
         Ok(values)
     }
 
-    // The name of a point: its keys and values.
-    fn name_of(&self, alloc: Global, values: &[&str]) -> Result<String, AllocError> {
+    /// The name of a point: its keys and values, or the first of them.
+    pub(crate) fn name_of(&self, alloc: Global, values: &[&str]) -> Result<String, AllocError> {
         let mut name = String::new(alloc);
         for (axis, value) in self.axes.iter().zip(values) {
             if !name.is_empty() {
@@ -67,7 +80,7 @@ impl<'a> Sweep<'a> {
         Ok(name)
     }
 
-    // The text of the file with these values at the keys.
+    // The text of the file with these values at the keys. The load is none of them.
     fn text_at(&self, alloc: Global, values: &[&'a str]) -> Result<String, SweepFault<'a>> {
         if values.is_empty() {
             return Ok(String::from_str(alloc, self.text)?);
@@ -78,7 +91,9 @@ impl<'a> Sweep<'a> {
             Err(DocumentError::NotToml(_)) => return Err(SweepFault::NotToml),
         };
         for (axis, value) in self.axes.iter().zip(values) {
-            put(alloc, &mut table, axis.key, value)?;
+            if axis.key != LOAD {
+                put(alloc, &mut table, axis.key, value)?;
+            }
         }
         match toml::table_to_string(alloc, &table) {
             Ok(text) => Ok(text),
@@ -86,22 +101,81 @@ impl<'a> Sweep<'a> {
         }
     }
 
-    // The model of a text at a point, with what stands in place of its keys.
+    // What is told of a fault of the file at a point.
+    fn fault_at(&self, alloc: Global, values: &[&str], fault: ModelFault) -> SweepFault<'a> {
+        match (fault, self.name_of(alloc, values)) {
+            (ModelFault::NoMemory, _) | (_, Err(_)) => SweepFault::NoMemory,
+            (fault, Ok(name)) => SweepFault::Point(name, fault),
+        }
+    }
+
+    // The model of a text at a point with the lists of the files that its queues replay.
+    fn with_lists(
+        &self,
+        alloc: Global,
+        values: &[&str],
+        text: &str,
+        model: Model,
+    ) -> Result<Model, SweepFault<'a>> {
+        let sources = match sources_in(alloc, text.as_bytes()) {
+            Ok(sources) => sources,
+            Err(fault) => return Err(self.fault_at(alloc, values, fault)),
+        };
+        match self.listings.put_into(alloc, &sources, model) {
+            Ok(model) => Ok(model),
+            Err(fault) if fault.error == ReplayError::NoMemory => Err(SweepFault::NoMemory),
+            Err(fault) => {
+                let name = self.name_of(alloc, values)?;
+                let file = String::from_str(alloc, fault.file)?;
+                Err(SweepFault::Replay(name, file, fault.error))
+            }
+        }
+    }
+
+    // What stands in place of what the file says at a point with these values.
+    fn overrides_at(&self, values: &[&str]) -> Result<Overrides, LoadFault> {
+        let mut overrides = self.overrides;
+        for (axis, value) in self.axes.iter().zip(values) {
+            if axis.key == LOAD {
+                overrides.load = Some(Load::new(value)?);
+            }
+        }
+        Ok(overrides)
+    }
+
+    // A model with what stands in place of its own at a point with these values.
+    fn replaced(&self, values: &[&str], model: Model) -> Result<Model, LoadFault> {
+        self.overrides_at(values)?.applied(model)
+    }
+
+    // The model of a text at a point, with the lists of the files that its queues replay, and with what stands in place of
+    // what the file says.
     fn model_at(
         &self,
         alloc: Global,
         values: &[&str],
         text: &str,
     ) -> Result<Model, SweepFault<'a>> {
-        match model_in(alloc, text.as_bytes()) {
-            Ok(model) => Ok(self.overrides.applied(model)),
-            Err(ModelFault::NoMemory) => Err(SweepFault::NoMemory),
-            Err(fault) => Err(SweepFault::Point(self.name_of(alloc, values)?, fault)),
+        let model = match model_in(alloc, text.as_bytes()) {
+            Ok(model) => self.with_lists(alloc, values, text, model)?,
+            Err(fault) => return Err(self.fault_at(alloc, values, fault)),
+        };
+        match self.replaced(values, model) {
+            Ok(model) => Ok(model),
+            Err(fault) => Err(SweepFault::Load(self.name_of(alloc, values)?, fault)),
         }
+    }
+
+    // Whether the load is swept.
+    fn is_load_swept(&self) -> bool {
+        self.axes.iter().any(|axis| axis.key == LOAD)
     }
 
     /// Reads the file at each point, and runs nothing. The error is the first fault.
     pub fn look(&self, alloc: Global) -> Result<(), SweepFault<'a>> {
+        if self.overrides.load.is_some() && self.is_load_swept() {
+            return Err(SweepFault::TwoLoads);
+        }
         for point in 0..self.points(alloc)? {
             let values = self.values_at(alloc, point)?;
             let text = self.text_at(alloc, &values)?;
@@ -110,33 +184,38 @@ impl<'a> Sweep<'a> {
         Ok(())
     }
 
-    /// Runs a point with each of its seeds. A terminal is told how far each run is.
-    pub fn run<P: Write>(
+    // Runs a point with the seed of this number, from 0 on. A terminal is told how far the run is.
+    pub(crate) fn run<P: Write + Drop>(
         &self,
         alloc: Global,
         point: usize,
-        terminal: &mut Option<P>,
-    ) -> Result<Point<'a>, SweepFault<'a>> {
+        number: u64,
+        terminal: Option<P>,
+    ) -> Result<Run, SweepFault<'a>> {
         let values = self.values_at(alloc, point)?;
         let text = self.text_at(alloc, &values)?;
-        let first = self.model_at(alloc, &values, &text)?.seed;
-        let mut runs = Vec::new(alloc);
-        for number in 0..self.seeds {
-            let mut model = self.model_at(alloc, &values, &text)?;
-            model.seed = first.wrapping_add(number);
-            let progress = Progress::new(terminal.as_mut(), model.end);
-            match measure(alloc, model, progress) {
-                Ok(run) => add(&mut runs, run)?,
-                Err(SimulateFault::NoMemory) => return Err(SweepFault::NoMemory),
-                Err(fault) => {
-                    return Err(SweepFault::Stopped(self.name_of(alloc, &values)?, fault));
-                }
-            }
+        let mut model = self.model_at(alloc, &values, &text)?;
+        let seed = model.seed.wrapping_add(number);
+        model.seed = seed;
+        let progress = Progress::new(terminal, model.end);
+        match measure(alloc, model, progress) {
+            Ok(measured) => Ok(Run { seed, measured }),
+            Err(SimulateFault::NoMemory) => Err(SweepFault::NoMemory),
+            Err(fault) => Err(SweepFault::Stopped(self.name_of(alloc, &values)?, fault)),
         }
+    }
+
+    // What is told of a point by its runs, in the order of their seeds.
+    pub(crate) fn told(
+        &self,
+        alloc: Global,
+        point: usize,
+        runs: &[Run],
+    ) -> Result<Point<'a>, AllocError> {
         Ok(Point {
-            values,
-            seed: first,
-            rows: rows_of(alloc, &runs)?,
+            values: self.values_at(alloc, point)?,
+            seed: runs.first().map_or(0, |run| run.seed),
+            rows: rows_of(alloc, runs)?,
         })
     }
 }

@@ -261,28 +261,6 @@ fn value_note(
     }
 }
 
-// Whether a text is a key of TOML and its value, or begins so.
-fn has_key(text: &str) -> bool {
-    match text.split_once('=') {
-        Some((key, _)) => {
-            let key = key.trim();
-            !key.is_empty()
-                && key.bytes().all(|byte| byte.is_ascii_alphanumeric()
-                    || matches!(byte, b'_' | b'-' | b'.'))
-        }
-        None => false,
-    }
-}
-
-// Whether a first line is one of a workload: a comment, a table or a key.
-fn is_workload(text: &str) -> bool {
-    match text.as_bytes() {
-        [b'#', ..] => true,
-        [b'[', b'[', ..] | [b'[', b'a'..=b'z', ..] => true,
-        _ => has_key(text),
-    }
-}
-
 // What is said of a line that ends too early.
 fn unfinished(text: &str) -> &'static str {
     match text.as_bytes() {
@@ -321,12 +299,6 @@ fn first_text_note(
         return String::from_str(
             alloc,
             ": begins with a byte order mark (EF BB BF); save it without",
-        );
-    }
-    if is_workload(text.trim()) {
-        return String::from_str(
-            alloc,
-            ": this looks like a workload (TOML); take trace FILE | check",
         );
     }
     text_note(alloc, text, error, HEAD)

@@ -7,12 +7,13 @@ use Rattle.std.specs.Str.{bytes_eq}
 use Rattle.std.specs.Str.Parse.{IsNumeral, digits_value, without_leading_plus}
 use Rattle.clap.specs.Words.{Row, Text, first_of, one_of}
 use Rattle.nvme_words.specs.Examples.{AsksForNothing, AsksForOneThing}
-use Rattle.nvme_words.specs.Requests.{AreNumbers, Given, IsFlag, IsFormat, IsNumber, IsRange, IsRequestOf, SubmitsBy, settings_given}
+use Rattle.nvme_words.specs.Requests.{AreNumbers, Given, IsDrawing, IsFlag, IsFormat, IsNumber, IsRange, IsRequestOf, SubmitsBy, settings_given}
 use Rattle.nvme_words.specs.declared.requests.Format.{Format}
 use Rattle.nvme_words.specs.declared.requests.Format.TheVariants as format
 use Rattle.nvme_words.specs.declared.requests.Numbers.{Numbers}
 use Rattle.nvme_words.specs.declared.requests.OptionsFault.TheVariants as unfit
 use Rattle.nvme_words.specs.declared.requests.Range.{Range}
+use Rattle.nvme_words.specs.declared.requests.Drawing.{Drawing}
 use Rattle.nvme_words.specs.declared.requests.Request.{Request}
 use Rattle.nvme_words.specs.declared.requests.Request.TheVariants as request
 use Rattle.nvme_lane.specs.declared.mode.Mode.{Mode}
@@ -63,6 +64,16 @@ range_is rows range is =
     let one = number_is 64 (codes "from") rows range.first is.0 in
     let two = number_is 64 (codes "to") rows range.last is.1 in ap₂ range_from one two
 
+abbrev drawing_from : Range → Bool → Drawing
+drawing_from range no_admin = record { range = range; no_admin = no_admin }
+
+abbrev drawing_in : List Row → Drawing
+drawing_in rows = drawing_from (range_in rows) (is_text (codes "true") (first_of (codes "no-admin") rows))
+
+drawing_is : (rows : List Row) (drawing : Drawing) → IsDrawing rows drawing → drawing ≡ drawing_in rows
+drawing_is rows drawing is =
+    ap₂ drawing_from (range_is rows drawing.range is.0) (flag_is (codes "no-admin") rows drawing.no_admin is.1)
+
 abbrev numbers_from : Range → ℕ → Bool → Format → Numbers
 numbers_from range window backlogged format = record { range = range; window = window; backlogged = backlogged; format = format }
 
@@ -92,8 +103,8 @@ is_within range r least = ap (λ (b : Bool). cond b (request.Unfit (unfit.Behind
 is_behind : (range : Range) (r : Request) → range.last < range.first → request.Unfit (unfit.Behind range) ≡ within range r
 is_behind range r behind = ap (λ (b : Bool). cond b (request.Unfit (unfit.Behind range)) r) (sym (lt-ltb range.last range.first behind))
 
-abbrev chart_for : Range → Request
-chart_for range = within range (request.Chart range)
+abbrev chart_for : Drawing → Request
+chart_for drawing = within drawing.range (request.Chart drawing)
 
 abbrev stats_for : Numbers → Request
 stats_for numbers = within numbers.range (request.Stats numbers)
@@ -108,7 +119,7 @@ picked given when =
     else if bytes_eq given.0 (codes "expand") then request.Expand
     else if bytes_eq given.0 (codes "check") then check_for (is_text (codes "true") (first_of (codes "spec") given.1)) (is_text (codes "true") (first_of (codes "all") given.1))
     else if bytes_eq given.0 (codes "trace") then request.Trace when (number_in (codes "workers") given.1)
-    else if bytes_eq given.0 (codes "chart") then chart_for (range_in given.1)
+    else if bytes_eq given.0 (codes "chart") then chart_for (drawing_in given.1)
     else if bytes_eq given.0 (codes "stats") then stats_for (numbers_in given.1)
     else request.Settings (settings_given given.1)
 
@@ -126,12 +137,15 @@ module _ (given : Given) (when : Mode) (only : (w : Mode) → SubmitsBy given.1 
   is_picked request.CheckSpec h = rw h.0 (ap₂ check_for (flag_is (codes "spec") given.1 true h.1) (flag_is (codes "all") given.1 false h.2))
   is_picked request.CheckAll h = rw h.0 (ap₂ check_for (flag_is (codes "spec") given.1 false h.1) (flag_is (codes "all") given.1 true h.2))
   is_picked (request.Trace w n) h = rw h.0 (ap₂ request.Trace (only w h.1) (number_is 8 (codes "workers") given.1 n h.2))
-  is_picked (request.Chart range) h = rw h.0 (is_within range (request.Chart range) h.2 ∙ ap chart_for (range_is given.1 range h.1))
+  is_picked (request.Chart drawing) h =
+      rw h.0 (is_within drawing.range (request.Chart drawing) h.2 ∙ ap chart_for (drawing_is given.1 drawing h.1))
   is_picked (request.Stats numbers) h = rw h.0 (is_within numbers.range (request.Stats numbers) h.2 ∙ ap stats_for (numbers_are given.1 numbers h.1))
   is_picked (request.Settings reading) h = rw h.0 (ap request.Settings h.1)
   is_picked (request.Unfit unfit.AllOfSpec) h = rw h.0 (ap₂ check_for (flag_is (codes "spec") given.1 true h.1) (flag_is (codes "all") given.1 true h.2))
   is_picked (request.Unfit (unfit.Behind range)) (behind, inl h) =
-      rw h.0 (is_behind range (request.Chart range) behind ∙ ap chart_for (range_is given.1 range h.1))
+      let no_admin = is_text (codes "true") (first_of (codes "no-admin") given.1) in
+      rw h.0 (is_behind range (request.Chart (drawing_from range no_admin)) behind
+      ∙ ap (λ (r : Range). chart_for (drawing_from r no_admin)) (range_is given.1 range h.1))
   is_picked (request.Unfit (unfit.Behind range)) (behind, inr h) =
       let numbers : Numbers = h.1 in
       let same : numbers.range ≡ range = h.3 in

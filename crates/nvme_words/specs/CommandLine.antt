@@ -124,8 +124,12 @@ check = with_rule (with_rule (with_rule (with_rule (trace (codes "check")) spec)
 abbrev pub ranged : Text → App
 ranged name = with_rule (with_rule (trace name) first) last
 
+-- the admin queue is left out
+abbrev pub no_admin : Rule
+no_admin = record (new_rule (codes "no-admin")) { long = Some (codes "no-admin"); action = Some SetTrue }
+
 abbrev pub chart : App
-chart = with_rule (ranged (codes "chart")) output
+chart = with_rule (with_rule (ranged (codes "chart")) no_admin) output
 
 abbrev pub stats : Names → App
 stats names = with_rule (with_rule (with_rule (ranged (codes "stats")) backlogged) window) (format names)
@@ -142,10 +146,10 @@ settings = with_rule (with_rule (with_rule (new_app (codes "settings")) dword) (
 abbrev pub number : Text → Rule
 number name = option name (values.Unsigned 0 9223372036854775807)
 
--- the subcommand that simulates, with what says when it ends and from where on it counts
+-- the subcommand that simulates, with what stands in place of what the file says
 abbrev pub bounded : App
 bounded =
-    with_rule (with_rule (with_rule (with_rule (trace (codes "simulate")) (number (codes "seed"))) (number (codes "commands"))) (text_option (codes "time"))) (number (codes "warm-up"))
+    with_rule (with_rule (with_rule (with_rule (with_rule (trace (codes "simulate")) (number (codes "seed"))) (number (codes "commands"))) (text_option (codes "time"))) (number (codes "warm-up"))) (text_option (codes "load"))
 
 -- the values of a key in a sweep, which may come several times
 abbrev pub sweep : Rule
@@ -154,6 +158,10 @@ sweep = record (new_rule (codes "sweep")) { long = Some (codes "sweep"); action 
 -- from 1 to 1000 seeds
 abbrev pub seeds : Rule
 seeds = option (codes "seeds") (values.Unsigned 1 1000)
+
+-- from 1 to 64 threads
+abbrev pub jobs : Rule
+jobs = option (codes "jobs") (values.Unsigned 1 64)
 
 -- the points of a sweep are printed, and not simulated
 abbrev pub points : Rule
@@ -165,11 +173,14 @@ no_head = record (new_rule (codes "no-head")) { long = Some (codes "no-head"); a
 
 -- the subcommand that simulates, with the options of a sweep
 abbrev pub swept : App
-swept = with_rule (with_rule (with_rule (with_rule bounded sweep) seeds) points) no_head
+swept = with_rule (with_rule (with_rule (with_rule (with_rule bounded sweep) seeds) jobs) points) no_head
+
+-- the subcommand that simulates, with the files that it writes beside its answer
+abbrev pub logged : Names → App
+logged names = with_rule (with_rule (with_rule swept (format names)) (text_option (codes "log"))) (text_option (codes "trace"))
 
 abbrev pub simulate : Names → App
-simulate names =
-    with_rule (with_rule (with_rule (with_rule swept (format names)) (text_option (codes "log"))) (text_option (codes "trace"))) output
+simulate names = with_rule (with_rule (logged names) (text_option (codes "chart"))) output
 
 -- ---- the program
 

@@ -1,5 +1,5 @@
 -- Worked command lines. (profile)
-use Rattle.std.specs.Prelude.{⊤, ◌≡◌, ◌⊎◌, false, List, [], ◌∷◌, map, Option, Some, Ok, Err, String, string_bytes, codes, None}
+use Rattle.std.specs.Prelude.{⊤, ◌≡◌, ◌⊎◌, Bool, false, List, [], ◌∷◌, map, Option, Some, Ok, Err, String, string_bytes, codes, None}
 use Rattle.std.specs.Global.{Global}
 use Rattle.clap.specs.Words.{App, Text, kind_of, one_of}
 use Rattle.clap.specs.declared.error.Error.{Error}
@@ -9,6 +9,7 @@ use Rattle.nvme_words.specs.Requests.{Given, IsAnswerTo, IsRequestOf, faults_of,
 use Rattle.nvme_words.specs.declared.requests.Format.{Format}
 use Rattle.nvme_words.specs.declared.requests.Numbers.{Numbers}
 use Rattle.nvme_words.specs.declared.requests.Range.{Range}
+use Rattle.nvme_words.specs.declared.requests.Drawing.{Drawing}
 use Rattle.nvme_words.specs.declared.requests.Request.{Request}
 use Rattle.nvme_words.specs.declared.requests.Request.TheVariants as request
 use Rattle.nvme_words.specs.declared.requests.WordsError.{WordsError}
@@ -27,6 +28,10 @@ OverLine line P = (names : Names) → AreFormats names → (words : List (String
 -- all picks of a trace
 abbrev pub all_picks : Range
 all_picks = record { first = 1; last = 9223372036854775807 }
+
+-- a picture of all picks of a trace, with the admin queue or without it
+abbrev pub all_drawn : Bool → Drawing
+all_drawn no_admin = record { range = all_picks; no_admin = no_admin }
 
 -- the numbers of all picks of a trace, in one piece
 abbrev pub all_numbers : Format → Numbers
@@ -147,6 +152,9 @@ chart_file = codes "chart" ∷ codes "a.json" ∷ []
 
 abbrev pub chart_output : List Text
 chart_output = codes "chart" ∷ codes "-o" ∷ codes "a.svg" ∷ codes "a.json" ∷ []
+
+abbrev pub chart_no_admin : List Text
+chart_no_admin = codes "chart" ∷ codes "--no-admin" ∷ codes "a.json" ∷ []
 
 abbrev pub chart_printed : List Text
 chart_printed = codes "chart" ∷ codes "a.json" ∷ codes "--output=-" ∷ []

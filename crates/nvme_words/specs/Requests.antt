@@ -10,6 +10,7 @@ use Rattle.clap.specs.declared.error.kind.ErrorKind.TheVariants.{DisplayHelp, Di
 use Rattle.nvme_words.specs.declared.requests.Format.{Format}
 use Rattle.nvme_words.specs.declared.requests.Format.TheVariants as format
 use Rattle.nvme_words.specs.declared.requests.Range.{Range}
+use Rattle.nvme_words.specs.declared.requests.Drawing.{Drawing}
 use Rattle.nvme_words.specs.declared.requests.Numbers.{Numbers}
 use Rattle.nvme_words.specs.declared.requests.OptionsFault.{OptionsFault}
 use Rattle.nvme_words.specs.declared.requests.OptionsFault.TheVariants as unfit
@@ -34,7 +35,7 @@ IsAskedBy words request.Check = asks (codes "check") words ≡ true
 IsAskedBy words request.CheckSpec = (asks (codes "check") words ≡ true) × (asks_alone (codes "check") words ≡ false)
 IsAskedBy words request.CheckAll = (asks (codes "check") words ≡ true) × (asks_alone (codes "check") words ≡ false)
 IsAskedBy words (request.Trace mode workers) = asks (codes "trace") words ≡ true
-IsAskedBy words (request.Chart range) = shows_trace words ≡ true
+IsAskedBy words (request.Chart drawing) = shows_trace words ≡ true
 IsAskedBy words (request.Stats numbers) = shows_trace words ≡ true
 IsAskedBy words (request.Settings reading) = asks (codes "settings") words ≡ true
 IsAskedBy words (request.Unfit unfit.AllOfSpec) = (asks (codes "check") words ≡ true) × (asks_alone (codes "check") words ≡ false)
@@ -70,6 +71,10 @@ IsFlag id rows false = first_of id rows ≢ Some (codes "true")
 -- which picks of a trace are looked at
 abbrev pub IsRange : List Row → Range → Type 0
 IsRange rows range = IsNumber 64 (codes "from") rows range.first × IsNumber 64 (codes "to") rows range.last
+
+-- which picks of a trace are drawn
+abbrev pub IsDrawing : List Row → Drawing → Type 0
+IsDrawing rows drawing = IsRange rows drawing.range × IsFlag (codes "no-admin") rows drawing.no_admin
 
 -- which numbers of a trace are wanted
 abbrev pub AreNumbers : List Row → Numbers → Type 0
@@ -108,7 +113,8 @@ IsRequestOf given request.CheckSpec = (given.0 ≡ codes "check") × IsFlag (cod
 IsRequestOf given request.CheckAll = (given.0 ≡ codes "check") × IsFlag (codes "spec") given.1 false × IsFlag (codes "all") given.1 true
 IsRequestOf given (request.Trace mode workers) =
     (given.0 ≡ codes "trace") × SubmitsBy given.1 mode × IsNumber 8 (codes "workers") given.1 workers
-IsRequestOf given (request.Chart range) = (given.0 ≡ codes "chart") × IsRange given.1 range × (range.first ≤ range.last)
+IsRequestOf given (request.Chart drawing) =
+    (given.0 ≡ codes "chart") × IsDrawing given.1 drawing × (drawing.range.first ≤ drawing.range.last)
 IsRequestOf given (request.Stats numbers) =
     (given.0 ≡ codes "stats") × AreNumbers given.1 numbers × (numbers.range.first ≤ numbers.range.last)
 IsRequestOf given (request.Settings reading) = (given.0 ≡ codes "settings") × (reading ≡ settings_given given.1)

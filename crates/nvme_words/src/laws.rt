@@ -1,7 +1,7 @@
 //! Laws of the command line, over the definitions alone. Each function does nothing: its contract is the law.
-ghost use Rattle.std.specs.Prelude.{[], None, Some, Ok, Err, codes, true};
+ghost use Rattle.std.specs.Prelude.{[], None, Some, Ok, Err, codes, true, false};
 ghost use Rattle.clap.specs.declared.error.kind.ErrorKind.TheVariants as kind;
-ghost use Rattle.nvme_words.specs.Examples.{AsksFor, AsksForNothing, AsksForOneThing, HasFault, NamesFile, NamesOutput, RefusesBy, ShowsText, all_numbers, all_picks, alone, chart_behind, chart_file, chart_from_0, chart_one_pick, chart_output, chart_printed, check_all, check_all_spec, check_file, check_format, check_spec, expand_file, lint_file, lint_input, live_0, live_8, loaded_2, loaded_9, once_8, once_most, once_none, once_too_many, run_file, run_live_3, run_two_files, settings_both, settings_dword, settings_words, stats_behind, stats_json, stats_output, stats_part, stats_xml, trace_2, trace_live, trace_output};
+ghost use Rattle.nvme_words.specs.Examples.{AsksFor, AsksForNothing, AsksForOneThing, HasFault, NamesFile, NamesOutput, RefusesBy, ShowsText, all_drawn, all_numbers, all_picks, alone, chart_behind, chart_file, chart_from_0, chart_no_admin, chart_one_pick, chart_output, chart_printed, check_all, check_all_spec, check_file, check_format, check_spec, expand_file, lint_file, lint_input, live_0, live_8, loaded_2, loaded_9, once_8, once_most, once_none, once_too_many, run_file, run_live_3, run_two_files, settings_both, settings_dword, settings_words, stats_behind, stats_json, stats_output, stats_part, stats_xml, trace_2, trace_live, trace_output};
 ghost use Rattle.nvme_words.specs.declared.requests.Format.TheVariants as format;
 ghost use Rattle.nvme_words.specs.declared.requests.OptionsFault.TheVariants as unfit;
 ghost use Rattle.nvme_words.specs.declared.requests.Request.TheVariants as request;
@@ -27,9 +27,10 @@ pub fn lines_ask_for()
     ensures check_all_spec { AsksFor check_all_spec (request.Unfit unfit.AllOfSpec) }
     ensures trace { AsksFor trace_2 (request.Trace Loaded 2) }
     ensures trace_live { AsksFor trace_live (request.Trace Live 1) }
-    ensures chart { AsksFor chart_file (request.Chart all_picks) }
-    ensures chart_output { AsksFor chart_output (request.Chart all_picks) }
-    ensures chart_one_pick { AsksFor chart_one_pick (request.Chart (record { first = 10; last = 10 })) }
+    ensures chart { AsksFor chart_file (request.Chart (all_drawn false)) }
+    ensures chart_output { AsksFor chart_output (request.Chart (all_drawn false)) }
+    ensures chart_no_admin { AsksFor chart_no_admin (request.Chart (all_drawn true)) }
+    ensures chart_one_pick { AsksFor chart_one_pick (request.Chart (record { range = record { first = 10; last = 10 }; no_admin = false })) }
     ensures chart_behind { AsksFor chart_behind (request.Unfit (unfit.Behind (record { first = 10; last = 9 }))) }
     ensures stats_behind { AsksFor stats_behind (request.Unfit (unfit.Behind (record { first = 10; last = 5 }))) }
     ensures stats { AsksFor (alone (codes "stats")) (request.Stats (all_numbers format.Text)) }

@@ -18,6 +18,7 @@ pub use laws::{
     one_request,
 };
 pub use nvme_version::VERSION;
-pub use requests::{Format, Numbers, OptionsFault, Range, Request, WordsError, asked_of};
+pub use program::MAX_JOBS;
+pub use requests::{Drawing, Format, Numbers, OptionsFault, Range, Request, WordsError, asked_of};
 pub use simulations::{SimulationWords, simulation_asked};
 pub use words::reads_input_alone;

@@ -1,7 +1,7 @@
 // The command line of the program, by `clap`.
 ghost use Rattle.std.specs.Prelude.{◌≡◌, IfOk, codes};
 ghost use Rattle.clap.specs.Words.{App, app_of};
-ghost use Rattle.nvme_words.specs.CommandLine.{OnCommandLine, all, backlogged, blocks, bounded, chart, check, dword, expand, file, first, format, last, lint, mode, number, once, option, ranged, reported, run, output, quiet, settings, simulate, stats, text_option, trace, traced, window, with_file, with_input, with_run, with_trace, workers, seeds, sweep, swept};
+ghost use Rattle.nvme_words.specs.CommandLine.{OnCommandLine, all, backlogged, blocks, bounded, chart, check, dword, expand, file, first, format, jobs, last, lint, mode, no_admin, number, once, option, ranged, reported, run, output, quiet, settings, simulate, stats, text_option, trace, traced, window, with_file, with_input, with_run, with_trace, workers, seeds, sweep, swept};
 ghost use Rattle.nvme_words.specs.inside.Built.{AddsIfMade, HasApp, HasRule};
 
 use clap::builder::ValueParser;
@@ -9,6 +9,9 @@ use clap::{Arg, ArgAction, Command, value_parser};
 use nvme_pool::MAX_WORKERS;
 use nvme_version::VERSION;
 use std::alloc::{AllocError, Global};
+
+/// The most threads of a sweep.
+pub const MAX_JOBS: u8 = 64;
 
 const FORMATS: &[&str] = &["text", "json", "csv"];
 
@@ -33,10 +36,11 @@ Input:
   loaded, live    a workload file as expand writes it, from standard input
 
 Ranges:
-  N               of --workers 1 to 8; of --commands 1 to 100000000
+  N               of --workers 1 to 8; of --commands 1 to 100000000; of --jobs 1 to 64
   B               1 to 9223372036854775807 logical blocks
   FIRST, LAST     numbers of picks, counted from 1, both included, FIRST at most LAST
   TIME            a number with a unit: ps, ns, us, ms, s, as 1.5ms
+  LOAD            above 0 and at most 4, with at most six digits behind the point, as 0.7
   DWORD           a number of 32 bits, in hexadecimal as 0x07030103 or in decimal
   BURST           1, 2, 4, 8, 16, 32, 64, or none for no limit
   WEIGHTS         of high, medium and low, each 1 to 256, as 8:4:2
@@ -312,12 +316,24 @@ fn ranged_command<'a>(
         .arg(last_arg(alloc))
 }
 
+// Whether the admin queue is left out of a picture.
+fn no_admin_arg<'a>(alloc: Global) -> Arg<'a>
+    ensures { HasRule no_admin result }
+{
+    Arg::new(alloc, "no-admin")
+        .long("no-admin")
+        .help("Leave the admin queue out, with its picks")
+        .action(ArgAction::SetTrue)
+}
+
 // The subcommand that draws a trace.
 fn chart_command<'a>(alloc: Global) -> Result<Command<'a>, AllocError>
     ensures { IfOk result (HasApp chart) }
 {
     let about = "Prints a picture of a trace as SVG, or writes it to a file";
-    ranged_command(alloc, "chart", about)?.arg(output_arg(alloc))
+    ranged_command(alloc, "chart", about)?
+        .arg(no_admin_arg(alloc))?
+        .arg(output_arg(alloc))
 }
 
 // How numbers are written.
@@ -348,7 +364,7 @@ fn number_arg<'a>(alloc: Global, name: &'a str, help: &'a str) -> Arg<'a>
     option_arg(alloc, name, "N", help, range)
 }
 
-// The subcommand that simulates, with the options that say when it ends, and from where on it counts.
+// The subcommand that simulates, with the options that stand in place of what the file says.
 fn bounded_command<'a>(alloc: Global) -> Result<Command<'a>, AllocError>
     ensures { IfOk result (HasApp bounded) }
 {
@@ -357,13 +373,15 @@ fn bounded_command<'a>(alloc: Global) -> Result<Command<'a>, AllocError>
     let commands = "How many commands come, in place of the file's";
     let time = "From when on none comes, in place of the file's; not with --commands";
     let warm_up = "How many of the first commands no number counts, in place of the file's";
+    let load = "What part of what the device can do comes of open queues: their gaps are scaled";
     Command::new(alloc, "simulate")
         .about("Simulates a device and its hosts, and prints latencies, throughput and shares")
         .arg(file_arg(alloc, help))?
         .arg(number_arg(alloc, "seed", seed))?
         .arg(number_arg(alloc, "commands", commands))?
         .arg(text_arg(alloc, "time", "TIME", time))?
-        .arg(number_arg(alloc, "warm-up", warm_up))
+        .arg(number_arg(alloc, "warm-up", warm_up))?
+        .arg(text_arg(alloc, "load", "LOAD", load))
 }
 
 // The values of a key in a sweep.
@@ -371,7 +389,7 @@ fn sweep_arg<'a>(alloc: Global) -> Arg<'a>
     ensures { HasRule sweep result }
 {
     let help =
-        "A key of the file and its values, which all are simulated; with several, all combinations";
+        "A key of the file, or load, and its values, which all are simulated; with several, all combinations";
     Arg::new(alloc, "sweep")
         .long("sweep")
         .value_name("KEY=A,B,..")
@@ -386,6 +404,15 @@ fn seeds_arg<'a>(alloc: Global) -> Arg<'a>
     let help = "How many seeds each is run with, 1 to 1000: means and their intervals of 95 %";
     let range = value_parser!(u64).range(1..=1_000);
     option_arg(alloc, "seeds", "N", help, range)
+}
+
+// On how many threads a sweep runs.
+fn jobs_arg<'a>(alloc: Global) -> Arg<'a>
+    ensures { HasRule jobs result }
+{
+    let help = "On how many threads a sweep runs, 1 to 64; without it on all processors";
+    let range = value_parser!(u64).range(1..=i64::from(MAX_JOBS));
+    option_arg(alloc, "jobs", "N", help, range)
 }
 
 // The subcommand that simulates, with the options of a sweep.
@@ -403,6 +430,7 @@ fn swept_command<'a>(alloc: Global) -> Result<Command<'a>, AllocError>
     bounded_command(alloc)?
         .arg(sweep_arg(alloc))?
         .arg(seeds_arg(alloc))?
+        .arg(jobs_arg(alloc))?
         .arg(points)?
         .arg(no_head)
 }
@@ -413,10 +441,12 @@ fn simulate_command<'a>(alloc: Global, formats: &'a [&'a str]) -> Result<Command
 {
     let log = "A file that gets a line of comma-separated values for each finished command";
     let trace = "A file that gets the trace of the picks";
+    let chart = "A file that gets a picture of the latencies as SVG";
     swept_command(alloc)?
         .arg(format_arg(alloc, formats))?
         .arg(text_arg(alloc, "log", "FILE", log))?
         .arg(text_arg(alloc, "trace", "FILE", trace))?
+        .arg(text_arg(alloc, "chart", "FILE", chart))?
         .arg(output_arg(alloc))
 }
 

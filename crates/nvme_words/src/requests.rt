@@ -23,6 +23,15 @@ pub struct Range {
     pub last: u64,
 }
 
+/// Which picks of a trace a picture draws.
+#[derive(Clone, Copy, Debug, PartialEq, Eq)]
+pub struct Drawing {
+    /// The picks that are looked at.
+    pub range: Range,
+    /// Whether the admin queue is left out.
+    pub no_admin: bool,
+}
+
 /// Which numbers of a trace statistics tell.
 #[derive(Clone, Copy, Debug, PartialEq, Eq)]
 pub struct Numbers {
@@ -45,6 +54,17 @@ pub enum Format {
     Json,
     /// Comma-separated values.
     Csv,
+}
+
+impl Format {
+    /// The name of the form on a command line.
+    pub fn name(self) -> &'static str {
+        match self {
+            Format::Text => "text",
+            Format::Json => "json",
+            Format::Csv => "csv",
+        }
+    }
 }
 
 /// Which options of a subcommand don't go together.
@@ -81,7 +101,7 @@ pub enum Request {
     /// The trace of a run of a workload in this mode, with this many workers, 1 to 8.
     Trace(Mode, u8),
     /// A picture of a trace, as SVG. The range doesn't end before it begins.
-    Chart(Range),
+    Chart(Drawing),
     /// Statistics of a trace. The range doesn't end before it begins.
     Stats(Numbers),
     /// The settings of the Arbitration feature that a dword or words say, as Command Dword 11 of Set Features, or why
@@ -148,6 +168,16 @@ fn backlogged_of(matches: &ArgMatches) -> bool
     ensures { IsFlag (codes "backlogged") (rows_of (found_of matches.now)) result }
 {
     match matches.get_str("backlogged") {
+        Some("true") => true,
+        _ => false,
+    }
+}
+
+// Whether the admin queue is left out of a picture.
+fn no_admin_of(matches: &ArgMatches) -> bool
+    ensures { IsFlag (codes "no-admin") (rows_of (found_of matches.now)) result }
+{
+    match matches.get_str("no-admin") {
         Some("true") => true,
         _ => false,
     }
@@ -229,14 +259,15 @@ fn check_of(matches: &ArgMatches) -> Request
     }
 }
 
-// What a picture of the picks in a range is asked for by: a range that ends before it begins asks for none.
-fn chart_of(range: Range) -> Request
-    ensures { (rows : List Row) → IsRange rows range → IsRequestOf (codes "chart", rows) result }
+// What a picture of the picks in a range, with the admin queue or without it, is asked for by: a range that ends before
+// it begins asks for none.
+fn chart_of(range: Range, no_admin: bool) -> Request
+    ensures { (rows : List Row) → IsRange rows range → IsFlag (codes "no-admin") rows no_admin → IsRequestOf (codes "chart", rows) result }
 {
     if range.last < range.first {
         Request::Unfit(OptionsFault::Behind(range))
     } else {
-        Request::Chart(range)
+        Request::Chart(Drawing { range, no_admin })
     }
 }
 
@@ -275,7 +306,7 @@ fn request_of(name: &str, matches: &ArgMatches) -> Option<Request>
         "expand" => Some(Request::Expand),
         "check" => Some(check_of(matches)),
         "trace" => Some(Request::Trace(mode_of(matches), workers_of(matches)?)),
-        "chart" => Some(chart_of(range_of(matches)?)),
+        "chart" => Some(chart_of(range_of(matches)?, no_admin_of(matches))),
         "stats" => Some(stats_of(numbers_of(matches)?)),
         "settings" => Some(Request::Settings(settings_of(matches))),
         _ => None,

@@ -16,10 +16,14 @@ pub struct SimulationWords<'a> {
     /// A duration, as it stands there.
     pub time: Option<&'a str>,
     pub warm_up: Option<u64>,
+    /// A decimal, as it stands there.
+    pub load: Option<&'a str>,
     /// The keys of a sweep with their values, as `KEY=A,B`.
     pub sweeps: Vec<&'a str>,
     /// How many seeds each point is run with, 1 to 1000.
     pub seeds: Option<u64>,
+    /// On how many threads a sweep runs, 1 to `MAX_JOBS`.
+    pub jobs: Option<u64>,
     /// The points are printed, and not simulated.
     pub points: bool,
     /// The line of names is left out.
@@ -30,6 +34,8 @@ pub struct SimulationWords<'a> {
     pub log: Option<&'a str>,
     /// The name of the file that gets the picks.
     pub trace: Option<&'a str>,
+    /// The name of the file that gets the picture.
+    pub chart: Option<&'a str>,
     /// The name of the file that gets the answer. `None` for standard output.
     pub output: Option<&'a str>,
 }
@@ -43,6 +49,31 @@ impl SimulationWords<'_> {
     /// Whether they ask for a sweep, or for several seeds.
     pub fn is_sweep(&self) -> bool {
         self.seeds.is_some() || !self.sweeps.is_empty()
+    }
+
+    // Whether an option is there that goes with a sweep alone.
+    fn has_sweep_option(&self) -> bool {
+        self.points || self.no_head || self.jobs.is_some()
+    }
+
+    /// What of them doesn't go with a sweep, or without one.
+    pub fn unfit_for_sweep(&self) -> Option<&'static str> {
+        if !self.is_sweep() {
+            return match self.has_sweep_option() {
+                true => Some("--jobs, --points and --no-head go with --sweep or --seeds"),
+                false => None,
+            };
+        }
+        if self.log.is_some() || self.trace.is_some() {
+            return Some("--log and --trace don't go with --sweep and --seeds");
+        }
+        if self.points && self.chart.is_some() {
+            return Some("--chart doesn't go with --points");
+        }
+        if self.points && self.file.is_none() {
+            return Some("--points wants the name of a file");
+        }
+        None
     }
 }
 
@@ -70,13 +101,16 @@ fn words_of<'a>(
         commands: matches.get_one::<u64>("commands"),
         time: matches.get_str("time"),
         warm_up: matches.get_one::<u64>("warm-up"),
+        load: matches.get_str("load"),
         sweeps: all_of(alloc, matches, "sweep")?,
         seeds: matches.get_one::<u64>("seeds"),
+        jobs: matches.get_one::<u64>("jobs"),
         points: matches.get_flag("points"),
         no_head: matches.get_flag("no-head"),
         format: format_of(matches),
         log: matches.get_str("log"),
         trace: matches.get_str("trace"),
+        chart: matches.get_str("chart"),
         output: name_of(matches.get_str("output")),
     })
 }

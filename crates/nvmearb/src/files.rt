@@ -6,8 +6,17 @@ use crate::noted::{Noted, Notes};
 use crate::telling::{failed, no_memory, tell_input};
 use nvme_program::take_input;
 use std::fs;
-use std::io::{self, Write};
+use std::io::{self, Read, Write};
 use std::rt::Files;
+
+// The exit status of a fault of the input.
+const INPUT: u8 = 1;
+
+/// Where a simulation or a sweep writes its answer, and its picture where one is wanted.
+pub(crate) struct Answers<'a, W> {
+    pub(crate) output: &'a mut W,
+    pub(crate) chart: &'a mut Option<Kept>,
+}
 
 /// All of a file, or of standard input. Where it can't be read that is told, and the error is the exit status.
 pub(crate) fn taken<R: AllocGlobal + Files + Input, E: Write>(
@@ -30,6 +39,35 @@ pub(crate) fn taken<R: AllocGlobal + Files + Input, E: Write>(
         Ok(bytes) => Ok(bytes),
         Err(error) => Err(tell_input(error, errors)),
     }
+}
+
+/// All of a named file of at most so many bytes, beside the input. Where it can't be read that is told, and the error is the
+/// exit status.
+pub(crate) fn whole<R: AllocGlobal + Files, E: Write>(
+    rt: &R,
+    name: &str,
+    most: u64,
+    errors: &mut E,
+) -> Result<Vec<u8>, u8>
+    ensures { IfErr result (λ status. status ≤ 4) }
+{
+    let file = match fs::open(rt, name) {
+        Ok(file) => file,
+        Err(error) => return Err(failed("open", name, &error, errors)),
+    };
+    let mut bytes = Vec::new(rt.alloc());
+    let mut beginning = file.take(most.saturating_add(1));
+    if let Err(error) = beginning.read_to_end(&mut bytes) {
+        return Err(failed("read", name, &error, errors));
+    }
+    if bytes.len() as u64 > most {
+        let _ = writeln!(
+            errors,
+            "nvmearb: input too long: {name:?}: above {most} bytes"
+        );
+        return Err(INPUT);
+    }
+    Ok(bytes)
 }
 
 // Writes a whole answer to a file. A file of this name is replaced.

@@ -16,7 +16,7 @@ use std::thread::Threads;
 const WARNED: u8 = 4;
 
 // Tells the first fault of a simulation file, or what of it can't go well. The answer is the exit status.
-fn linted_model<R: AllocGlobal, W: Write, E: Write>(
+fn linted_model<R: AllocGlobal + Files, W: Write, E: Write>(
     rt: &R,
     file: Option<&str>,
     text: &[u8],
@@ -25,8 +25,8 @@ fn linted_model<R: AllocGlobal, W: Write, E: Write>(
 ) -> u8
     ensures { result ≤ 4 }
 {
-    let model = match model_of(rt, file, text, errors) {
-        Ok(model) => model,
+    let (model, _listings) = match model_of(rt, file, text, errors) {
+        Ok(read) => read,
         Err(status) => return status,
     };
     let Some(overload) = overload_of(&model) else {

@@ -272,7 +272,7 @@ fn helped<W: Write, E: Write>(text: &str, output: &mut W, errors: &mut E) -> u8
 
 // Does what the words ask for that read or write several files, or files of several kinds. The answer is the exit
 // status. None where they are other words.
-fn done_around<R, P: Write + Drop, W: Write, E: Write>(
+fn done_around<R, P: Write + Drop + Send, W: Write, E: Write>(
     rt: &R,
     words: &[String],
     terminal: &mut Option<P>,
@@ -318,7 +318,7 @@ fn has_no_json(words: &[String]) -> bool {
 }
 
 // Does what the words ask for. The answer is the exit status.
-fn done<R, P: Write + Drop, W: Write, E: Write>(
+fn done<R, P: Write + Drop + Send, W: Write, E: Write>(
     rt: &R,
     words: &[String],
     mut terminal: Option<P>,
@@ -356,7 +356,7 @@ where
 
 // Does what the words ask for, over standard output and standard error. The answer is the exit status. Where nobody
 // reads the output any more nothing is told. A terminal is told how far a simulation is, and how much of a trace is read.
-fn answered<R, P: Write + Drop, W: Write + Drop, E: Write + Drop>(
+fn answered<R, P: Write + Drop + Send, W: Write + Drop, E: Write + Drop>(
     rt: &R,
     words: &[String],
     terminal: Option<P>,

@@ -2,7 +2,7 @@
 use std::cell::Cell;
 use std::io::{Error, ErrorKind, Read, Result, Write};
 
-/// What a text looks like, by its first byte that says something.
+/// What a text looks like, by its first bytes that say something.
 #[derive(Clone, Copy, Debug, PartialEq, Eq)]
 pub(crate) enum Look {
     /// Nothing was read but blanks and line ends.
@@ -22,19 +22,21 @@ fn says_nothing(byte: u8) -> bool {
 }
 
 impl Look {
-    // By a byte that says something.
-    fn of_byte(byte: u8) -> Look {
-        match byte {
-            b'{' => Look::Trace,
-            b'#' | b'a'..=b'z' | b'A'..=b'Z' => Look::Workload,
+    // By the first bytes that say something.
+    fn of_text(text: &[u8]) -> Look {
+        match text {
+            [] => Look::Blank,
+            [b'{', ..] => Look::Trace,
+            [b'#' | b'a'..=b'z' | b'A'..=b'Z', ..] => Look::Workload,
+            [b'[', b'[' | b'a'..=b'z', ..] => Look::Workload,
             _ => Look::Other,
         }
     }
 
     // By these bytes, where those before them said nothing.
     fn of(bytes: &[u8]) -> Look {
-        match bytes.iter().find(|byte| !says_nothing(**byte)) {
-            Some(byte) => Look::of_byte(*byte),
+        match bytes.iter().position(|byte| !says_nothing(*byte)) {
+            Some(at) => Look::of_text(bytes.get(at..).unwrap_or(&[])),
             None => Look::Blank,
         }
     }

@@ -1,15 +1,15 @@
 // `nvmearb simulate` with `--sweep` or `--seeds`: the points, and what is told of them.
 ghost use Rattle.std.specs.Prelude.{◌≤◌, IfErr};
 
-use crate::files::put_away;
+use crate::files::Answers;
 use crate::kept::Kept;
 use crate::simulating::form_of;
 use crate::telling::{no_memory, unwritten};
-use nvme_program::{Format, SimulationWords};
-use nvme_simulate::{Digest, Overrides};
+use nvme_program::{MAX_JOBS, SimulationWords};
+use nvme_simulate::{Digest, Listings, Overrides};
 use nvme_sweep::{CommandWords, Style, Sweep, SweepFault, axes_of};
 use std::io::Write;
-use std::rt::Files;
+use std::thread::{Threads, available_parallelism};
 
 // The exit statuses of a fault of the input, of the command line and at run time.
 const INPUT: u8 = 1;
@@ -18,11 +18,12 @@ const BAD_LINE: u8 = 2;
 
 const RUN: u8 = 3;
 
-/// A simulation file that has no fault.
-#[derive(Clone, Copy)]
+/// A simulation file that has no fault, and the requests of the files that its queues replay.
+#[derive(Drop)]
 pub(crate) struct File<'a> {
     pub(crate) text: &'a [u8],
     pub(crate) digest: Digest,
+    pub(crate) listings: Listings,
 }
 
 // Tells why there is no answer. The answer is the exit status.
@@ -36,18 +37,9 @@ fn told<E: Write>(fault: &SweepFault, errors: &mut E) -> u8
     }
     let _ = writeln!(errors, "nvmearb: {fault}");
     match fault {
-        SweepFault::Point(..) | SweepFault::NotToml => INPUT,
+        SweepFault::Point(..) | SweepFault::Replay(..) | SweepFault::NotToml => INPUT,
         SweepFault::Stopped(..) => RUN,
         _ => BAD_LINE,
-    }
-}
-
-// The name of a format.
-fn name_of(format: Format) -> &'static str {
-    match format {
-        Format::Text => "text",
-        Format::Json => "json",
-        Format::Csv => "csv",
     }
 }
 
@@ -59,20 +51,34 @@ fn command_words<'a>(line: &SimulationWords<'a>) -> CommandWords<'a> {
         commands: line.commands,
         time: line.time,
         warm_up: line.warm_up,
+        load: line.load,
         seeds: line.seeds,
-        format: name_of(line.format),
+        jobs: line.jobs,
+        format: line.format.name(),
         has_head: !line.no_head,
     }
 }
 
+// On how many threads a sweep runs: as many as there are processors for it, where the line doesn't say.
+fn jobs_of<R: Threads>(rt: &R, asked: Option<u64>) -> usize {
+    if let Some(jobs) = asked {
+        return jobs as usize;
+    }
+    match available_parallelism(rt) {
+        Ok(processors) => processors.get().min(usize::from(MAX_JOBS)),
+        Err(_) => 1,
+    }
+}
+
 // Runs the points of a sweep, or writes their commands.
-fn ran<'a, R: AllocGlobal, P: Write + Drop, W: Write>(
+fn ran<'a, R: AllocGlobal + Threads + Sync, P: Write + Drop + Send, W: Write>(
     rt: &R,
     line: &SimulationWords,
     sweep: &Sweep<'a>,
     digest: Digest,
     terminal: Option<P>,
     output: &mut W,
+    chart: &mut Option<Kept>,
 ) -> Result<(), SweepFault<'a>> {
     if line.points {
         return sweep.put_commands(rt.alloc(), &command_words(line), output);
@@ -81,8 +87,9 @@ fn ran<'a, R: AllocGlobal, P: Write + Drop, W: Write>(
         form: form_of(line.format),
         has_head: !line.no_head,
         digest,
+        jobs: jobs_of(rt, line.jobs),
     };
-    sweep.answer(rt.alloc(), &style, terminal, output)
+    sweep.answer(rt, rt.alloc(), &style, terminal, output, chart)
 }
 
 // The sweep of a line over a file, at each of whose points the file has no fault.
@@ -90,6 +97,7 @@ fn sweep_of<'a, R: AllocGlobal>(
     rt: &R,
     line: &SimulationWords<'a>,
     overrides: Overrides,
+    listings: Listings,
     text: &'a [u8],
 ) -> Result<Sweep<'a>, SweepFault<'a>> {
     let Ok(text) = std::str::from_utf8(text) else {
@@ -99,53 +107,42 @@ fn sweep_of<'a, R: AllocGlobal>(
         axes: axes_of(rt.alloc(), &line.sweeps)?,
         seeds: line.seeds.unwrap_or(1),
         overrides,
+        listings,
         text,
     };
+    if line.chart.is_some() {
+        sweep.look_at_lines(rt.alloc())?;
+    }
     sweep.look(rt.alloc())?;
     Ok(sweep)
 }
 
-// The answer as it stands, or the exit status.
-fn answered<R: AllocGlobal, P: Write + Drop, W: Write, E: Write>(
+/// Does what a line of `simulate` says of a sweep. A terminal is told how far it is. The answer is the exit status.
+pub(crate) fn swept<R, P: Write + Drop + Send, W: Write, E: Write>(
     rt: &R,
     line: &SimulationWords,
     overrides: Overrides,
-    file: &File,
+    file: File,
     terminal: Option<P>,
-    output: &mut W,
+    answers: Answers<'_, W>,
     errors: &mut E,
 ) -> u8
+where
+    R: AllocGlobal + Threads + Sync,
     ensures { result ≤ 4 }
 {
-    let sweep = match sweep_of(rt, line, overrides, file.text) {
+    let Answers { output, chart } = answers;
+    let File {
+        text,
+        digest,
+        listings,
+    } = file;
+    let sweep = match sweep_of(rt, line, overrides, listings, text) {
         Ok(sweep) => sweep,
         Err(fault) => return told(&fault, errors),
     };
-    match ran(rt, line, &sweep, file.digest, terminal, output) {
+    match ran(rt, line, &sweep, digest, terminal, output, chart) {
         Ok(()) => 0,
         Err(fault) => told(&fault, errors),
-    }
-}
-
-/// Does what a line of `simulate` says of a sweep. A terminal is told how far each run is. The answer is the exit status.
-/// Where it isn't 0, the file of the answer isn't touched.
-pub(crate) fn swept<R: AllocGlobal + Files, P: Write + Drop, W: Write, E: Write>(
-    rt: &R,
-    line: &SimulationWords,
-    overrides: Overrides,
-    file: &File,
-    terminal: Option<P>,
-    output: &mut W,
-    errors: &mut E,
-) -> u8
-    ensures { result ≤ 4 }
-{
-    let Some(name) = line.output else {
-        return answered(rt, line, overrides, file, terminal, output, errors);
-    };
-    let mut kept = Kept::new(rt.alloc());
-    match answered(rt, line, overrides, file, terminal, &mut kept, errors) {
-        0 => put_away(rt, name, &kept, errors),
-        status => status,
     }
 }

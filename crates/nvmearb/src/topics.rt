@@ -76,20 +76,27 @@ read, write, flush             a service, in place of the device's     write = "
 Arrivals, where a gap is a duration, or commands a second from 1 to 10^12:
 poisson         exponential gaps of this mean                          { poisson = "85.7us" }
 every           equal gaps                                             { every = 10000 }
-closed          1 to 4096 out, each again a think behind its end       { closed = 32, think = "10us" }
+closed          1 to 4096 out, the next a think after each end         { closed = 32, think = "10us" }
 bursts          poisson in the on phases alone                         { bursts = { poisson = 20000, on = "2ms", off = "3ms" } }
+replay          those of a file, with the keys below                   { replay = "run.csv", form = "csv", speed = 2 }
+
+A replay, which says what mix, blocks and offsets say else, until its file ends:
+replay          (required)     the name of a file                      replay = "trace.csv"
+form            (required)     "csv","msr","alibaba","blkparse","fio"  form = "msr"
+speed           1              a number above 0                        speed = "0.5"
+queue                          1 to 65535, whose lines of a csv        queue = 2
 
 A service is a duration, or a table with one of these, and per_block, a duration for each block:
 fixed           always this long                                       { fixed = "80us", per_block = "500ns" }
 exponential     exponential of this mean                               { exponential = "80us" }
-usual           this long, but rare one time in one_in                 { usual = "20us", rare = "2ms", one_in = 100 }
+usual           this long; with probability 1/one_in rare              { usual = "20us", rare = "2ms", one_in = 100 }
 quantiles       between two or more, at equal steps of probability     { quantiles = ["60us", "80us", "2ms"] }
 
 A duration is a number and its unit, ps, ns, us, ms or s: "80us", "1.5ms".
 
   nvmearb lint FILE              what of a file is at fault, or more than the device can do
   nvmearb simulate FILE          latencies, throughput and shares
-  nvmearb simulate --help        seeds, ends, logs, traces and sweeps
+  nvmearb simulate --help        seeds, ends, loads, logs, traces, pictures and sweeps
 "#;
 
 const TRACE: &str =

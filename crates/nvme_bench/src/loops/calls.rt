@@ -2,7 +2,7 @@
 // their instructions can be told from its own.
 ghost use Rattle.nvme_ctrl.specs.Standing.{IsController};
 
-use nvme_ctrl::{Answer, Controller, Marks, Slot, Step};
+use nvme_ctrl::{Answer, Controller, Slot, StatusFlags, Step};
 use nvme_entry::{Sqe, Status};
 
 /// The room of a device without a bound.
@@ -102,7 +102,7 @@ pub fn complete(
     let answer = Answer {
         status,
         dw0,
-        marks: Marks::NONE,
+        flags: StatusFlags::NONE,
     };
     ctrl.complete(slots, tag, answer)
 }

@@ -14,22 +14,23 @@ ghost use Rattle.nvme_ctrl.specs.Generations.{SameGenerations, IsNextGeneration,
 ghost use Rattle.nvme_ctrl.specs.declared.tag.Tag.{Tag};
 ghost use Rattle.nvme_ctrl.specs.Calls.{depths_of, HasTaken, HasAnswered};
 ghost use Rattle.nvme_ctrl.specs.Steps.{IsNextPick, IsBusy, HasStepped, IsFinishableAt, NoneFinishable, HasFinished};
-ghost use Rattle.nvme_ctrl.specs.Posts.{NonePostable};
+ghost use Rattle.nvme_ctrl.specs.Posts.{NonePostable, next_post_of};
+ghost use Rattle.nvme_ctrl.specs.NextQueue.{HasPost};
 ghost use Rattle.nvme_ctrl.specs.declared.picks.Step.TheVariants as made;
 ghost use Rattle.nvme_capi.specs.States.{pick_of_fields};
 ghost use Rattle.nvme_capi.specs.Tables.{plain_answer};
-ghost use Rattle.nvme_capi.specs.Controllers.{is_ctrl, is_whole, has_slots, IsKept, IsOutUnder, StaysMade, HasToldWhat, no_pick, nothing_asked, asked_in, IsCommandIn, device_answer, marks_by, IsMarkedEntry, HasPostedBytes, IsPostIn};
+ghost use Rattle.nvme_capi.specs.Controllers.{is_ctrl, is_whole, has_slots, IsKept, IsOutUnder, StaysMade, HasToldWhat, no_pick, nothing_asked, asked_in, IsCommandIn, device_answer, flags_by, IsFlaggedEntry, HasPostedBytes, IsPostIn};
 
 use crate::answers::{answer_of, plain_answer};
-use crate::ctrl::marks::{marked, marks_by};
 use crate::ctrl::state::{
     AskedFields, CommandFields, CtrlState, PostFields, StepFields, has_slots, is_ctrl, is_whole,
 };
+use crate::ctrl::status_flags::{flagged, flags_by};
 use crate::fields::StatusFields;
 use crate::results::{BAD_ARGUMENT, BAD_STATE, BUSY, NOROOM, NOTHING, OK};
 use crate::states::{PickFields, fields_of_pick};
 use nvme_admin::Effect;
-use nvme_ctrl::{Answer, Marks, Post, Slot, Step, Tag};
+use nvme_ctrl::{Answer, Post, Slot, StatusFlags, Step, Tag};
 use nvme_entry::{Sqe, Status};
 
 // The kinds of a step.
@@ -230,14 +231,14 @@ pub extern "C" fn nvmearb_ctrl_take(
     }
 }
 
-// The device answers the command of a tag with marks.
-fn complete_marked(
+// The device answers the command of a tag with flags.
+fn complete_flagged(
     state: &mut CtrlState,
     slots: &mut [Slot],
     tag: u32,
     status: &StatusFields,
     dw0: u32,
-    marks: Marks,
+    flags: StatusFlags,
 ) -> u32
     ensures kept { IsKept state.old slots.old → IsKept state.new slots.new }
     ensures same { StaysMade state.old state.new }
@@ -249,7 +250,7 @@ fn complete_marked(
     ensures answer { (result ≡ OK) ⊎ ((result ≡ NOTHING) ⊎ ((result ≡ BAD_ARGUMENT) ⊎ (result ≡ BAD_STATE))) }
     ensures nothing { (rules : FrontRules) (late : Bool) (notes : Notes) → Stands rules late notes state.old.ctrl slots.old → result ≡ NOTHING → IsOutUnder notes slots.old tag → ⊥ }
     ensures was_out { (rules : FrontRules) (late : Bool) (notes : Notes) → Stands rules late notes state.old.ctrl slots.old → result ≡ OK → IsOutUnder notes slots.old tag }
-    ensures stands { (rules : FrontRules) (late : Bool) (notes : Notes) → Stands rules late notes state.old.ctrl slots.old → result ≡ OK → HasAnswered rules late notes (tag_of tag).slot (device_answer status.now dw0) marks state.new.ctrl slots.new }
+    ensures stands { (rules : FrontRules) (late : Bool) (notes : Notes) → Stands rules late notes state.old.ctrl slots.old → result ≡ OK → HasAnswered rules late notes (tag_of tag).slot (device_answer status.now dw0) flags state.new.ctrl slots.new }
     ensures unchanged { result ≢ OK → (state.new ≡ state.old) × (slots.new ≡ slots.old) }
 {
     if !is_ctrl(state) {
@@ -266,7 +267,7 @@ fn complete_marked(
     };
     if state
         .ctrl
-        .complete(slots, slot, Answer { status, dw0, marks })
+        .complete(slots, slot, Answer { status, dw0, flags })
     {
         OK
     } else {
@@ -292,15 +293,15 @@ pub extern "C" fn nvmearb_ctrl_complete(
     ensures answer { (result ≡ OK) ⊎ ((result ≡ NOTHING) ⊎ ((result ≡ BAD_ARGUMENT) ⊎ (result ≡ BAD_STATE))) }
     ensures nothing { (rules : FrontRules) (late : Bool) (notes : Notes) → Stands rules late notes state.old.ctrl slots.old → result ≡ NOTHING → IsOutUnder notes slots.old tag → ⊥ }
     ensures was_out { (rules : FrontRules) (late : Bool) (notes : Notes) → Stands rules late notes state.old.ctrl slots.old → result ≡ OK → IsOutUnder notes slots.old tag }
-    ensures stands { (rules : FrontRules) (late : Bool) (notes : Notes) → Stands rules late notes state.old.ctrl slots.old → result ≡ OK → HasAnswered rules late notes (tag_of tag).slot (device_answer status.now dw0) (marks_by 0) state.new.ctrl slots.new }
+    ensures stands { (rules : FrontRules) (late : Bool) (notes : Notes) → Stands rules late notes state.old.ctrl slots.old → result ≡ OK → HasAnswered rules late notes (tag_of tag).slot (device_answer status.now dw0) (flags_by 0) state.new.ctrl slots.new }
     ensures generations { SameGenerations slots.old slots.new }
     ensures left { own_of state.new.ctrl ≡ own_of state.old.ctrl }
     ensures unchanged { result ≢ OK → (state.new ≡ state.old) × (slots.new ≡ slots.old) }
 {
-    complete_marked(state, slots, tag, status, dw0, Marks::NONE)
+    complete_flagged(state, slots, tag, status, dw0, StatusFlags::NONE)
 }
 
-/// The device answers the command of a tag with marks, NVMEARB_DNR and NVMEARB_MORE. BAD_ARGUMENT where they have another
+/// The device answers the command of a tag with flags, NVMEARB_DNR and NVMEARB_MORE. BAD_ARGUMENT where they have another
 /// bit too; otherwise as `nvmearb_ctrl_complete`.
 #[unsafe(no_mangle)]
 pub extern "C" fn nvmearb_ctrl_complete_with(
@@ -309,17 +310,17 @@ pub extern "C" fn nvmearb_ctrl_complete_with(
     tag: u32,
     status: &StatusFields,
     dw0: u32,
-    marks: u8,
+    flags: u8,
 ) -> u32
     ensures kept { IsKept state.old slots.old → IsKept state.new slots.new }
     ensures same { StaysMade state.old state.new }
     ensures depths { depths_of state.new.ctrl ≡ depths_of state.old.ctrl }
     ensures bad_state { (result ≡ BAD_STATE) ↔ IsFalse (is_ctrl state.old) }
-    ensures bad_argument { (result ≡ BAD_ARGUMENT) ↔ (IsTrue (is_ctrl state.old) × (IsFalse (has_slots state.old slots.old) ⊎ ((7 < status.now.sct) ⊎ (3 < marks)))) }
+    ensures bad_argument { (result ≡ BAD_ARGUMENT) ↔ (IsTrue (is_ctrl state.old) × (IsFalse (has_slots state.old slots.old) ⊎ ((7 < status.now.sct) ⊎ (3 < flags)))) }
     ensures answer { (result ≡ OK) ⊎ ((result ≡ NOTHING) ⊎ ((result ≡ BAD_ARGUMENT) ⊎ (result ≡ BAD_STATE))) }
     ensures nothing { (rules : FrontRules) (late : Bool) (notes : Notes) → Stands rules late notes state.old.ctrl slots.old → result ≡ NOTHING → IsOutUnder notes slots.old tag → ⊥ }
     ensures was_out { (rules : FrontRules) (late : Bool) (notes : Notes) → Stands rules late notes state.old.ctrl slots.old → result ≡ OK → IsOutUnder notes slots.old tag }
-    ensures stands { (rules : FrontRules) (late : Bool) (notes : Notes) → Stands rules late notes state.old.ctrl slots.old → result ≡ OK → HasAnswered rules late notes (tag_of tag).slot (device_answer status.now dw0) (marks_by marks) state.new.ctrl slots.new }
+    ensures stands { (rules : FrontRules) (late : Bool) (notes : Notes) → Stands rules late notes state.old.ctrl slots.old → result ≡ OK → HasAnswered rules late notes (tag_of tag).slot (device_answer status.now dw0) (flags_by flags) state.new.ctrl slots.new }
     ensures generations { SameGenerations slots.old slots.new }
     ensures left { own_of state.new.ctrl ≡ own_of state.old.ctrl }
     ensures unchanged { result ≢ OK → (state.new ≡ state.old) × (slots.new ≡ slots.old) }
@@ -327,21 +328,21 @@ pub extern "C" fn nvmearb_ctrl_complete_with(
     if !is_ctrl(state) {
         return BAD_STATE;
     }
-    let Some(marks) = marks_by(marks) else {
+    let Some(flags) = flags_by(flags) else {
         return BAD_ARGUMENT;
     };
-    complete_marked(state, slots, tag, status, dw0, marks)
+    complete_flagged(state, slots, tag, status, dw0, flags)
 }
 
 // What is told of a completion.
 fn fields_of_post(it: &Post, tag: Tag) -> PostFields
-    ensures layout { IsMarkedEntry result.bytes it.now.cqe it.now.marks }
+    ensures layout { IsFlaggedEntry result.bytes it.now.cqe it.now.flags }
     ensures cookie { result.cookie ≡ it.now.cookie }
     ensures tag { tag_of result.tag ≡ tag }
     ensures slot { result.slot ≡ it.now.slot }
 {
     PostFields {
-        bytes: marked(it.cqe.to_bytes(), it.marks),
+        bytes: flagged(it.cqe.to_bytes(), it.flags),
         cookie: it.cookie,
         tag: tag.number(),
         slot: it.slot,
@@ -364,6 +365,8 @@ pub extern "C" fn nvmearb_ctrl_post(
     ensures bad_argument { (result ≡ BAD_ARGUMENT) ↔ (IsTrue (is_ctrl state.old) × IsFalse (has_slots state.old slots.old)) }
     ensures answer { (result ≡ OK) ⊎ ((result ≡ NOTHING) ⊎ ((result ≡ BAD_ARGUMENT) ⊎ (result ≡ BAD_STATE))) }
     ensures nothing { (rules : FrontRules) (late : Bool) (notes : Notes) → Stands rules late notes state.old.ctrl slots.old → result ≡ NOTHING → (x : ℕ) → open_cq (logged notes) cqid ≡ Some x → NonePostable rules notes x }
+    ensures due { result ≡ OK → HasPost state.old.ctrl slots.old cqid }
+    ensures none_due { result ≡ NOTHING → next_post_of state.old.ctrl slots.old cqid ≡ None }
     ensures stands { (rules : FrontRules) (late : Bool) (notes : Notes) → Stands rules late notes state.old.ctrl slots.old → result ≡ OK → HasPostedBytes rules late notes cqid post.new state.new.ctrl slots.new }
     ensures command { result ≡ OK → IsPostIn slots.old post.new }
     ensures generations { SameGenerations slots.old slots.new }

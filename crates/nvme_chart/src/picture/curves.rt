@@ -1,161 +1,26 @@
 // The picture of a long trace: a curve of the share of each queue, or where they are many of each class, window by
 // window.
-use super::frame::{CHANGE, put_begin, put_legend, put_nothing, put_number, put_title, stride_of};
-use super::{Picture, colour};
+use super::Picture;
+use super::colours::{INK, darker_of_class, dashes_of};
+use super::curve::{Curve, curves_of};
+use super::frame::{
+    LEGEND, put_begin, put_change, put_change_mark, put_left_out, put_nothing, put_title,
+};
+use super::plane::{BOTTOM, LEFT, Plane, TOP, WIDTH};
 use nvme_arbiter::{Class, Mechanism};
-use nvme_stats::{CLASSES, Window, class_of_lane, plural, queue_of_lane, share};
-use nvme_trace::class_name;
+use nvme_stats::{Window, plural, share};
 use std::io::{self, Write};
 
-// The most I/O queues that have curves of their own.
-const QUEUES: u64 = 8;
+// Where the shares of all commands stand, to the right of the plane, in pixels.
+const SIDE: u64 = LEFT + WIDTH + 20;
 
-// Measures of the picture, in pixels.
-const LEFT: u64 = 80;
+// The strokes of the lines of shares that the weights say.
+const BY_WEIGHT: &str = "stroke-width=\"1\" stroke-dasharray=\"5 5\"";
 
-const TOP: u64 = 84;
+// How many windows a stretch has at least, for which the weights' shares are drawn.
+const STRETCH: u64 = 8;
 
-const WIDTH: u64 = 880;
-
-const HEIGHT: u64 = 360;
-
-const BOTTOM: u64 = TOP + HEIGHT;
-
-const LEGEND: u64 = LEFT + WIDTH + 20;
-
-// What a curve is of.
-#[derive(Clone, Copy)]
-enum Of {
-    // A row, which is the nth of its class.
-    Row(usize, usize),
-    Class(Class),
-}
-
-// A curve, which is the nth of the picture.
-#[derive(Clone, Copy)]
-struct Curve {
-    of: Of,
-    nth: usize,
-}
-
-impl Curve {
-    // The commands of a window.
-    fn commands(&self, window: &Window) -> u64 {
-        match self.of {
-            Of::Row(row, _) => window.rows.get(row).copied().unwrap_or(0),
-            Of::Class(class) => {
-                let mut sum = 0u64;
-                for (row, commands) in window.rows.iter().enumerate() {
-                    if class_of_lane(row) == class {
-                        sum = sum.saturating_add(*commands);
-                    }
-                }
-                sum
-            }
-        }
-    }
-
-    // The commands of all windows.
-    fn all_commands(&self, picture: &Picture) -> u64 {
-        let mut sum = 0u64;
-        for window in &picture.series.all {
-            sum = sum.saturating_add(self.commands(window));
-        }
-        sum
-    }
-
-    // The number of the last pick up to which it goes: there a queue of it was picked, or had waiting commands.
-    fn end(&self, picture: &Picture) -> u64 {
-        match self.of {
-            Of::Row(row, _) => picture.rows.get(row).map_or(0, |row| row.end),
-            Of::Class(class) => {
-                let mut end = 0u64;
-                for (at, row) in picture.rows.iter().enumerate() {
-                    if class_of_lane(at) == class {
-                        end = end.max(row.end);
-                    }
-                }
-                end
-            }
-        }
-    }
-
-    // The colour. The fifth queue of a class and those behind it are lighter.
-    fn colour(&self, picture: &Picture) -> &'static str {
-        match self.of {
-            Of::Row(row, nth) if nth < 4 => picture.colour_of(row),
-            Of::Row(row, _) => lighter(picture.mechanism, class_of_lane(row)),
-            Of::Class(class) => colour(class),
-        }
-    }
-
-    // The dashes, by which curves differ.
-    fn dashes(&self) -> &'static str {
-        match self.nth % 4 {
-            0 => "none",
-            1 => "8 4",
-            2 => "2 3",
-            _ => "9 3 2 3",
-        }
-    }
-
-    // The width in tenths of a pixel. A curve is thinner than those below it, so that it doesn't hide one that is equal.
-    fn width(&self) -> u64 {
-        let thinner = 5u64.saturating_mul(self.nth as u64);
-        44u64.saturating_sub(thinner).max(10)
-    }
-
-    // Writes the name.
-    fn put_name<W: Write>(&self, picture: &Picture, writer: &mut W) -> io::Result<()> {
-        match self.of {
-            Of::Row(row, _) => picture.put_name(row, writer),
-            Of::Class(class) => writer.write_all(class_name(class).as_bytes()),
-        }
-    }
-}
-
-// The lighter colour of a class.
-fn lighter(mechanism: Mechanism, class: Class) -> &'static str {
-    match class {
-        _ if mechanism == Mechanism::RoundRobin => "#b0b0b0",
-        Class::Admin => "#999999",
-        Class::Urgent => "#eaaf80",
-        Class::High => "#f3cf80",
-        Class::Medium => "#80cfb9",
-        Class::Low => "#80b9d9",
-    }
-}
-
-// The numbers of the first and the last pick.
-fn ends_of(picture: &Picture) -> (u64, u64) {
-    match (picture.series.all.first(), picture.series.all.last()) {
-        (Some(first), Some(last)) => (first.first, last.last),
-        _ => (0, 0),
-    }
-}
-
-// Where the pick of a number is, in pixels: its left edge.
-fn x_of(picture: &Picture, number: u64) -> u64 {
-    let (first, last) = ends_of(picture);
-    let picks = last.saturating_sub(first).saturating_add(1).max(1);
-    let before = number.saturating_sub(first).min(picks);
-    LEFT.saturating_add(before.saturating_mul(WIDTH) / picks)
-}
-
-// Where the middle of a window is, in pixels.
-fn middle_of(picture: &Picture, window: &Window) -> u64 {
-    let left = x_of(picture, window.first);
-    let right = x_of(picture, window.last.saturating_add(1));
-    left.saturating_add(right) / 2
-}
-
-// Where the share of a curve in a window is, in pixels.
-fn y_of(curve: &Curve, window: &Window) -> u64 {
-    let share = share(curve.commands(window), window.commands).min(10_000) as u64;
-    BOTTOM - share * HEIGHT / 10_000
-}
-
-// The commands of all curves together.
+// The commands of all windows.
 fn commands_of(picture: &Picture) -> u64 {
     let mut sum = 0u64;
     for window in &picture.series.all {
@@ -176,53 +41,30 @@ fn put_whole<W: Write>(picture: &Picture, curve: &Curve, writer: &mut W) -> io::
     put_share(curve.all_commands(picture), commands_of(picture), writer)
 }
 
-// Writes the point at which a curve tells its share in a window.
-fn put_point<W: Write>(
+// Writes the strokes of a curve.
+fn put_strokes<W: Write>(picture: &Picture, curve: &Curve, writer: &mut W) -> io::Result<()> {
+    let (stroke, dashes) = (curve.colour(picture), dashes_of(curve.nth));
+    let width = if curve.is_thin { 1 } else { 2 };
+    write!(
+        writer,
+        "stroke=\"{stroke}\" stroke-width=\"{width}\" stroke-dasharray=\"{dashes}\""
+    )
+}
+
+// Writes a curve, from the window in which it begins to the one in which it ends.
+fn put_line<W: Write>(
     picture: &Picture,
+    plane: &Plane,
     curve: &Curve,
-    window: &Window,
     writer: &mut W,
 ) -> io::Result<()> {
-    let (x, y) = (middle_of(picture, window), y_of(curve, window));
-    let (first, last) = (window.first, window.last);
-    write!(
-        writer,
-        "<circle cx=\"{x}\" cy=\"{y}\" r=\"5\" fill-opacity=\"0\" stroke=\"none\"><title>"
-    )?;
-    if first == last {
-        write!(writer, "pick {first}: ")?;
-    } else {
-        write!(writer, "picks {first} to {last}: ")?;
-    }
-    curve.put_name(picture, writer)?;
-    writer.write_all(b" ")?;
-    put_share(curve.commands(window), window.commands, writer)?;
-    writer.write_all(b"</title></circle>\n")
-}
-
-// Writes the points at which a curve tells its shares.
-fn put_points<W: Write>(picture: &Picture, curve: &Curve, writer: &mut W) -> io::Result<()> {
-    let end = curve.end(picture);
-    for window in &picture.series.all {
-        if window.first <= end {
-            put_point(picture, curve, window, writer)?;
-        }
-    }
-    Ok(())
-}
-
-// Writes a curve, up to the window in which it ends.
-fn put_curve<W: Write>(picture: &Picture, curve: &Curve, writer: &mut W) -> io::Result<()> {
-    let (stroke, dashes, end) = (curve.colour(picture), curve.dashes(), curve.end(picture));
-    let (whole, part) = (curve.width() / 10, curve.width() % 10);
-    write!(
-        writer,
-        "<polyline fill=\"none\" stroke=\"{stroke}\" stroke-width=\"{whole}.{part}\" stroke-dasharray=\"{dashes}\" points=\""
-    )?;
-    for window in &picture.series.all {
-        if window.first <= end {
-            let (x, y) = (middle_of(picture, window), y_of(curve, window));
-            write!(writer, "{x},{y} ")?;
+    writer.write_all(b"<polyline fill=\"none\" ")?;
+    put_strokes(picture, curve, writer)?;
+    writer.write_all(b" points=\"")?;
+    for (at, window) in picture.series.all.iter().enumerate() {
+        if curve.goes_through(window) {
+            let (x, y, tenths) = plane.point(at, window, curve.nth);
+            write!(writer, "{x},{y}.{tenths} ")?;
         }
     }
     writer.write_all(b"\"><title>")?;
@@ -232,15 +74,85 @@ fn put_curve<W: Write>(picture: &Picture, curve: &Curve, writer: &mut W) -> io::
     writer.write_all(b"</title></polyline>\n")
 }
 
-// Writes the entry of a curve in the legend, at y.
-fn put_entry<W: Write>(picture: &Picture, curve: &Curve, y: u64, writer: &mut W) -> io::Result<()> {
-    let (stroke, dashes) = (curve.colour(picture), curve.dashes());
-    let (whole, part) = (curve.width() / 10, curve.width() % 10);
-    let (line, text, right) = (y.saturating_sub(4), LEGEND + 40, LEGEND + 190);
-    write!(
+// Writes what a curve tells of a window, where the pointer rests on its point there.
+fn put_window<W: Write>(
+    picture: &Picture,
+    curve: &Curve,
+    window: &Window,
+    writer: &mut W,
+) -> io::Result<()> {
+    let (first, last) = (window.first, window.last);
+    if first == last {
+        write!(writer, "<title>pick {first}: ")?;
+    } else {
+        write!(writer, "<title>picks {first} to {last}: ")?;
+    }
+    curve.put_name(picture, writer)?;
+    writer.write_all(b" ")?;
+    put_share(curve.commands(window), window.commands, writer)?;
+    writer.write_all(b"</title>")
+}
+
+// Writes the points of a curve, which aren't seen.
+fn put_points<W: Write>(
+    picture: &Picture,
+    plane: &Plane,
+    curve: &Curve,
+    writer: &mut W,
+) -> io::Result<()> {
+    for (at, window) in picture.series.all.iter().enumerate() {
+        if curve.goes_through(window) {
+            let (x, y, tenths) = plane.point(at, window, curve.nth);
+            write!(
+                writer,
+                "<circle cx=\"{x}\" cy=\"{y}.{tenths}\" r=\"5\" fill-opacity=\"0\">"
+            )?;
+            put_window(picture, curve, window, writer)?;
+            writer.write_all(b"</circle>\n")?;
+        }
+    }
+    Ok(())
+}
+
+// Whether a curve ends before the picture does.
+fn ends(picture: &Picture, curve: &Curve) -> bool {
+    let last = picture.series.all.last();
+    curve.begin > 0 && !last.is_some_and(|window| curve.goes_through(window))
+}
+
+// Writes a dot where a curve ends before the picture does, or has one point alone.
+fn put_end<W: Write>(
+    picture: &Picture,
+    plane: &Plane,
+    curve: &Curve,
+    writer: &mut W,
+) -> io::Result<()> {
+    let (mut last, mut points) = (None, 0u64);
+    for (at, window) in picture.series.all.iter().enumerate() {
+        if curve.goes_through(window) {
+            last = Some(plane.point(at, window, curve.nth));
+            points = points.saturating_add(1);
+        }
+    }
+    let Some((x, y, tenths)) = last else {
+        return Ok(());
+    };
+    if points > 1 && !ends(picture, curve) {
+        return Ok(());
+    }
+    let (fill, r) = (curve.colour(picture), if curve.is_thin { 2 } else { 4 });
+    writeln!(
         writer,
-        "<path d=\"M{LEGEND} {line}h32\" stroke=\"{stroke}\" stroke-width=\"{whole}.{part}\" stroke-dasharray=\"{dashes}\"/><text x=\"{text}\" y=\"{y}\">"
-    )?;
+        "<circle cx=\"{x}\" cy=\"{y}.{tenths}\" r=\"{r}\" fill=\"{fill}\"/>"
+    )
+}
+
+// Writes the entry of a curve beside the plane, at y.
+fn put_entry<W: Write>(picture: &Picture, curve: &Curve, y: u64, writer: &mut W) -> io::Result<()> {
+    let (line, text, right) = (y.saturating_sub(4), SIDE + 40, SIDE + 190);
+    write!(writer, "<path d=\"M{SIDE} {line}h32\" ")?;
+    put_strokes(picture, curve, writer)?;
+    write!(writer, "/><text x=\"{text}\" y=\"{y}\">")?;
     curve.put_name(picture, writer)?;
     write!(
         writer,
@@ -250,47 +162,74 @@ fn put_entry<W: Write>(picture: &Picture, curve: &Curve, y: u64, writer: &mut W)
     writer.write_all(b"</text>\n")
 }
 
-// Writes a curve with its points and its entry in the legend.
-fn put_part<W: Write>(picture: &Picture, curve: &Curve, writer: &mut W) -> io::Result<()> {
-    let y = (TOP + 10).saturating_add(20u64.saturating_mul(curve.nth as u64));
-    put_curve(picture, curve, writer)?;
-    put_points(picture, curve, writer)?;
-    put_entry(picture, curve, y, writer)
+// The part that the weights give the level of a curve, and of how much: none unless it is the only curve of the level,
+// and the level waits beside others over a long stretch.
+fn part_by_weight(picture: &Picture, curves: &[Curve], curve: &Curve) -> Option<(u64, u64)> {
+    let stretch = &picture.backlog.longest;
+    let class = curve.class;
+    let alike = curves.iter().filter(|other| other.class == class).count();
+    let weight = stretch.weights.of_class(class);
+    let is_long = stretch.picks() >= STRETCH.saturating_mul(picture.series.step);
+    if picture.mechanism == Mechanism::Weighted && is_long && weight > 0 && alike == 1 {
+        Some((weight, stretch.weights.total()))
+    } else {
+        None
+    }
 }
 
-// Writes a curve for each class.
-fn put_classes<W: Write>(picture: &Picture, writer: &mut W) -> io::Result<()> {
-    let mut nth = 0usize;
-    for class in CLASSES {
-        if picture.has_class(class) {
-            let of = Of::Class(class);
-            put_part(picture, &Curve { of, nth }, writer)?;
-            nth = nth.saturating_add(1);
+// Writes a line at the share that the weights give a class, which is a part of a whole, and at y its entry beside the
+// plane.
+fn put_by_weight<W: Write>(
+    picture: &Picture,
+    plane: &Plane,
+    class: Class,
+    (part, whole): (u64, u64),
+    y: u64,
+    writer: &mut W,
+) -> io::Result<()> {
+    let stretch = &picture.backlog.longest;
+    let (left, right) = (
+        plane.x_of(stretch.first),
+        plane.x_of(stretch.last.saturating_add(1)),
+    );
+    let down = plane.down(share(part, whole).min(10_000) as u64);
+    let (pixels, tenths, stroke) = (down / 10, down % 10, darker_of_class(class));
+    let (line, text, end) = (y.saturating_sub(3), SIDE + 40, SIDE + 190);
+    writeln!(
+        writer,
+        "<path d=\"M{left} {pixels}.{tenths}H{right}\" stroke=\"{stroke}\" {BY_WEIGHT}/>"
+    )?;
+    write!(
+        writer,
+        "<g font-size=\"10\"><path d=\"M{SIDE} {line}h32\" stroke=\"{stroke}\" {BY_WEIGHT}/><text x=\"{text}\" y=\"{y}\">by weight</text><text x=\"{end}\" y=\"{y}\" text-anchor=\"end\">"
+    )?;
+    put_share(part, whole, writer)?;
+    writer.write_all(b"</text></g>\n")
+}
+
+// Writes curves with their points, and beside the plane their shares.
+fn put_few<W: Write>(
+    picture: &Picture,
+    plane: &Plane,
+    curves: &[Curve],
+    writer: &mut W,
+) -> io::Result<()> {
+    let mut y = TOP + 10;
+    for curve in curves {
+        put_line(picture, plane, curve, writer)?;
+        put_end(picture, plane, curve, writer)?;
+        put_points(picture, plane, curve, writer)?;
+        put_entry(picture, curve, y, writer)?;
+        if let Some(part) = part_by_weight(picture, curves, curve) {
+            y = y.saturating_add(14);
+            put_by_weight(picture, plane, curve.class, part, y, writer)?;
         }
+        y = y.saturating_add(20);
     }
     Ok(())
 }
 
-// Writes a curve for each row, with its entry in the legend.
-fn put_rows<W: Write>(picture: &Picture, writer: &mut W) -> io::Result<()> {
-    let mut nth = 0usize;
-    let mut before = 0usize;
-    let mut class = Class::Admin;
-    for (at, row) in picture.rows.iter().enumerate() {
-        if row.seen {
-            if queue_of_lane(at).class != class {
-                class = queue_of_lane(at).class;
-                before = nth;
-            }
-            let of = Of::Row(at, nth.saturating_sub(before));
-            put_part(picture, &Curve { of, nth }, writer)?;
-            nth = nth.saturating_add(1);
-        }
-    }
-    Ok(())
-}
-
-// Writes the nth of many entries of the legend, of which two stand side by side, from top to bottom.
+// Writes the entry of the nth of many curves beside the plane, where two stand side by side, from top to bottom.
 fn put_small_entry<W: Write>(
     picture: &Picture,
     curve: &Curve,
@@ -298,95 +237,49 @@ fn put_small_entry<W: Write>(
     writer: &mut W,
 ) -> io::Result<()> {
     let (column, line) = ((nth / 33).min(1) * 105, nth % 33 * 11);
-    let (x, y) = (LEGEND + column, TOP + 10 + line);
-    let right = x.saturating_add(92);
-    write!(writer, "<text font-size=\"10\" x=\"{x}\" y=\"{y}\">")?;
+    let (x, y) = (SIDE + column, TOP + 10 + line);
+    let (text, right, mark) = (
+        x.saturating_add(24),
+        x.saturating_add(96),
+        y.saturating_sub(3),
+    );
+    write!(writer, "<path d=\"M{x} {mark}h20\" ")?;
+    put_strokes(picture, curve, writer)?;
+    write!(writer, "/><text x=\"{text}\" y=\"{y}\">")?;
     curve.put_name(picture, writer)?;
     write!(
         writer,
-        "</text><text font-size=\"10\" x=\"{right}\" y=\"{y}\" text-anchor=\"end\">"
+        "</text><text x=\"{right}\" y=\"{y}\" text-anchor=\"end\">"
     )?;
     put_whole(picture, curve, writer)?;
     writer.write_all(b"</text>\n")
 }
 
-// Writes a thin curve for each of many rows, and their shares.
-fn put_many<W: Write>(picture: &Picture, writer: &mut W) -> io::Result<()> {
-    let mut rows = 0u64;
-    for (at, row) in picture.rows.iter().enumerate() {
-        if row.seen {
-            let curve = Curve {
-                of: Of::Row(at, 0),
-                nth: 8,
-            };
-            put_curve(picture, &curve, writer)?;
-            put_small_entry(picture, &curve, rows, writer)?;
-            rows = rows.saturating_add(1);
-        }
+// Writes a thin curve of each of many queues, and beside the plane their shares.
+fn put_many<W: Write>(
+    picture: &Picture,
+    plane: &Plane,
+    curves: &[Curve],
+    writer: &mut W,
+) -> io::Result<()> {
+    writer.write_all(b"<g font-size=\"10\">\n")?;
+    for curve in curves {
+        put_line(picture, plane, curve, writer)?;
+        put_end(picture, plane, curve, writer)?;
+        put_small_entry(picture, curve, curve.nth as u64, writer)?;
     }
-    Ok(())
-}
-
-// Writes the axis of the shares.
-fn put_shares<W: Write>(writer: &mut W) -> io::Result<()> {
-    let (right, text) = (LEFT + WIDTH, LEFT - 8);
-    for percent in [0u64, 25, 50, 75, 100] {
-        let y = BOTTOM - percent * HEIGHT / 100;
-        let low = y + 4;
-        writeln!(
-            writer,
-            "<path d=\"M{LEFT} {y}H{right}\" stroke=\"#dddddd\"/><text x=\"{text}\" y=\"{low}\" text-anchor=\"end\">{percent} %</text>"
-        )?;
-    }
-    let middle = TOP + HEIGHT / 2;
-    writeln!(
-        writer,
-        "<text x=\"20\" y=\"{middle}\" text-anchor=\"middle\" transform=\"rotate(-90 20 {middle})\">share of commands</text>"
-    )
-}
-
-// Writes the axis of the picks.
-fn put_picks<W: Write>(picture: &Picture, writer: &mut W) -> io::Result<()> {
-    let (first, last) = ends_of(picture);
-    let stride = stride_of(last.saturating_sub(first), 10).max(1);
-    let mut number = (first / stride).saturating_mul(stride);
-    let (tick, text, low) = (BOTTOM + 5, BOTTOM + 20, BOTTOM + 40);
-    for _ in 0..13 {
-        if first <= number && number <= last {
-            let x = x_of(picture, number);
-            write!(
-                writer,
-                "<path d=\"M{x} {BOTTOM}V{tick}\" stroke=\"#777777\"/><text x=\"{x}\" y=\"{text}\" text-anchor=\"middle\">"
-            )?;
-            put_number(number, writer)?;
-            writer.write_all(b"</text>\n")?;
-        }
-        number = number.saturating_add(stride);
-    }
-    let middle = LEFT + WIDTH / 2;
-    writeln!(
-        writer,
-        "<text x=\"{middle}\" y=\"{low}\" text-anchor=\"middle\">picks</text>"
-    )
-}
-
-// Writes the mark of a change of the settings at x.
-fn put_change<W: Write>(x: u64, writer: &mut W) -> io::Result<()> {
-    writeln!(
-        writer,
-        "<path d=\"M{x} 72V{BOTTOM}\" stroke=\"{CHANGE}\" stroke-width=\"2\"><title>settings change</title></path>"
-    )
+    writer.write_all(b"</g>\n")
 }
 
 // Writes the marks where settings change. A change after the last pick is at the end.
-fn put_changes<W: Write>(picture: &Picture, writer: &mut W) -> io::Result<()> {
+fn put_changes<W: Write>(picture: &Picture, plane: &Plane, writer: &mut W) -> io::Result<()> {
     for window in &picture.series.all {
         if let Some(number) = window.change {
-            put_change(x_of(picture, number), writer)?;
+            put_change(plane.x_of(number), BOTTOM, writer)?;
         }
     }
     if picture.set {
-        put_change(LEFT + WIDTH, writer)?;
+        put_change(LEFT + WIDTH, BOTTOM, writer)?;
     }
     Ok(())
 }
@@ -397,27 +290,47 @@ fn put_meaning<W: Write>(picture: &Picture, writer: &mut W) -> io::Result<()> {
         return put_nothing(picture, writer);
     }
     let (step, of_picks) = (picture.series.step, plural(picture.series.step));
+    write!(
+        writer,
+        "<text x=\"8\" y=\"40\">A curve is the share of the commands of a window of {step} pick{of_picks}. Close curves lie side by side."
+    )?;
+    put_left_out(picture, writer)?;
+    writer.write_all(b"</text>\n")
+}
+
+// Writes what a dot means, in the line of the legend, at x, where a curve ends before the picture does.
+fn put_end_mark<W: Write>(
+    x: u64,
+    picture: &Picture,
+    curves: &[Curve],
+    writer: &mut W,
+) -> io::Result<()> {
+    if !curves.iter().any(|curve| ends(picture, curve)) {
+        return Ok(());
+    }
+    let (middle, text, y) = (x.saturating_add(4), x.saturating_add(12), LEGEND - 4);
     writeln!(
         writer,
-        "<text x=\"8\" y=\"40\">A curve is the share of the commands of a window of {step} pick{of_picks}.</text>"
+        "<circle cx=\"{middle}\" cy=\"{y}\" r=\"4\" fill=\"{INK}\"/><text x=\"{text}\" y=\"{LEGEND}\">no more commands</text>"
     )
 }
 
 /// Writes the picture of a long trace.
 pub fn put_curves_picture<W: Write>(picture: &Picture, writer: &mut W) -> io::Result<()> {
-    put_begin(LEGEND + 210, BOTTOM + 56, writer)?;
+    let curves = curves_of(picture);
+    let plane = Plane::of(picture, curves.as_slice());
+    put_begin(SIDE + 210, BOTTOM + 56, writer)?;
     put_title(picture, writer)?;
     put_meaning(picture, writer)?;
-    put_legend(picture, false, false, 60, writer)?;
-    put_shares(writer)?;
-    put_picks(picture, writer)?;
-    put_changes(picture, writer)?;
-    let few = picture.row_count() <= QUEUES
-        || (picture.rows.first().is_some_and(|row| row.seen) && picture.row_count() == QUEUES + 1);
-    match picture.mechanism {
-        _ if few => put_rows(picture, writer)?,
-        Mechanism::Weighted => put_classes(picture, writer)?,
-        Mechanism::RoundRobin => put_many(picture, writer)?,
+    let x = put_change_mark(8, picture, writer)?;
+    put_end_mark(x, picture, curves.as_slice(), writer)?;
+    plane.put_shares(writer)?;
+    plane.put_picks(writer)?;
+    put_changes(picture, &plane, writer)?;
+    if curves.iter().any(|curve| curve.is_thin) {
+        put_many(picture, &plane, curves.as_slice(), writer)?;
+    } else {
+        put_few(picture, &plane, curves.as_slice(), writer)?;
     }
     writer.write_all(b"</svg>\n")
 }

@@ -1,20 +1,24 @@
 // What stands around bars and curves.
-use super::{Picture, colour};
+use super::Picture;
+use super::colours::{CHANGE, INK, colour_of_class};
 use nvme_stats::{CLASSES, put_counts, put_settings};
 use nvme_trace::class_name;
 use std::io::{self, Write};
 
-/// The colour of the marks where settings change.
-pub const CHANGE: &str = "#cc79a7";
+// The most that a character of a number, and one of another text, has of the width, in pixels.
+const DIGIT: u64 = 8;
 
-/// The colour of the marks where a round starts.
-pub const ROUND: &str = "#999999";
+const LETTER: u64 = 7;
 
-/// Writes the beginning of a picture of this size, in pixels.
+// The least from one number of an axis to the next, in pixels.
+const GAP: u64 = 12;
+
+/// Writes the beginning of a picture of this size, in pixels. Its ground is white and its texts are dark, whatever a
+/// viewer has around it.
 pub fn put_begin<W: Write>(width: u64, height: u64, writer: &mut W) -> io::Result<()> {
     writeln!(
         writer,
-        "<svg xmlns=\"http://www.w3.org/2000/svg\" width=\"{width}\" height=\"{height}\" viewBox=\"0 0 {width} {height}\" font-family=\"sans-serif\" font-size=\"12\">"
+        "<svg xmlns=\"http://www.w3.org/2000/svg\" width=\"{width}\" height=\"{height}\" viewBox=\"0 0 {width} {height}\" font-family=\"sans-serif\" font-size=\"12\" fill=\"{INK}\">"
     )?;
     writer.write_all(b"<rect width=\"100%\" height=\"100%\" fill=\"#ffffff\"/>\n")
 }
@@ -42,6 +46,24 @@ pub fn put_number<W: Write>(number: u64, writer: &mut W) -> io::Result<()> {
         write!(writer, ",{:03}", number / power.max(1) % 1_000)?;
     }
     Ok(())
+}
+
+/// The most that a number with its commas has of the width, in pixels.
+pub fn width_of(number: u64) -> u64 {
+    let (mut digits, mut rest) = (1u64, number / 10);
+    for _ in 0..20 {
+        if rest > 0 {
+            digits = digits.saturating_add(1);
+            rest /= 10;
+        }
+    }
+    let commas = digits.saturating_sub(1) / 3;
+    digits.saturating_add(commas).saturating_mul(DIGIT)
+}
+
+/// How many numbers up to the last one have room along an axis of this width in pixels, at least 1.
+pub fn numbers_in(width: u64, last: u64) -> u64 {
+    (width / width_of(last).saturating_add(GAP).max(1)).max(1)
 }
 
 /// How many picks are from one number of an axis to the next: 1, 2 or 5 times a power of ten, of which at most so many
@@ -73,9 +95,18 @@ pub fn put_nothing<W: Write>(picture: &Picture, writer: &mut W) -> io::Result<()
     writer.write_all(b"</text>\n")
 }
 
+/// Writes what a picture leaves out, behind what it means.
+pub fn put_left_out<W: Write>(picture: &Picture, writer: &mut W) -> io::Result<()> {
+    if picture.style.admin {
+        Ok(())
+    } else {
+        writer.write_all(b" The admin queue is left out.")
+    }
+}
+
 /// Writes the title: how many picks and commands there are, and under which settings.
 pub fn put_title<W: Write>(picture: &Picture, writer: &mut W) -> io::Result<()> {
-    writer.write_all(b"<text x=\"8\" y=\"22\" font-size=\"16\">")?;
+    writer.write_all(b"<text x=\"8\" y=\"22\" font-size=\"14\">")?;
     put_counts(picture.mechanism, picture.picks, picture.commands, writer)?;
     writer.write_all(b"; ")?;
     if picture.has_change() {
@@ -85,16 +116,19 @@ pub fn put_title<W: Write>(picture: &Picture, writer: &mut W) -> io::Result<()> 
     writer.write_all(b"</text>\n")
 }
 
-// Writes the colours of the classes that occur. The answer is where the next entry of the legend begins.
-fn put_colours<W: Write>(picture: &Picture, y: u64, writer: &mut W) -> io::Result<u64> {
-    let mut x = 8u64;
+/// The line of the legend.
+pub const LEGEND: u64 = 60;
+
+/// Writes the colours of the classes that occur, in the line of the legend. The answer is where its next entry begins.
+pub fn put_colours<W: Write>(picture: &Picture, writer: &mut W) -> io::Result<u64> {
+    let (mut x, top) = (8u64, LEGEND - 10);
     for class in CLASSES {
         if picture.has_class(class) {
-            let (name, fill, text) = (class_name(class), colour(class), x.saturating_add(16));
-            let top = y.saturating_sub(10);
+            let (name, fill) = (class_name(class), colour_of_class(class));
+            let text = x.saturating_add(16);
             writeln!(
                 writer,
-                "<rect x=\"{x}\" y=\"{top}\" width=\"12\" height=\"12\" fill=\"{fill}\"/><text x=\"{text}\" y=\"{y}\">{name}</text>"
+                "<rect x=\"{x}\" y=\"{top}\" width=\"12\" height=\"12\" fill=\"{fill}\"/><text x=\"{text}\" y=\"{LEGEND}\">{name}</text>"
             )?;
             x = x.saturating_add(80);
         }
@@ -102,34 +136,33 @@ fn put_colours<W: Write>(picture: &Picture, y: u64, writer: &mut W) -> io::Resul
     Ok(x)
 }
 
-/// Writes what the colours and marks mean that occur, in a line whose lower edge is at y.
-pub fn put_legend<W: Write>(
-    picture: &Picture,
-    rounds: bool,
-    colours: bool,
-    y: u64,
-    writer: &mut W,
-) -> io::Result<()> {
-    let mut x = 8u64;
-    if colours {
-        x = put_colours(picture, y, writer)?;
-    }
-    let top = y.saturating_sub(12);
-    let low = y.saturating_add(4);
-    if rounds {
-        let (mark, text) = (x.saturating_add(4), x.saturating_add(12));
-        writeln!(
-            writer,
-            "<path d=\"M{mark} {top}V{low}\" stroke=\"{ROUND}\" stroke-dasharray=\"2 3\"/><text x=\"{text}\" y=\"{y}\">a round starts</text>"
-        )?;
-        x = x.saturating_add(110);
-    }
+/// Writes what a vertical mark of these strokes means, in the line of the legend, at x. The answer is where its next
+/// entry begins.
+pub fn put_mark<W: Write>(x: u64, strokes: &str, text: &str, writer: &mut W) -> io::Result<u64> {
+    let (mark, left) = (x.saturating_add(4), x.saturating_add(12));
+    let (top, low) = (LEGEND - 12, LEGEND + 4);
+    writeln!(
+        writer,
+        "<path d=\"M{mark} {top}V{low}\" {strokes}/><text x=\"{left}\" y=\"{LEGEND}\">{text}</text>"
+    )?;
+    let width = LETTER.saturating_mul(text.len() as u64);
+    Ok(left.saturating_add(width).saturating_add(16))
+}
+
+/// Writes what the mark of a change means, in the line of the legend, at x, where the picture has one. The answer is
+/// where its next entry begins.
+pub fn put_change_mark<W: Write>(x: u64, picture: &Picture, writer: &mut W) -> io::Result<u64> {
     if picture.has_change() {
-        let (mark, text) = (x.saturating_add(4), x.saturating_add(12));
-        writeln!(
-            writer,
-            "<path d=\"M{mark} {top}V{low}\" stroke=\"{CHANGE}\" stroke-width=\"2\"/><text x=\"{text}\" y=\"{y}\">settings change</text>"
-        )?;
+        put_mark(x, CHANGE, "settings change", writer)
+    } else {
+        Ok(x)
     }
-    Ok(())
+}
+
+/// Writes the mark of a change of the settings at x, down to a lower edge.
+pub fn put_change<W: Write>(x: u64, bottom: u64, writer: &mut W) -> io::Result<()> {
+    writeln!(
+        writer,
+        "<path d=\"M{x} 72V{bottom}\" {CHANGE}><title>settings change</title></path>"
+    )
 }

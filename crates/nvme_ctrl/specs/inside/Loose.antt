@@ -3,7 +3,7 @@ use Rattle.std.specs.Prelude.{◌≡◌, ◌≢◌, ℕ, ◌<◌, ◌==◌, fals
 use Rattle.std.specs.List.{All}
 use Rattle.nvme_entry.specs.Status.{StatusCode}
 use Rattle.nvme_log.specs.Rules.{FrontRules}
-use Rattle.nvme_ctrl.specs.Marks.{own_marks}
+use Rattle.nvme_ctrl.specs.StatusFlags.{own_flags}
 use Rattle.nvme_ctrl.specs.Notes.{Notes}
 use Rattle.nvme_ctrl.specs.declared.slot.Slot.{Slot}
 use Rattle.nvme_ctrl.specs.declared.state.Controller.{Controller}
@@ -44,7 +44,7 @@ pub record MakesReady (slots : List Slot) (tag state : ℕ) (status : StatusCode
 
 -- a ready item more in a completion region
 abbrev pub ended : ℕ → Ready → ReadyItem
-ended tag t = record { tag = tag; ready = t; was_out = false; marks = own_marks t.status }
+ended tag t = record { tag = tag; ready = t; was_out = false; flags = own_flags t.status }
 
 abbrev pub with_item : Items → ℕ → ReadyItem → Items
 with_item g c x = record g { readies = λ y. if y == c then g.readies c ++ x ∷ [] else g.readies y }

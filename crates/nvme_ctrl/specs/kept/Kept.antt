@@ -14,17 +14,17 @@ use Rattle.nvme_log.specs.declared.place.Place.{Place}
 use Rattle.nvme_ctrl.specs.Notes.{Notes, logged}
 use Rattle.nvme_ctrl.specs.Doorbells.{submitted, consumed}
 use Rattle.nvme_ctrl.specs.Rings.{HasCounts}
-use Rattle.nvme_ctrl.specs.Marks.{marks_or}
-use Rattle.nvme_ctrl.specs.Tags.{is_passed, is_of_device, handed, taken, holder, answer_of, cookie_of, marks_of, is_out, all_fetches, all_posts}
+use Rattle.nvme_ctrl.specs.StatusFlags.{flags_or}
+use Rattle.nvme_ctrl.specs.Tags.{is_passed, is_of_device, handed, taken, holder, answer_of, cookie_of, flags_of, is_out, all_fetches, all_posts}
 use Rattle.nvme_ctrl.specs.Observation.{is_held, class_set}
 use Rattle.nvme_ctrl.specs.Account.{IsAccount}
-use Rattle.nvme_ctrl.specs.declared.marks.Marks.{Marks}
+use Rattle.nvme_ctrl.specs.declared.status_flags.StatusFlags.{StatusFlags}
 use Rattle.nvme_ctrl.specs.declared.slot.Slot.{Slot}
 use Rattle.nvme_ctrl.specs.declared.state.Controller.{Controller}
 use Rattle.nvme_ctrl.specs.declared.state.Deletion.{Deletion}
 use Rattle.nvme_ctrl.specs.kept.Content.{Candidate, Ready, PendingDelete, Content}
 use Rattle.nvme_ctrl.specs.kept.Standing.{Holds, answer_in, is_opened_cq}
-use Rattle.nvme_ctrl.specs.kept.Pool.{slot_at, marks_in, IsChain, AreApart}
+use Rattle.nvme_ctrl.specs.kept.Pool.{slot_at, flags_in, IsChain, AreApart}
 use Rattle.nvme_ctrl.specs.kept.State.{no_sq_state, no_cq_state, sq_at, cq_at, deletion_at, pending_tag, count_pending, picked_in}
 
 -- ---- commands in slots
@@ -34,12 +34,12 @@ pub record Item : Type 0 where
   pub place : Place
   pub entry : Sqe
 
--- a command in a slot that is ready, with the marks of its completion. The device had it, or not
+-- a command in a slot that is ready, with the flags of its completion. The device had it, or not
 pub record ReadyItem : Type 0 where
   pub tag : ℕ
   pub ready : Ready
   pub was_out : Bool
-  pub marks : Marks
+  pub flags : StatusFlags
 
 -- the Delete of a region whose deletion is pending: its slot, its index, which nobody keeps, and the queue that it deletes
 pub record DeleteItem : Type 0 where
@@ -101,7 +101,7 @@ pub record IsReadyIn (ids : ℕ → Option ℕ) (slots : List Slot) (x : ReadyIt
   pub dw0 : (slot_at slots x.tag).dw0 ≡ x.ready.dw0
   -- what the device had wasn't aborted with its queue
   pub not_both : x.was_out ≡ true → x.ready.with_queue ≡ false
-  pub marks : marks_in (slot_at slots x.tag) ≡ x.marks
+  pub flags : flags_in (slot_at slots x.tag) ≡ x.flags
 
 abbrev pub is_free : List Slot → ℕ → Type 0
 is_free slots x = (slot_at slots x).state ≡ 0
@@ -284,15 +284,15 @@ pub record HoldsPassed (notes : Notes) (g : Items) : Type 0 where
   pub readies : (x : ℕ) → All (IsReadyOf notes) (g.readies x)
   pub deletes : (r : ℕ) (it : DeleteItem) → g.deletes r ≡ Some it → is_passed notes it.index ≡ false
 
--- the completion of a place isn't marked by the device
-abbrev pub IsUnmarked : Notes → Place → Type 0
-IsUnmarked notes p = marks_of notes p.region p.index ≡ None
+-- the completion of a place isn't flagged by the device
+abbrev pub IsUnflagged : Notes → Place → Type 0
+IsUnflagged notes p = flags_of notes p.region p.index ≡ None
 
--- a ready completion has the marks of its place
-abbrev pub HasMarks : Notes → ReadyItem → Type 0
-HasMarks notes y = y.marks ≡ marks_or y.ready.status (marks_of notes y.ready.place.region y.ready.place.index)
+-- a ready completion has the flags of its place
+abbrev pub HasFlags : Notes → ReadyItem → Type 0
+HasFlags notes y = y.flags ≡ flags_or y.ready.status (flags_of notes y.ready.place.region y.ready.place.index)
 
--- the tags, the answers, the cookies and the marks are those of the log
+-- the tags, the answers, the cookies and the flags are those of the log
 pub record HoldsTags (notes : Notes) (c : Controller) (slots : List Slot) (k : Content) (g : Items) : Type 0 where
   pub untaken_are : handed notes ≡ taken notes ++ places_of (untaken c k g)
   pub outs_held : All (λ (it : Item). holder notes it.tag ≡ Some it.place) g.outs
@@ -311,9 +311,9 @@ pub record HoldsTags (notes : Notes) (c : Controller) (slots : List Slot) (k : C
   pub free_count : c.free.len + all_fetches (logged notes) ≡ length slots + all_posts (logged notes)
   pub cookies : HoldsCookies notes slots g
   pub passed : HoldsPassed notes g
-  -- what isn't answered isn't marked
-  pub none_marked : (r i : ℕ) → answer_of notes r i ≡ None → marks_of notes r i ≡ None
-  pub marks : (x : ℕ) → All (HasMarks notes) (g.readies x)
+  -- what isn't answered isn't flagged
+  pub none_flagged : (r i : ℕ) → answer_of notes r i ≡ None → flags_of notes r i ≡ None
+  pub flags : (x : ℕ) → All (HasFlags notes) (g.readies x)
 
 -- each open queue is held as its log says, and has the class that was set
 pub record HoldsShown (notes : Notes) (k : Content) : Type 0 where

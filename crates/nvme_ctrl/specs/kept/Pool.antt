@@ -2,7 +2,7 @@
 use Rattle.std.specs.Prelude.{◌≡◌, ◌≢◌, ℕ, ◌<◌, ◌==◌, Bool, if◌then◌else◌, List, [], ◌∷◌, length, get_or, slice_set, Option, Some, None}
 use Rattle.std.specs.List.{All}
 use Rattle.nvme_entry.specs.declared.submission.Sqe.{Sqe}
-use Rattle.nvme_ctrl.specs.declared.marks.Marks.{Marks}
+use Rattle.nvme_ctrl.specs.declared.status_flags.StatusFlags.{StatusFlags}
 use Rattle.nvme_ctrl.specs.declared.slot.Slot.{Slot}
 use Rattle.nvme_ctrl.specs.declared.chain.Chain.{Chain}
 
@@ -32,12 +32,12 @@ no_slot = record { entry = no_entry; cookie = 0; dw0 = 0; next = 0; generation =
 abbrev pub slot_at : List Slot → ℕ → Slot
 slot_at slots x = get_or slots x no_slot
 
--- a mark as a slot has it, and the marks in a slot
+-- a mark as a slot has it, and the flags in a slot
 abbrev pub bit : Bool → ℕ
 bit mark = if mark then 1 else 0
 
-abbrev pub marks_in : Slot → Marks
-marks_in s = record { more = s.more == 1; do_not_retry = s.do_not_retry == 1 }
+abbrev pub flags_in : Slot → StatusFlags
+flags_in s = record { more = s.more == 1; do_not_retry = s.do_not_retry == 1 }
 
 -- what is in a slot, and the slot that it links to
 abbrev pub item_at : List Slot → ℕ → Slot

@@ -1,9 +1,10 @@
 // An answer as tables for people.
 use super::wording::{Micros, micros_of, put_index, put_micros};
 use super::{Answer, Member};
-use crate::names::{class_name, mechanism_name};
+use crate::names::{PickingWords, class_name};
+use crate::numbers::Asked;
 use crate::row::{Row, Spread};
-use nvme_arbiter::{Class, Mechanism, Settings};
+use nvme_arbiter::Mechanism;
 use nvme_channels::Placement;
 use nvme_model::Device;
 use std::io::{self, Write};
@@ -92,23 +93,12 @@ fn put_utilization<W: Write>(answer: &Answer, writer: &mut W) -> io::Result<()> 
 }
 
 // Writes how commands were picked.
-fn put_settings<W: Write>(
-    mechanism: Mechanism,
-    settings: &Settings,
-    writer: &mut W,
-) -> io::Result<()> {
-    writer.write_all(mechanism_name(mechanism).as_bytes())?;
-    match settings.burst() {
-        Some(burst) => write!(writer, ", burst {burst}")?,
-        None => writer.write_all(b", no limit of bursts")?,
-    }
-    if mechanism == Mechanism::Weighted {
-        let high = settings.weight(Class::High);
-        let medium = settings.weight(Class::Medium);
-        let low = settings.weight(Class::Low);
-        write!(writer, ", high {high}, medium {medium}, low {low}")?;
-    }
-    writer.write_all(b"\n")
+fn put_picking<W: Write>(asked: &Asked, writer: &mut W) -> io::Result<()> {
+    let words = PickingWords {
+        mechanism: asked.mechanism,
+        settings: asked.settings,
+    };
+    writeln!(writer, "{words}")
 }
 
 // Writes how fair the queues were served.
@@ -236,7 +226,7 @@ pub fn put_table<W: Write>(answer: &Answer, writer: &mut W) -> io::Result<()> {
     put_about(answer, writer)?;
     put_device(&answer.asked.device, writer)?;
     put_utilization(answer, writer)?;
-    put_settings(answer.asked.mechanism, &answer.asked.settings, writer)?;
+    put_picking(&answer.asked, writer)?;
     put_fairness(answer, writer)?;
     put_rows(answer, Columns::Rates, writer)?;
     writer.write_all(b"latency in us\n")?;

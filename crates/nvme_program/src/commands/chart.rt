@@ -8,18 +8,19 @@ ghost use Rattle.nvme_trace.specs.declared.basis.Basis.TheVariants.{Specificatio
 
 use super::Answer;
 use crate::faults::Fault;
-use nvme_chart::chart;
+use nvme_chart::{Style, chart};
 use nvme_stats::Selection;
-use nvme_words::Range;
+use nvme_words::Drawing;
 use std::alloc::Global;
 use std::io::{Read, Write};
 
-/// Writes a picture of the picks of a trace in a range, as SVG. `fresh` may be missing.
+/// Writes a picture of the picks of a trace in a range, with the admin queue or without it, as SVG. `fresh` may be
+/// missing.
 #[tactic(auto, using(crate::proofs::Inputs::is_trace))]
 #[inline(never)]
 pub(super) fn charted<R: Read + Drop, W: Write>(
     alloc: Global,
-    range: Range,
+    drawing: Drawing,
     input: R,
     output: &mut W,
 ) -> Result<Answer, Fault>
@@ -30,11 +31,15 @@ pub(super) fn charted<R: Read + Drop, W: Write>(
     ensures failed { IfErr result (λ e. (output.new ≡ output.old) ⊎ IfSome (R.remaining input) IsTrace) }
 {
     let selection = Selection {
-        first: range.first,
-        last: range.last,
+        first: drawing.range.first,
+        last: drawing.range.last,
         backlogged: false,
     };
-    let picture = match chart(alloc, input, selection) {
+    let style = Style {
+        admin: !drawing.no_admin,
+        ..Style::COMMON
+    };
+    let picture = match chart(alloc, input, selection, style) {
         Ok(picture) => picture,
         Err(error) => return Err(Fault::Trace(error)),
     };

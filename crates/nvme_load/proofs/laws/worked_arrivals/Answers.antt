@@ -32,4 +32,12 @@ returns c = record {
   on_off_start = refl;
   poisson_start = refl;
   regular_start = refl;
+  first_listed = λ l is. rw is refl;
+  second_listed = λ l is. rw is refl;
+  last_listed = λ l is. rw is refl;
+  list_ended = λ l is. rw is refl;
+  second_request = λ l is. rw is refl;
+  not_ended = λ l is. rw is refl;
+  ended = λ l is. rw is refl;
+  lists_draw_nothing = λ l. refl;
 }

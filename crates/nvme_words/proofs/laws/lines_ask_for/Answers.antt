@@ -5,10 +5,10 @@ use Rattle.clap.specs.ValueTests.{accepts}
 use Rattle.clap.specs.Words.{Text, first_of, one_of}
 use Rattle.clap.specs.declared.builder.value_parser.ValueParser.TheVariants as vp
 use Rattle.clap.proofs.OnLiterals.{clap_on_literals}
-use Rattle.nvme_words.specs.Examples.{all_numbers, all_picks, alone, chart_behind, chart_file, chart_one_pick, chart_output, check_all, check_all_spec, check_file, check_format, check_spec, expand_file, lint_input, live_8, loaded_2, once_8, once_most, run_file, run_live_3, settings_both, settings_dword, settings_words, stats_behind, stats_json, stats_part, trace_2, trace_live}
+use Rattle.nvme_words.specs.Examples.{all_drawn, all_numbers, alone, chart_behind, chart_file, chart_no_admin, chart_one_pick, chart_output, check_all, check_all_spec, check_file, check_format, check_spec, expand_file, lint_input, live_8, loaded_2, once_8, once_most, run_file, run_live_3, settings_both, settings_dword, settings_words, stats_behind, stats_json, stats_part, trace_2, trace_live}
 use Rattle.std.specs.Global.{Global}
 use Rattle.nvme_words.specs.Words.{asks_alone}
-use Rattle.nvme_words.specs.Requests.{IsRange, SubmitsBy}
+use Rattle.nvme_words.specs.Requests.{IsFlag, IsRange, SubmitsBy}
 use Rattle.nvme_words.specs.declared.requests.Format.TheVariants as format
 use Rattle.nvme_words.specs.declared.requests.OptionsFault.TheVariants as unfit
 use Rattle.nvme_words.specs.declared.requests.Request.TheVariants as request
@@ -104,20 +104,29 @@ range_given line f t first last one two = (
   number_of 64 18446744073709551615 (codes "to") t (given_at line).1 last two (omega arith),
 )
 
+-- a line without the flag draws the admin queue
+with_admin : (line : List Text) → first_of (codes "no-admin") (given_at line).1 ≡ Some (codes "false") → IsFlag (codes "no-admin") (given_at line).1 false
+with_admin line is = other_text (first_of (codes "no-admin") (given_at line).1) (codes "false") (codes "true") is refl
+
+pub returns-clause-chart_no_admin : goal.returns-clause-chart_no_admin
+unfolding clap_on_literals
+returns-clause-chart_no_admin c = line_asks (codes "chart") _ (given_at chart_no_admin) (request.Chart (all_drawn true)) refl
+    (refl, (range_given chart_no_admin (codes "1") (codes "9223372036854775807") refl refl refl refl, refl), omega arith) (λ words e. tt) (λ p q r. (refl, refl))
+
 pub returns-clause-chart : goal.returns-clause-chart
 unfolding clap_on_literals
-returns-clause-chart c = line_asks (codes "chart") _ (given_at chart_file) (request.Chart all_picks) refl
-    (refl, range_given chart_file (codes "1") (codes "9223372036854775807") refl refl refl refl, omega arith) (λ words e. tt) (λ p q r. (refl, refl))
+returns-clause-chart c = line_asks (codes "chart") _ (given_at chart_file) (request.Chart (all_drawn false)) refl
+    (refl, (range_given chart_file (codes "1") (codes "9223372036854775807") refl refl refl refl, with_admin chart_file refl), omega arith) (λ words e. tt) (λ p q r. (refl, refl))
 
 pub returns-clause-chart_output : goal.returns-clause-chart_output
 unfolding clap_on_literals
-returns-clause-chart_output c = line_asks (codes "chart") _ (given_at chart_output) (request.Chart all_picks) refl
-    (refl, range_given chart_output (codes "1") (codes "9223372036854775807") refl refl refl refl, omega arith) (λ words e. tt) (λ p q r. (refl, refl))
+returns-clause-chart_output c = line_asks (codes "chart") _ (given_at chart_output) (request.Chart (all_drawn false)) refl
+    (refl, (range_given chart_output (codes "1") (codes "9223372036854775807") refl refl refl refl, with_admin chart_output refl), omega arith) (λ words e. tt) (λ p q r. (refl, refl))
 
 pub returns-clause-chart_one_pick : goal.returns-clause-chart_one_pick
 unfolding clap_on_literals
-returns-clause-chart_one_pick c = line_asks (codes "chart") _ (given_at chart_one_pick) (request.Chart (record { first = 10; last = 10 })) refl
-    (refl, range_given chart_one_pick (codes "10") (codes "10") refl refl refl refl, omega arith) (λ words e. tt) (λ p q r. (refl, refl))
+returns-clause-chart_one_pick c = line_asks (codes "chart") _ (given_at chart_one_pick) (request.Chart (record { range = record { first = 10; last = 10 }; no_admin = false })) refl
+    (refl, (range_given chart_one_pick (codes "10") (codes "10") refl refl refl refl, with_admin chart_one_pick refl), omega arith) (λ words e. tt) (λ p q r. (refl, refl))
 
 pub returns-clause-chart_behind : goal.returns-clause-chart_behind
 unfolding clap_on_literals

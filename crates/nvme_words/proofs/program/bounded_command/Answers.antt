@@ -12,4 +12,5 @@ returns c =
     let two = rule_added _ _ _ _ _ c.in_ok-arg-2.ensures one c.number_arg.ensures in
     let three = rule_added _ _ _ _ _ c.in_ok-arg-3.ensures two c.number_arg-2.ensures in
     let four = rule_added _ _ _ _ _ c.in_ok-arg-4.ensures three c.text_arg.ensures in
-    IfOk-weaker c.arg-5.result _ _ (λ new added. rule_added _ new _ _ _ added four c.number_arg-3.ensures) c.arg-5.ensures
+    let five = rule_added _ _ _ _ _ c.in_ok-arg-5.ensures four c.number_arg-3.ensures in
+    IfOk-weaker c.arg-6.result _ _ (λ new added. rule_added _ new _ _ _ added five c.text_arg-2.ensures) c.arg-6.ensures

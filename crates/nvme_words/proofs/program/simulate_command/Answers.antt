@@ -8,4 +8,5 @@ returns c =
     let one = rule_added _ _ _ _ _ c.in_ok-arg.ensures c.in_ok-swept_command.ensures c.format_arg.ensures in
     let two = rule_added _ _ _ _ _ c.in_ok-arg-2.ensures one c.text_arg.ensures in
     let three = rule_added _ _ _ _ _ c.in_ok-arg-3.ensures two c.text_arg-2.ensures in
-    IfOk-weaker c.arg-4.result _ _ (λ new added. rule_added _ new _ _ _ added three c.output_arg.ensures) c.arg-4.ensures
+    let four = rule_added _ _ _ _ _ c.in_ok-arg-4.ensures three c.text_arg-3.ensures in
+    IfOk-weaker c.arg-5.result _ _ (λ new added. rule_added _ new _ _ _ added four c.output_arg.ensures) c.arg-5.ensures

@@ -11,5 +11,6 @@ returns c =
     let fourth : HasRule no_head c.action-no_head.result = search rules in
     let one = rule_added _ _ _ _ _ c.in_ok-arg.ensures c.in_ok-bounded_command.ensures c.sweep_arg.ensures in
     let two = rule_added _ _ _ _ _ c.in_ok-arg-2.ensures one c.seeds_arg.ensures in
-    let three = rule_added _ _ _ _ _ c.in_ok-arg-3.ensures two third in
-    IfOk-weaker c.arg-4.result _ _ (λ new added. rule_added _ new _ _ _ added three fourth) c.arg-4.ensures
+    let three = rule_added _ _ _ _ _ c.in_ok-arg-3.ensures two c.jobs_arg.ensures in
+    let four = rule_added _ _ _ _ _ c.in_ok-arg-4.ensures three third in
+    IfOk-weaker c.arg-5.result _ _ (λ new added. rule_added _ new _ _ _ added four fourth) c.arg-5.ensures

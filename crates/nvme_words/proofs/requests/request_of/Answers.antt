@@ -53,7 +53,7 @@ returns-in-check c =
 pub returns-in_ok-range_of-in-chart : goal.returns-in_ok-range_of-in-chart
 returns-in_ok-range_of-in-chart c =
     let is : c.args.name.now ≡ codes "chart" = search rules in
-    rw is (c.chart_of.ensures (rows_of (found_of c.args.matches.now)) c.in_ok-range_of-in-chart.ensures)
+    rw is (c.chart_of.ensures (rows_of (found_of c.args.matches.now)) c.in_ok-range_of-in-chart.ensures c.no_admin_of.ensures)
 
 pub returns-in_ok-numbers_of-in-stats : goal.returns-in_ok-numbers_of-in-stats
 returns-in_ok-numbers_of-in-stats c =

@@ -1,16 +1,24 @@
-use Rattle.std.proofs.Common.{◌∙◌, ℕ, sym, subst, refl}
+use Rattle.std.proofs.Common.{◌≡◌, ◌∙◌, ℕ, None, Some, sym, subst, refl}
 use Rattle.nvme_ctrl.specs.Calls.{HasPosted}
 use Rattle.nvme_capi.proofs.ctrl.commands.nvmearb_ctrl_post.Goals as goal
 
 pub returns-in-Some-clause-stands : goal.returns-in-Some-clause-stands
 returns-in-Some-clause-stands c = λ rules late notes s _. record {
   cqe = c.in-Some.it.cqe;
-  marks = c.in-Some.it.marks;
+  flags = c.in-Some.it.flags;
   layout = c.fields_of_post.ensures.layout;
-  posted = subst (λ (slot : ℕ). HasPosted rules late notes c.args.cqid slot c.in-Some.it.cqe c.fields_of_post.result.cookie c.in-Some.it.marks c.post.new.self c.post.new.slots) (sym c.fields_of_post.ensures.slot)
-      (subst (λ (kept : ℕ). HasPosted rules late notes c.args.cqid c.in-Some.it.slot c.in-Some.it.cqe kept c.in-Some.it.marks c.post.new.self c.post.new.slots) (sym c.fields_of_post.ensures.cookie)
+  posted = subst (λ (slot : ℕ). HasPosted rules late notes c.args.cqid slot c.in-Some.it.cqe c.fields_of_post.result.cookie c.in-Some.it.flags c.post.new.self c.post.new.slots) (sym c.fields_of_post.ensures.slot)
+      (subst (λ (kept : ℕ). HasPosted rules late notes c.args.cqid c.in-Some.it.slot c.in-Some.it.cqe kept c.in-Some.it.flags c.post.new.self c.post.new.slots) (sym c.fields_of_post.ensures.cookie)
       (c.in-Some.ensures.stands rules late notes s));
 }
+
+pub returns-in-Some-clause-due : goal.returns-in-Some-clause-due
+returns-in-Some-clause-due c = λ _ none.
+    let lost : None ≡ Some c.in-Some.it = sym none ∙ sym c.post.ensures.value ∙ c.in-Some.is in
+    cc lost
+
+pub returns-in-None-clause-none_due : goal.returns-in-None-clause-none_due
+returns-in-None-clause-none_due c = λ _. sym c.post.ensures.value ∙ c.in-None.is
 
 pub returns-in-None-clause-nothing : goal.returns-in-None-clause-nothing
 returns-in-None-clause-nothing c = λ rules late notes s _ x is_open. c.post.ensures.told rules late notes s c.in-None.is x is_open

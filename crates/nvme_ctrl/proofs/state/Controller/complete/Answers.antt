@@ -2,10 +2,10 @@
 use Rattle.std.proofs.Common.{◌≡◌, ℕ, ◌<◌, List, ◌∷◌, sym, ap, subst, ◌∙◌, refl, arith}
 use Rattle.std.specs.Prelude.{slice_set}
 use Rattle.nvme_log.specs.Answers.{Answer}
-use Rattle.nvme_ctrl.specs.Notes.{Answered, Marked}
+use Rattle.nvme_ctrl.specs.Notes.{Answered, Flagged}
 use Rattle.nvme_ctrl.specs.Calls.{HasAnswered}
 use Rattle.nvme_ctrl.specs.declared.device.Answer as told
-use Rattle.nvme_ctrl.specs.declared.marks.Marks.{Marks}
+use Rattle.nvme_ctrl.specs.declared.status_flags.StatusFlags.{StatusFlags}
 use Rattle.nvme_ctrl.specs.declared.slot.Slot.{Slot}
 use Rattle.nvme_ctrl.specs.declared.state.SqState.{SqState}
 use Rattle.nvme_ctrl.specs.declared.state.CqState.{CqState}
@@ -32,7 +32,7 @@ returns-clause-stands c rules late notes s is_done =
     let slots : List Slot = c.args.slots.now in
     let tag : ℕ = c.args.tag in
     let answer : Answer = record { status = c.args.answer.status; dw0 = c.args.answer.dw0 } in
-    let marks : Marks = c.args.answer.marks in
+    let flags : StatusFlags = c.args.answer.flags in
     let x : ℕ = c.sq-cqid.result.cqid in
     let goes : (sq_at self.sqs (slot_at slots tag).sqid).cqid ≡ x =
     ap (λ (z : Slot). (sq_at self.sqs z.sqid).cqid) (sym c.slot_at-slot.ensures) ∙ ap (λ (n : ℕ). (sq_at self.sqs n).cqid) (sym c.from.ensures)
@@ -40,7 +40,7 @@ returns-clause-stands c rules late notes s is_done =
     let view = c.answer.view_is in
     let inside : c.answer.inside.0.0.sct < 8 = (let low = c.answer.invariant in omega (arith, low)) in
     let types : answer.status.sct < 8 = subst (λ (a : told.Answer). a.status.sct < 8) view inside in
-    let pool : c.put_item.new.slots ≡ answered_pool slots tag answer marks =
+    let pool : c.put_item.new.slots ≡ answered_pool slots tag answer flags =
     c.put_item.ensures
     ∙ (λ j. put_item slots tag (record (c.slot_at-slot.ensures j) {
       state = 3;
@@ -50,22 +50,22 @@ returns-clause-stands c rules late notes s is_done =
       more = c.bit.ensures j;
       do_not_retry = c.bit-2.ensures j;
     }))
-    ∙ ap (λ (a : told.Answer). put_item slots tag (answered_slot (slot_at slots tag) (record { status = a.status; dw0 = a.dw0 }) a.marks)) view in
+    ∙ ap (λ (a : told.Answer). put_item slots tag (answered_slot (slot_at slots tag) (record { status = a.status; dw0 = a.dw0 }) a.flags)) view in
     let pushed : IsPushed c.put_item.new.slots (cq_at self.cqs x).ready tag c.push.new.slots c.push.new.self =
     subst (λ (q : CqState). IsPushed c.put_item.new.slots q.ready tag c.push.new.slots c.push.new.self) c.cq-cq.ensures
     (record { items = c.push.ensures.items; links = c.push.ensures.links; chain = c.push.ensures.chain }) in
-    let done : HasAnswered rules late notes tag answer marks (answered_controller self x c.push.new.self) c.push.new.slots =
-    answer-stands rules late notes self slots s tag (ap (λ (z : Slot). z.state) (sym c.slot_at-slot.ensures) ∙ c.if-slot-ne-OUT.false) answer marks types
+    let done : HasAnswered rules late notes tag answer flags (answered_controller self x c.push.new.self) c.push.new.slots =
+    answer-stands rules late notes self slots s tag (ap (λ (z : Slot). z.state) (sym c.slot_at-slot.ensures) ∙ c.if-slot-ne-OUT.false) answer flags types
     c.push.new.slots c.push.new.self x goes
     (subst (λ (new : List Slot). IsPushed new (cq_at self.cqs x).ready tag c.push.new.slots c.push.new.self) pool pushed) in
     let put : c.put_cq.new.self ≡ answered_controller self x c.push.new.self =
     c.put_cq.ensures ∙ ap (λ (q : CqState). record self { cqs = slice_set self.cqs x (record q { ready = c.push.new.self }) }) c.cq-cq.ensures in
-    subst (λ (y : Controller). HasAnswered rules late notes tag answer marks y c.push.new.slots) (sym put) done
+    subst (λ (y : Controller). HasAnswered rules late notes tag answer flags y c.push.new.slots) (sym put) done
 
 pub returns-clause-front : goal.returns-clause-front
 returns-clause-front c was =
     let now = returns-clause-stands c was.rules was.late was.notes was.stands refl in
-    record { rules = was.rules; late = was.late; notes = Marked now.region now.index c.args.answer.marks ∷ Answered now.region now.index (record { status = c.args.answer.status; dw0 = c.args.answer.dw0 }) ∷ was.notes; stands = now.stands }
+    record { rules = was.rules; late = was.late; notes = Flagged now.region now.index c.args.answer.flags ∷ Answered now.region now.index (record { status = c.args.answer.status; dw0 = c.args.answer.dw0 }) ∷ was.notes; stands = now.stands }
 
 pub returns-clause-generations : goal.returns-clause-generations
 returns-clause-generations c =

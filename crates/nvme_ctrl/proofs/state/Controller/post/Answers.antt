@@ -1,5 +1,5 @@
 -- What `next_post` tells is posted.
-use Rattle.std.proofs.Common.{◌≡◌, ◌==◌, Bool, List, sym, ap, ◌∙◌, subst, inl, inr}
+use Rattle.std.proofs.Common.{◌≡◌, ◌==◌, Bool, List, refl, sym, ap, ◌∙◌, subst, inl, inr}
 use Rattle.nvme_log.specs.Rules.{FrontRules}
 use Rattle.nvme_ctrl.specs.Notes.{Notes}
 use Rattle.nvme_ctrl.specs.Standing.{Stands}
@@ -10,7 +10,7 @@ use Rattle.nvme_ctrl.specs.declared.posts.Post.{Post}
 use Rattle.nvme_ctrl.specs.declared.slot.Slot.{Slot}
 use Rattle.nvme_ctrl.specs.declared.state.CqState.{CqState}
 use Rattle.nvme_ctrl.specs.declared.state.Controller.{Controller}
-use Rattle.nvme_ctrl.specs.kept.Pool.{IsChain, marks_in}
+use Rattle.nvme_ctrl.specs.kept.Pool.{IsChain, flags_in, put_item}
 use Rattle.nvme_ctrl.specs.kept.State.{cq_at}
 use Rattle.nvme_ctrl.proofs.NextPost.{IsPostable, postable, not_postable, by_command, entry_by_command, post_of_command, chain-some, chain-none, chain-first}
 use Rattle.nvme_ctrl.proofs.NoPosts.{full_ring, all_posted, none_ready, open_life}
@@ -28,7 +28,7 @@ there c =
     postable c.args.self.now c.args.slots.now c.cq-cq.result c.in_ok-post.post
     (sym c.in_ok-post.was ∙ c.next_post.ensures.value ∙ ap (post_in c.args.self.now c.args.slots.now) (sym c.cq-cq.ensures))
 
-done : (c : goal.After-slots-2-1) → HasDone c.cq-cq.result c.count_post.new.self.free c.args.slots.now c.put_item.new.slots c.in_ok-post.post.tag c.write.new.self c.push.new.self c.push.new.slots
+done : (c : goal.After-slots-2-1) → HasDone c.cq-cq.result c.count_post.new.self.free c.args.slots.now c.put_free.new.slots c.in_ok-post.post.tag c.write.new.self c.push.new.self c.push.new.slots
 done c = record {
   room = (there c).room;
   some = chain-some c.args.slots.now c.cq-cq.result (there c).some;
@@ -43,7 +43,7 @@ done c = record {
 }
 
 posted : (c : goal.After-slots-2-1) (rules : FrontRules) (late : Bool) (notes : Notes) → Stands rules late notes c.args.self.now c.args.slots.now
-    → HasPosted rules late notes c.args.cqid c.in_ok-post.post.slot c.in_ok-post.post.cqe c.in_ok-post.post.cookie c.in_ok-post.post.marks (after c) c.push.new.slots
+    → HasPosted rules late notes c.args.cqid c.in_ok-post.post.slot c.in_ok-post.post.cqe c.in_ok-post.post.cookie c.in_ok-post.post.flags (after c) c.push.new.slots
 posted c rules late notes stands =
     let self : Controller = c.args.self.now in
     let slots : List Slot = c.args.slots.now in
@@ -51,12 +51,12 @@ posted c rules late notes stands =
     let old : CqState = c.cq-cq.result in
     let cqe : post.cqe ≡ completion_of self c.slot_at-command.result (old.phase == 1) =
     entry_by_command self slots old post (there c).post_is ∙ ap (λ (s : Slot). completion_of self s (old.phase == 1)) (sym c.slot_at-command.ensures) in
-    let here : HasPosted rules late notes c.args.cqid old.ring.tail post.cqe c.slot_at-command.result.cookie (marks_in c.slot_at-command.result) (after c) c.push.new.slots =
-    steps_post rules late notes self c.put_cq.new.self c.count_post.new.self slots c.put_item.new.slots c.args.cqid post.tag old c.write.new.self
+    let here : HasPosted rules late notes c.args.cqid old.ring.tail post.cqe c.slot_at-command.result.cookie (flags_in c.slot_at-command.result) (after c) c.push.new.slots =
+    steps_post rules late notes self c.put_cq.new.self c.count_post.new.self slots c.put_free.new.slots c.args.cqid post.tag old c.write.new.self
     c.slot_at-command.result c.push.new.self c.push.new.slots post.cqe c.cq-cq.ensures c.slot_at-command.ensures cqe c.put_cq.ensures c.count_post.ensures
-    c.put_item.ensures (done c) stands in
-    subst (λ (p : Post). HasPosted rules late notes c.args.cqid p.slot p.cqe p.cookie p.marks (after c) c.push.new.slots) (sym (by_command self slots old post (there c).post_is))
-    (subst (λ (s : Slot). HasPosted rules late notes c.args.cqid old.ring.tail post.cqe s.cookie (marks_in s) (after c) c.push.new.slots) c.slot_at-command.ensures here)
+    (c.put_free.ensures ∙ ap (λ (s : Slot). put_item slots post.tag (record s { state = 0 })) (sym c.slot_at-command.ensures)) (done c) stands in
+    subst (λ (p : Post). HasPosted rules late notes c.args.cqid p.slot p.cqe p.cookie p.flags (after c) c.push.new.slots) (sym (by_command self slots old post (there c).post_is))
+    (subst (λ (s : Slot). HasPosted rules late notes c.args.cqid old.ring.tail post.cqe s.cookie (flags_in s) (after c) c.push.new.slots) c.slot_at-command.ensures here)
 
 pub returns-clause-front : goal.returns-clause-front
 returns-clause-front c f =
@@ -82,6 +82,6 @@ returns-in_err-post-clause-told c rules late notes stands none x is =
 
 pub returns-clause-generations : goal.returns-clause-generations
 returns-clause-generations c =
-    left_both c.args.slots.now c.put_item.new.slots c.push.new.slots
-    (put_left c.args.slots.now c.put_item.new.slots c.in_ok-post.post.tag _ c.put_item.ensures (ap (λ (s : Slot). s.generation) c.slot_at-command.ensures))
-    (items_left c.put_item.new.slots c.push.new.slots c.push.ensures.items)
+    left_both c.args.slots.now c.put_free.new.slots c.push.new.slots
+    (put_left c.args.slots.now c.put_free.new.slots c.in_ok-post.post.tag _ c.put_free.ensures refl)
+    (items_left c.put_free.new.slots c.push.new.slots c.push.ensures.items)

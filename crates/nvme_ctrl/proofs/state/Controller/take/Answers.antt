@@ -13,12 +13,12 @@ use Rattle.nvme_ctrl.proofs.Generations.{put_next_generation}
 use Rattle.nvme_ctrl.proofs.state.Controller.take.Goals as goal
 
 -- the slot is out, with its next generation
-its_pool : (c : goal.After-self-1) → c.put_item.new.slots ≡ took_pool c.args.slots.now c.in_ok-tag.tag
-its_pool c = c.put_item.ensures ∙ ap (λ (slot : Slot). put_item c.args.slots.now c.in_ok-tag.tag (took_slot slot)) c.slot_at-slot.ensures
+its_pool : (c : goal.After-self-1) → c.put_out.new.slots ≡ took_pool c.args.slots.now c.in_ok-tag.tag
+its_pool c = c.put_out.ensures
 
 pub returns-clause-generation : goal.returns-clause-generation
 returns-clause-generation c rules late notes s =
-    put_next_generation c.args.slots.now c.put_item.new.slots c.in_ok-tag.tag (took_slot (slot_at c.args.slots.now c.in_ok-tag.tag)) (its_pool c)
+    put_next_generation c.args.slots.now c.put_out.new.slots c.in_ok-tag.tag (took_slot (slot_at c.args.slots.now c.in_ok-tag.tag)) (its_pool c)
     (take-inside rules late notes c.args.self.now c.args.slots.now s c.if-self-eq0.false c.in_ok-tag.tag
     (λ x rest linked. c.in_ok-tag.ensures.some x rest (subst (λ (q : SqState). IsChain c.args.slots.now q.window (x ∷ rest)) (sym c.sq-sq.ensures) linked))) refl
 
@@ -36,7 +36,7 @@ returns-clause-stands c rules late notes s =
     let pool = its_pool c in
     let put : c.put_sq.new.self ≡ record self { sqs = slice_set self.sqs self.picked_qid (took_sq self c.pop.new.self) } =
     c.put_sq.ensures ∙ ap (λ (q : SqState). record self { sqs = slice_set self.sqs self.picked_qid (record q { window = c.pop.new.self }) }) c.sq-sq.ensures in
-    subst (λ (x : Controller). HasTaken rules late notes tag (record x { picked = x.picked - 1 }) c.put_item.new.slots) (sym put)
+    subst (λ (x : Controller). HasTaken rules late notes tag (record x { picked = x.picked - 1 }) c.put_out.new.slots) (sym put)
     (subst (λ (new : List Slot). HasTaken rules late notes tag (took self c.pop.new.self) new) (sym pool) done)
 
 pub returns-clause-front : goal.returns-clause-front

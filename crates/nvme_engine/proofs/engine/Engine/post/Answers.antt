@@ -12,7 +12,7 @@ use Rattle.nvme_engine.proofs.engine.Engine.post.Goals as goal
 pub returns-in_err-region-clause-posted : goal.returns-in_err-region-clause-posted
 returns-in_err-region-clause-posted c rules late notes x cqe s is_open size_is next =
     let e : Engine = c.args.self.now in
-    let did : HasPosted s.their s.their_late notes c.args.cqid c.in_ok-post.post.slot c.in_ok-post.post.cqe c.in_ok-post.post.cookie c.in_ok-post.post.marks c.post.new.self c.post.new.slots =
+    let did : HasPosted s.their s.their_late notes c.args.cqid c.in_ok-post.post.slot c.in_ok-post.post.cqe c.in_ok-post.post.cookie c.in_ok-post.post.flags c.post.new.self c.post.new.slots =
     c.in_ok-post.ensures.stands s.their s.their_late notes (subst (λ (xs : List Slot). Stands s.their s.their_late notes e.controller xs) (sym c.deref_mut.ensures.value) s.stands) in
     let is = told rules late notes e s c.args.cqid x c.args.slots is_open size_is c.in_ok-post.post c.post.new.self c.post.new.slots did ((c.from.result + 1) % c.from-2.result)
     (λ j. (c.from.ensures j + 1) % c.from-2.ensures j) c.cq_head.result c.cq_head.new.self c.cq_head.ensures.answer c.cq_head.ensures.stands c.serving.result c.serving.ensures.on_regions in
@@ -22,7 +22,7 @@ returns-in_err-region-clause-posted c rules late notes x cqe s is_open size_is n
 pub returns-clause-stands : goal.returns-clause-stands
 returns-clause-stands c rules late notes x cqe s is_open size_is next =
     let e : Engine = c.args.self.now in
-    let did : HasPosted s.their s.their_late notes c.args.cqid c.in_ok-post.post.slot c.in_ok-post.post.cqe c.in_ok-post.post.cookie c.in_ok-post.post.marks c.post.new.self c.post.new.slots =
+    let did : HasPosted s.their s.their_late notes c.args.cqid c.in_ok-post.post.slot c.in_ok-post.post.cqe c.in_ok-post.post.cookie c.in_ok-post.post.flags c.post.new.self c.post.new.slots =
     c.in_ok-post.ensures.stands s.their s.their_late notes (subst (λ (xs : List Slot). Stands s.their s.their_late notes e.controller xs) (sym c.deref_mut.ensures.value) s.stands) in
     let size : length c.post.new.slots ≡ length e.slots.items = c.post.ensures.size ∙ ap (λ (xs : List Slot). length xs) c.deref_mut.ensures.value in
     let value : Some c.in_ok-post.post ≡ next_post_of e.controller e.slots.items c.args.cqid =

@@ -1,0 +1,69 @@
+// The next queue that has work. (profile)
+ghost use Rattle.std.specs.Prelude.{◌≡◌, ◌≤◌, ℕ};
+ghost use Rattle.nvme_ctrl.specs.NextQueue.{turns_before};
+
+use crate::slot::Slot;
+use crate::state::Controller;
+use nvme_arbiter::HIGHEST_QID;
+
+// The queue whose turn comes after so many others, after the last one's.
+fn at_turn(last: u16, turn: u16) -> u16
+    requires last { last ≤ 64 }
+    requires turn { turn ≤ 64 }
+    ensures few { result ≤ 64 }
+    ensures turn { turns_before last result ≡ turn }
+    ensures alone { (p : ℕ) → p ≤ 64 → turns_before last p ≡ turn → p ≡ result }
+{
+    let next = last + 1 + turn;
+    if next > HIGHEST_QID {
+        next - HIGHEST_QID - 1
+    } else {
+        next
+    }
+}
+
+impl Controller {
+    ghost use Rattle.std.specs.Prelude.{◌≡◌, ℕ, Bool, List, length, min, None, IfSome};
+    ghost use Rattle.nvme_log.specs.Rules.{FrontRules};
+    ghost use Rattle.nvme_ctrl.specs.Notes.{Notes};
+    ghost use Rattle.nvme_ctrl.specs.Standing.{Stands};
+    ghost use Rattle.nvme_ctrl.specs.Calls.{depth_of, MayFetch};
+    ghost use Rattle.nvme_ctrl.specs.Posts.{next_post_of};
+    ghost use Rattle.nvme_ctrl.specs.NextQueue.{IsNextWith, HasFetch, HasPost};
+    ghost use Rattle.nvme_ctrl.specs.declared.slot.Slot.{Slot};
+
+    /// The next submission queue of which an entry may be fetched, and the slot of its ring, as `fetch` tells it. Queues
+    /// take turns by ascending identifier, beginning behind `last`; 0 comes behind 64, and any `last` above is as 64. None
+    /// where no entry of any queue may be fetched. Where `last` is the queue that was told before, each queue with work
+    /// comes within 65 calls (`queues_take_turns`).
+    pub fn next_fetch(&self, last: u16) -> Option<(u16, u16)>
+        ensures next { (rules : FrontRules) (late : Bool) (notes : Notes) (slots : List Slot) → Stands rules late notes self.now slots → IfSome result (λ next. IsNextWith (HasFetch rules notes self.now slots) (min last 64) next.0) }
+        ensures slot { (rules : FrontRules) (late : Bool) (notes : Notes) (slots : List Slot) → Stands rules late notes self.now slots → IfSome result (λ next. MayFetch rules notes (depth_of self.now next.0) (length slots) next.0 next.1) }
+        ensures none { (rules : FrontRules) (late : Bool) (notes : Notes) (slots : List Slot) → Stands rules late notes self.now slots → result ≡ None → (q : ℕ) → HasFetch rules notes self.now slots q → ⊥ }
+    {
+        let last = last.min(HIGHEST_QID);
+        for turn in 0..HIGHEST_QID + 1 {
+            let qid = at_turn(last, turn);
+            if let Some(slot) = self.fetch(qid) {
+                return Some((qid, slot));
+            }
+        }
+        None
+    }
+
+    /// The next completion queue to which a completion may be posted, as `post` posts it. Queues take turns as those of
+    /// `next_fetch`. None where none may be posted.
+    pub fn next_to_post(&self, slots: &[Slot], last: u16) -> Option<u16>
+        ensures next { IfSome result (λ q. IsNextWith (HasPost self.now slots.now) (min last 64) q) }
+        ensures none { result ≡ None → (q : ℕ) → next_post_of self.now slots.now q ≡ None }
+    {
+        let last = last.min(HIGHEST_QID);
+        for turn in 0..HIGHEST_QID + 1 {
+            let cqid = at_turn(last, turn);
+            if self.next_post(slots, cqid).is_some() {
+                return Some(cqid);
+            }
+        }
+        None
+    }
+}

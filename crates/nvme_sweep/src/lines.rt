@@ -1,0 +1,154 @@
+// The lines of a picture of a sweep: what stands at the values of its last key.
+use crate::estimates::Estimate;
+use crate::fault::{SweepFault, add};
+use crate::rows::{COUNT, MEAN, P99, Scope, SweepRow};
+use crate::sweep::{Point, Sweep};
+use nvme_arbiter::Class;
+use nvme_numbers::class_name;
+use nvme_plot::LINES;
+use nvme_simulate::style_of;
+use std::alloc::{AllocError, Global};
+
+/// What a line has at a value of the last key.
+#[derive(Clone, Copy, Debug, PartialEq, Eq)]
+pub(crate) struct Spot {
+    /// The index of the value.
+    pub(crate) place: u64,
+    /// The mean of the latencies, in picoseconds.
+    pub(crate) mean: Estimate,
+    /// Their 99th percentile, in picoseconds.
+    pub(crate) p99: Estimate,
+}
+
+/// A line: a class, or values of the keys before the last one.
+#[derive(Debug, Drop)]
+pub(crate) struct Line {
+    pub(crate) name: String,
+    pub(crate) style: usize,
+    pub(crate) spots: Vec<Spot>,
+}
+
+impl Line {
+    // A line without a spot.
+    fn new(alloc: Global, name: String, style: usize) -> Line {
+        Line {
+            name,
+            style,
+            spots: Vec::new(alloc),
+        }
+    }
+
+    // Adds the numbers of a row at a value.
+    fn note(&mut self, place: usize, numbers: &[Estimate; COUNT]) -> Result<(), AllocError> {
+        self.spots.push(Spot {
+            place: place as u64,
+            mean: numbers[MEAN],
+            p99: numbers[P99],
+        })?;
+        Ok(())
+    }
+}
+
+// Adds the numbers of a class to its line, which is made where there is none.
+fn note_class(
+    alloc: Global,
+    lines: &mut Vec<Line>,
+    place: usize,
+    class: Class,
+    numbers: &[Estimate; COUNT],
+) -> Result<(), AllocError> {
+    let style = style_of(class);
+    for line in lines.iter_mut() {
+        if line.style == style {
+            return line.note(place, numbers);
+        }
+    }
+    let name = String::from_str(alloc, class_name(class))?;
+    let mut line = Line::new(alloc, name, style);
+    line.note(place, numbers)?;
+    add(lines, line)
+}
+
+// The numbers of all queues in the rows of a point.
+fn numbers_of_all(rows: &[SweepRow]) -> Option<&[Estimate; COUNT]> {
+    for row in rows {
+        if row.scope == Scope::All {
+            return Some(&row.numbers);
+        }
+    }
+    None
+}
+
+impl<'a> Sweep<'a> {
+    // How many values the last key has, 1 where there is no key.
+    fn last_values(&self) -> usize {
+        match self.axes.last() {
+            Some(axis) => axis.values.len().max(1),
+            None => 1,
+        }
+    }
+
+    /// Whether a picture of it tells its lines apart: with several keys, one for each combination of those before the last one.
+    pub fn look_at_lines(&self, alloc: Global) -> Result<(), SweepFault<'a>> {
+        let lines = self.points(alloc)? / self.last_values().max(1);
+        if lines > LINES {
+            return Err(SweepFault::TooManyLines(lines));
+        }
+        Ok(())
+    }
+
+    // Adds the classes of a point to their lines.
+    fn note_classes(
+        &self,
+        alloc: Global,
+        lines: &mut Vec<Line>,
+        place: usize,
+        point: &Point,
+    ) -> Result<(), AllocError> {
+        for row in &point.rows {
+            if let Scope::Class(class) = row.scope {
+                note_class(alloc, lines, place, class, &row.numbers)?;
+            }
+        }
+        Ok(())
+    }
+
+    // Adds a point to the line of its combination, which begins with the first value of the last key.
+    fn note_all(
+        &self,
+        alloc: Global,
+        lines: &mut Vec<Line>,
+        place: usize,
+        point: &Point,
+    ) -> Result<(), AllocError> {
+        if place == 0 {
+            let keys = point.values.len().saturating_sub(1);
+            let before = point.values.get(..keys).unwrap_or(&[]);
+            let name = self.name_of(alloc, before)?;
+            let style = lines.len();
+            add(lines, Line::new(alloc, name, style))?;
+        }
+        if let Some(numbers) = numbers_of_all(&point.rows)
+            && let Some(line) = lines.last_mut()
+        {
+            line.note(place, numbers)?;
+        }
+        Ok(())
+    }
+
+    /// Adds a point of this number to the lines. Points come in their order.
+    pub(crate) fn note(
+        &self,
+        alloc: Global,
+        lines: &mut Vec<Line>,
+        number: usize,
+        point: &Point,
+    ) -> Result<(), AllocError> {
+        let place = number % self.last_values().max(1);
+        if self.axes.len() > 1 {
+            self.note_all(alloc, lines, place, point)
+        } else {
+            self.note_classes(alloc, lines, place, point)
+        }
+    }
+}
