@@ -1,54 +1,52 @@
 /* SPDX-License-Identifier: MIT */
 /*
- * nvmearb.h: the queues of an NVMe controller, for firmware, emulators and simulators that have a loop of their own.
- * Terms are those of the NVM Express Base Specification 2.0 and the NVM Command Set Specification 1.0. A status is
- * written as its type and its code in hexadecimal: 0/08.
+ * nvmearb.h: the queues of an NVMe controller, for firmware, emulators and simulators with a loop of their own. Terms
+ * are those of the NVM Express Base Specification 2.0 and the NVM Command Set Specification 1.0. A status is written as
+ * its type and its code in hexadecimal: 0/08.
  *
- * If you have a device, take the controller, nvmearb_ctrl_... If you have queues of your own, take parts of it:
- * entries (nvmearb_sqe_.. to nvmearb_settings_of), an arbiter, a board, a queue table. Each stands in a section below,
- * with its structs and calls, and works without the others.
+ * With a device, take the controller, nvmearb_ctrl_... With queues of your own, take parts of it: entries
+ * (nvmearb_sqe_.. to nvmearb_settings_of), an arbiter, a board, a queue table. Each section below works without the
+ * others. docs/EMBEDDING.md has the loops.
  *
  * The order of calls, with a controller:
  *
  *   1. nvmearb_is_of_this_header.
- *   2. When the host enables the controller (CC.EN), nvmearb_ctrl_init_anywhere with the admin queues (AQA, ASQ, ACQ).
- *      Where it refuses what the host wrote, set CSTS.CFS. The device itself checks CC.IOSQES (6) and CC.IOCQES (4).
- *      When CC.EN becomes 0, make no call until it is 1 again, and begin again here. What the backend ends meanwhile is
- *      dropped, or completed after the making, where that answers NVMEARB_NONE. Tags don't stop a data transfer: end
- *      each before CSTS.RDY becomes 0.
- *   3. nvmearb_ctrl_own_opcode and nvmearb_ctrl_own_feature for the admin commands that the device answers itself, such
- *      as Identify.
+ *   2. When CC.EN becomes 1, nvmearb_ctrl_init_anywhere with the admin queues (AQA, ASQ, ACQ). Where it refuses what
+ *      the host wrote, set CSTS.CFS. Check CC.IOSQES (6) and CC.IOCQES (4) yourself. When CC.EN becomes 0, make no call
+ *      until it is 1 again, and begin again here. Drop what the backend ends meanwhile, or complete it after the
+ *      making: that answers NVMEARB_NONE. Tags don't stop a data transfer: end each before CSTS.RDY becomes 0.
+ *   3. nvmearb_ctrl_own_opcode and nvmearb_ctrl_own_feature for the device's own admin commands, such as Identify.
  *   4. At each doorbell write nvmearb_ctrl_sq_tail or nvmearb_ctrl_cq_head.
  *   5. While nvmearb_ctrl_next_fetch tells a queue and a slot: read the entry there, and nvmearb_ctrl_fetched.
- *   6. While nvmearb_ctrl_take gives a command, execute it. Where it has none, nvmearb_ctrl_pick, and begin again,
- *      until that picks nothing either. At a step that created a queue, keep where it lies (nvmearb_asked).
- *   7. nvmearb_ctrl_complete, or nvmearb_ctrl_complete_with, for each command that ends, in any order and at any time.
+ *   6. While nvmearb_ctrl_take gives a command, execute it. Then nvmearb_ctrl_pick, and take again, until that picks
+ *      nothing. At a step that created a queue, keep where it lies (nvmearb_asked).
+ *   7. nvmearb_ctrl_complete or nvmearb_ctrl_complete_with for each command that ends, in any order, at any time.
  *   8. While nvmearb_ctrl_next_to_post tells a completion queue, and while nvmearb_ctrl_post gives a completion of it:
- *      write its bytes into the slot of the ring, Dword 3 last, since it has the phase tag. Then send the interrupt of
- *      the queue's vector, if it is enabled.
+ *      write its bytes into the slot of the ring, Dword 3 last, which has the phase tag. Then send the interrupt of the
+ *      queue's vector, if it is enabled.
  *   9. After a pick that began a deletion (NVMEARB_BEGIN_DELETE), nvmearb_ctrl_finish at once and after each 8., while
  *      it answers NVMEARB_OK.
  *  10. Go back to 5. until a pass does nothing. Go back too once the device can take more commands than at its last
- *      pick, or no longer holds a queue (nvmearb_ctrl_hold).
+ *      pick, or no longer holds a queue.
  *
- * What holds of all calls. Every function is proved (crates/nvme_capi), unless NVMEARB_UNPROVED says otherwise. None
- * allocates, waits, starts a thread or keeps a pointer, or reads or writes anything but what its arguments point to.
- * All return, whatever bytes the arguments, the states and the slots have. The caller sees to this:
+ * Every function is proved (crates/nvme_capi), unless NVMEARB_UNPROVED says otherwise. None allocates, waits, starts a
+ * thread, keeps a pointer, or reads or writes anything but what its arguments point to. All return, whatever bytes the
+ * arguments, states and slots have. The caller sees to this:
  *
- *   - A pointer isn't null, is aligned for its type, and points to as many objects as its comment says, which live at
- *     least as long as the call. This holds for an array of length 0 too.
- *   - What a pointer points to, const or not, isn't written by anything else during the call. Copy an entry first that
- *     lies where a guest or a device may write, and hand in the copy.
- *   - What a pointer that isn't const points to isn't read by anything else during the call, and overlaps nothing that
- *     another argument points to.
+ *   - No pointer is null. Each is aligned for its type, and points to as many objects as its comment says, which
+ *     outlive the call. This holds for an array of length 0 too.
+ *   - Nothing else writes during the call what a pointer, const or not, points to. Hand in a copy of an entry that lies
+ *     where a guest or a device may write.
+ *   - Nothing else reads during the call what a pointer that isn't const points to, and no other argument's object
+ *     overlaps it.
  *   - Calls on one state run one after another; those on different objects may run at the same time on any threads. A
- *     signal or interrupt handler makes no call on an object that the call which it interrupts was given.
+ *     signal or interrupt handler makes no call on an object of the call that it interrupts.
  *
  * Numbers are in the machine's byte order, and bytes of entries in the specification's. The library is built for x86-64
- * (x86-64-v2, System V calling convention) and for AArch64 (docs/EMBEDDING.md, "Processors"). On x86-64 it uses SSE
- * registers and the red zone. So a kernel saves these registers before a call, and takes no interrupt on the stack of a
- * call. A making of a controller takes 34 KB of stack at most, and every other call 1 KB. Link with -lnvmearb; the only
- * other symbols are memcpy and memset. The proved archive has an object for each section below.
+ * (x86-64-v2, System V calling convention) and AArch64. On x86-64 it uses SSE registers and the red zone. So a kernel
+ * saves these registers before a call, and takes no interrupt on the stack of a call. Making a controller takes at most
+ * 34 KB of stack, and every other call 1 KB. Link with -lnvmearb; the only other symbols are memcpy and memset.
+ * docs/LIMITS.md has the sizes.
  */
 #ifndef NVMEARB_H
 #define NVMEARB_H
@@ -60,10 +58,7 @@
 extern "C" {
 #endif
 
-/*
- * The version of this header: the minor number rises with each change of a struct or call, until the major one is 1.
- * nvmearb_version returns that of the library.
- */
+/* The version of this header. Until the major number is 1, the minor one rises with each change of a struct or call. */
 #define NVMEARB_VERSION_MAJOR 0
 #define NVMEARB_VERSION_MINOR 2
 #define NVMEARB_VERSION_PATCH 0
@@ -72,7 +67,7 @@ extern "C" {
 /* Returns the version of the library. */
 uint32_t nvmearb_version(void);
 
-/* The states, by numbers for nvmearb_size. */
+/* The states, for nvmearb_size. */
 #define NVMEARB_STATE_ARBITER 1u
 #define NVMEARB_STATE_BOARD 2u
 #define NVMEARB_STATE_TABLE 3u
@@ -84,37 +79,39 @@ uint32_t nvmearb_size(uint32_t state);
 
 /*
  * What nvmearb_version adds where nothing of the library is proved: tools/build --unproved made it, for a try. It is
- * slower, since it looks for faults as it runs, and ends the program at one that it finds. A program that takes it as
- * well compares nvmearb_version() & ~NVMEARB_UNPROVED with NVMEARB_VERSION.
+ * slower, since it looks for faults as it runs, and ends the program at one. To take it as well, compare
+ * nvmearb_version() & ~NVMEARB_UNPROVED with NVMEARB_VERSION.
  */
 #define NVMEARB_UNPROVED 0x80000000u
 
 /*
- * The results. A function returns NVMEARB_OK except in the cases that its comment, or that of its state, names. Where a
- * call doesn't return NVMEARB_OK, it has written nothing.
+ * The results. A call returns NVMEARB_OK except where its comment, or its state's, says otherwise, and then has written
+ * nothing.
+ *
+ * States are arbiters, boards, queue tables and controllers. Their fields are the library's. A call first answers
+ * NVMEARB_ESTATE if a state that it doesn't initialise isn't valid, as that state's comment says. An arbiter, board or
+ * table may be copied, and if valid acts as its fields say, whoever wrote them.
  */
 #define NVMEARB_OK 0u     /* done */
-#define NVMEARB_NONE 1u   /* there is nothing to do, no such queue or no such command */
+#define NVMEARB_NONE 1u   /* nothing to do, no such queue or no such command */
 #define NVMEARB_EARG 2u   /* an argument isn't valid */
 #define NVMEARB_ESTATE 3u /* the state isn't valid: not initialised, overwritten, or of another version */
 #define NVMEARB_EUSED 4u  /* another region has this address */
 #define NVMEARB_EMANY 5u  /* there are NVMEARB_MAX_REGIONS regions of this kind, or queues may lie anywhere */
 #define NVMEARB_ESIZE 6u  /* a region has 2 to 4096 slots */
-#define NVMEARB_BUSY 7u   /* nothing can be picked yet: commands are to be taken */
-#define NVMEARB_NOROOM 8u /* nothing can be picked yet: the device has room for no command */
+#define NVMEARB_BUSY 7u   /* picked commands are to be taken first */
+#define NVMEARB_NOROOM 8u /* the device has room for no command */
 
-/*
- * Entries: the fields of entries and dwords, and the status of an I/O command. No call keeps a state.
- */
+/* Entries: the fields of entries and dwords, and the status of an I/O command. No call keeps a state. */
 
-/* The length of a submission and of a completion entry in bytes. */
+/* The bytes of a submission and of a completion queue entry. */
 #define NVMEARB_SQE_BYTES 64
 #define NVMEARB_CQE_BYTES 16
 
 /* The most namespaces that nvmearb_outcome takes. */
 #define NVMEARB_MAX_NAMESPACES 16
 
-/* The opcodes that the library knows: those of I/O commands, and those of admin commands. */
+/* The opcodes that the library knows: of I/O commands, then of admin commands. */
 #define NVMEARB_OPC_FLUSH 0x00u
 #define NVMEARB_OPC_WRITE 0x01u
 #define NVMEARB_OPC_READ 0x02u
@@ -134,13 +131,13 @@ uint32_t nvmearb_size(uint32_t state);
 typedef struct nvmearb_sqe {
     uint8_t opcode;
     uint8_t flags; /* FUSE in bits 1:0, PSDT in bits 7:6 */
-    uint16_t cid;  /* command identifier */
-    uint32_t nsid; /* namespace identifier */
+    uint16_t cid;
+    uint32_t nsid;
     uint32_t cdw2;
     uint32_t cdw3;
-    uint64_t mptr; /* metadata pointer */
-    uint64_t prp1; /* PRP entry 1; in a Create command the address of the queue */
-    uint64_t prp2; /* PRP entry 2 */
+    uint64_t mptr;
+    uint64_t prp1; /* of a Create: the address of the queue */
+    uint64_t prp2;
     uint32_t cdw10;
     uint32_t cdw11;
     uint32_t cdw12;
@@ -152,7 +149,7 @@ typedef struct nvmearb_sqe {
 /* A status: {0, 0} is success. */
 typedef struct nvmearb_status {
     uint8_t sct; /* status code type, 0 to 7 */
-    uint8_t sc;  /* status code */
+    uint8_t sc;
 } nvmearb_status;
 
 /* The status code types. */
@@ -160,16 +157,16 @@ typedef struct nvmearb_status {
 #define NVMEARB_SCT_COMMAND_SPECIFIC 1u
 #define NVMEARB_SCT_MEDIA 2u /* media and data integrity errors */
 
-/* Status codes of the generic type. The library itself answers those that are marked with *. */
+/* Status codes of the generic type. The library itself answers those marked with *. */
 #define NVMEARB_SC_SUCCESS 0x00u                  /* * */
-#define NVMEARB_SC_INVALID_OPCODE 0x01u           /* * Invalid Command Opcode */
-#define NVMEARB_SC_INVALID_FIELD 0x02u            /* * Invalid Field in Command */
+#define NVMEARB_SC_INVALID_OPCODE 0x01u           /* * */
+#define NVMEARB_SC_INVALID_FIELD 0x02u            /* * */
 #define NVMEARB_SC_DATA_TRANSFER_ERROR 0x04u
 #define NVMEARB_SC_INTERNAL_ERROR 0x06u
 #define NVMEARB_SC_ABORT_REQUESTED 0x07u          /* * Command Abort Requested */
 #define NVMEARB_SC_ABORTED_BY_DELETION 0x08u      /* * Command Aborted due to SQ Deletion */
-#define NVMEARB_SC_INVALID_NAMESPACE 0x0bu        /* * Invalid Namespace or Format */
-#define NVMEARB_SC_SEQUENCE_ERROR 0x0cu           /* * Command Sequence Error */
+#define NVMEARB_SC_INVALID_NAMESPACE 0x0bu        /* * */
+#define NVMEARB_SC_SEQUENCE_ERROR 0x0cu           /* * */
 #define NVMEARB_SC_PRP_OFFSET_INVALID 0x13u       /* * */
 #define NVMEARB_SC_LBA_OUT_OF_RANGE 0x80u         /* * */
 #define NVMEARB_SC_CAPACITY_EXCEEDED 0x81u
@@ -181,7 +178,7 @@ typedef struct nvmearb_status {
 #define NVMEARB_SC_INVALID_QUEUE_SIZE 0x02u       /* * */
 #define NVMEARB_SC_INVALID_INTERRUPT_VECTOR 0x08u /* * */
 #define NVMEARB_SC_INVALID_QUEUE_DELETION 0x0cu   /* * */
-#define NVMEARB_SC_FEATURE_NOT_SAVEABLE 0x0du     /* * Feature Identifier Not Saveable */
+#define NVMEARB_SC_FEATURE_NOT_SAVEABLE 0x0du     /* * */
 
 /* Status codes of the type of media and data integrity errors. */
 #define NVMEARB_SC_WRITE_FAULT 0x80u
@@ -189,10 +186,10 @@ typedef struct nvmearb_status {
 
 /* The fields of a completion queue entry. CRD, More and Do Not Retry have none: nvmearb_cqe_encode writes 0. */
 typedef struct nvmearb_cqe {
-    uint32_t dw0;  /* Dword 0, command specific */
-    uint16_t sqhd; /* submission queue head pointer: the index of a slot */
-    uint16_t sqid; /* submission queue identifier */
-    uint16_t cid;  /* command identifier */
+    uint32_t dw0;
+    uint16_t sqhd; /* the index of a slot */
+    uint16_t sqid;
+    uint16_t cid;
     uint8_t phase; /* phase tag, 0 or 1 */
     nvmearb_status status;
 } nvmearb_cqe;
@@ -207,22 +204,25 @@ typedef struct nvmearb_cqe {
 #define NVMEARB_ADMIN_GET_FEATURES 6u
 #define NVMEARB_ADMIN_ABORT 7u
 
-/* An admin command, and its fields that the queue table reads. A field that commands of this kind don't have is 0. */
+/* An admin command: the fields that the queue table reads. A field that commands of this kind don't have is 0. */
 typedef struct nvmearb_admin {
-    uint32_t kind;  /* NVMEARB_ADMIN_.. */
+    uint32_t kind;
     uint32_t cdw11; /* Set Features: the value */
     uint64_t prp1;  /* Create: the address of the queue */
-    uint16_t qid;   /* Create, Delete: the queue identifier; Abort: SQID, the queue of the command to abort */
-    uint16_t qsize; /* Create: QSIZE, the number of slots less 1 */
-    uint16_t cqid;  /* Create SQ: the identifier of its completion queue */
+    uint16_t qid;   /* Create, Delete: the queue identifier; Abort: SQID */
+    uint16_t qsize; /* Create: QSIZE, its slots less 1 */
+    uint16_t cqid;  /* Create SQ: its completion queue */
     uint8_t qprio;  /* Create SQ: QPRIO, 0 urgent, 1 high, 2 medium, 3 low. NVMEARB_URGENT .. are 1 more */
-    uint8_t pc;     /* Create: 1 if the queue is physically contiguous, else 0 */
+    uint8_t pc;     /* Create: PC, 0 or 1 */
     uint8_t fid;    /* Set and Get Features: the feature identifier */
-    uint8_t sv;     /* Set Features: 1 if the value is to be saved, else 0 */
-    uint16_t cid;   /* Abort: the command identifier of the command to abort */
+    uint8_t sv;     /* Set Features: SV, 0 or 1 */
+    uint16_t cid;   /* Abort: CID */
 } nvmearb_admin;
 
-/* The Arbitration feature: what its Command Dword 11 says. */
+/*
+ * What a Command Dword 11 of the Arbitration feature says. Each `cdw11` given to a call is one, whose bits 07:03 are
+ * ignored.
+ */
 typedef struct nvmearb_settings {
     uint32_t cdw11;  /* the dword as Get Features answers it: bits 07:03 are 0 */
     uint16_t burst;  /* the most commands of one pick: a power of 2 from 1 to 64, or 0 for no limit */
@@ -231,56 +231,55 @@ typedef struct nvmearb_settings {
     uint16_t low;
 } nvmearb_settings;
 
-/* Decodes a submission queue entry: writes its fields. Every bit of the entry belongs to a field. */
+/* Decodes a submission queue entry. Every bit of it belongs to a field. */
 void nvmearb_sqe_decode(const uint8_t bytes[NVMEARB_SQE_BYTES], nvmearb_sqe *fields);
 
-/* Encodes a submission queue entry: writes its bytes. Either of the two undoes the other. */
+/* Encodes a submission queue entry. Either of the two undoes the other. */
 void nvmearb_sqe_encode(const nvmearb_sqe *fields, uint8_t bytes[NVMEARB_SQE_BYTES]);
 
 /*
- * Decodes a completion queue entry: writes its fields.
+ * Decodes a completion queue entry.
  * NVMEARB_EARG if Dword 1 isn't 0 or one of bits 31:28 of Dword 3 is set, which have no field.
  */
 uint32_t nvmearb_cqe_decode(const uint8_t bytes[NVMEARB_CQE_BYTES], nvmearb_cqe *fields);
 
 /*
- * Encodes a completion queue entry: writes its bytes. Either of the two undoes the other.
+ * Encodes a completion queue entry. Either of the two undoes the other.
  * NVMEARB_EARG if `phase` is above 1 or `status.sct` above 7.
  */
 uint32_t nvmearb_cqe_encode(const nvmearb_cqe *fields, uint8_t bytes[NVMEARB_CQE_BYTES]);
 
 /*
  * Writes the status of an I/O command: that of the first check that it fails, or success. Flush, Write and Read are
- * supported. `sizes` has the sizes of `count` namespaces in logical blocks, that of namespace identifier 1 first. PSDT
- * isn't looked at: a device that moves data by PRPs calls nvmearb_check instead.
+ * supported. `sizes` are those of `count` namespaces in logical blocks, from NSID 1 on. PSDT isn't looked at: a device
+ * that moves data by PRPs calls nvmearb_check.
  * NVMEARB_EARG if `count` is above NVMEARB_MAX_NAMESPACES or a size is 0.
  */
 uint32_t nvmearb_outcome(const nvmearb_sqe *entry, const uint64_t *sizes, size_t count, nvmearb_status *status);
 
 /*
- * Writes the status of an I/O command as nvmearb_outcome does, and looks at PSDT too. Namespaces may be any number,
- * and inactive, which a size of 0 says. The first of these that is so gives the status, and 0/00 where none is:
- *   0/02, Invalid Field in Command: FUSE isn't 0; PSDT isn't 0, so that it asks for SGLs or is reserved
+ * As nvmearb_outcome, but looks at PSDT too. Namespaces may be any number, and those of size 0 are inactive. The first
+ * of these that is so gives the status, and 0/00 where none is:
+ *   0/02, Invalid Field in Command: FUSE isn't 0; PSDT isn't 0 (SGLs, or reserved)
  *   0/01, Invalid Command Opcode: the command is no Flush, Write or Read
- *   0/02: NSID is FFFFFFFFh, and the command is no Flush. A Flush with this NSID succeeds
+ *   0/02: NSID is FFFFFFFFh, and the command is no Flush. A Flush with it succeeds
  *   0/0b, Invalid Namespace or Format: NSID is 0 or above `count`
  *   0/02: NSID is inactive
- *   0/80, LBA Out of Range: SLBA + NLB + 1 of a Write or Read is more than the size.
- * A device with more opcodes goes on from 0/01, which says that the command passed what stands above it.
+ *   0/80, LBA Out of Range: SLBA + NLB + 1 of a Write or Read is above the size.
+ * A device with more opcodes goes on from 0/01: such a command passed what stands above it.
  */
 void nvmearb_check(const nvmearb_sqe *entry, const uint64_t *sizes, size_t count, nvmearb_status *status);
 
 /*
- * Writes the status of a command that names logical blocks by NSID, SLBA and NLB (Command Dwords 10 to 12). It is that
- * of the last four rows above, as of a Read; nothing else is looked at. Write, Read, Write Uncorrectable, Compare, Write
- * Zeroes and Verify are such commands.
+ * Writes the status that the last four rows above give a Read; nothing else is looked at. It is for commands with NSID,
+ * SLBA and NLB (Command Dwords 10 to 12): Write, Read, Write Uncorrectable, Compare, Write Zeroes, Verify.
  */
 void nvmearb_range(const nvmearb_sqe *entry, const uint64_t *sizes, size_t count, nvmearb_status *status);
 
 /* Writes the kind and the fields of an admin command. FUSE and the namespace identifier are ignored. */
 void nvmearb_admin_of(const nvmearb_sqe *entry, nvmearb_admin *command);
 
-/* Writes what a Command Dword 11 of the Arbitration feature says. Its bits 07:03 are ignored. */
+/* Writes what a `cdw11` says. */
 void nvmearb_settings_of(uint32_t cdw11, nvmearb_settings *settings);
 
 /*
@@ -303,14 +302,12 @@ void nvmearb_settings_of(uint32_t cdw11, nvmearb_settings *settings);
 #define NVMEARB_MAX_QUEUES 65
 #define NVMEARB_MAX_COUNT 256
 
-/* The room of a device, or the limit of a pick, where there is none. Each from NVMEARB_MAX_COUNT on is as good. */
+/* The room of a device, or the limit of a pick, without a bound. Each from NVMEARB_MAX_COUNT on is as good. */
 #define NVMEARB_NO_LIMIT 65535u
 
 /*
- * An arbiter. nvmearb_arbiter_init initialises it, and it may be copied. Its fields are the library's. It is valid if
- * `mechanism` is one of the two and each of `last` is at most 65536, whoever wrote them. Zeros aren't valid, and other
- * memory that was never initialised may be. Each other call first answers NVMEARB_ESTATE if it isn't valid; a valid one
- * picks as one that has served what its fields say.
+ * An arbiter. It is valid if `mechanism` is one of the two and each of `last` is at most 65536. Zeros aren't valid;
+ * other memory that was never initialised may be.
  */
 typedef struct nvmearb_arbiter {
     uint32_t mechanism;
@@ -321,7 +318,7 @@ typedef struct nvmearb_arbiter {
 
 /* An open submission queue as a pick is shown it. */
 typedef struct nvmearb_seen {
-    uint16_t qid;      /* 0 for the admin queue, 1 to 64 for an I/O queue */
+    uint16_t qid;      /* 0 to 64 */
     uint16_t priority; /* NVMEARB_ADMIN for queue 0; NVMEARB_URGENT .. NVMEARB_LOW for the others */
     uint16_t count;    /* how many of its commands wait, or NVMEARB_MAX_COUNT if more do */
 } nvmearb_seen;
@@ -334,8 +331,7 @@ typedef struct nvmearb_pick {
 } nvmearb_pick;
 
 /*
- * Initialises an arbiter, which has served nothing yet. `cdw11` is that of the Arbitration feature; its bits 07:03 are
- * ignored.
+ * Initialises an arbiter, which has served nothing yet.
  * NVMEARB_EARG if `mechanism` is neither NVMEARB_ROUND_ROBIN nor NVMEARB_WEIGHTED.
  */
 uint32_t nvmearb_arbiter_init(nvmearb_arbiter *arbiter, uint32_t mechanism, uint32_t cdw11);
@@ -350,28 +346,23 @@ uint32_t nvmearb_arbiter_set(nvmearb_arbiter *arbiter, uint32_t cdw11);
  */
 uint32_t nvmearb_arbiter_peek(const nvmearb_arbiter *arbiter, const nvmearb_seen *seen, size_t count, nvmearb_pick *pick);
 
-/* Picks: as nvmearb_arbiter_peek, and the arbiter counts these commands as served. The caller takes all n of them. */
+/* As nvmearb_arbiter_peek, and the arbiter counts these commands as served. Take all n of them. */
 uint32_t nvmearb_arbiter_pick(nvmearb_arbiter *arbiter, const nvmearb_seen *seen, size_t count, nvmearb_pick *pick);
 
 /*
- * Picks at most `limit` commands: as nvmearb_arbiter_pick, but n is the least of that n and `limit`, for a caller that
- * has room for so many. The arbiter counts only these n as served. The rest waits until the turn of its queue comes
- * again; what they would have used of the weight of their class stays.
+ * As nvmearb_arbiter_pick, but n is the least of that n and `limit`, and only these n count as served. The rest waits
+ * for its queue's next turn; what it would have used of its class's weight stays.
  * NVMEARB_EARG if `limit` is 0 or as nvmearb_arbiter_peek; otherwise NVMEARB_NONE if no command waits.
  */
 uint32_t nvmearb_arbiter_pick_up_to(nvmearb_arbiter *arbiter, const nvmearb_seen *seen, size_t count, uint16_t limit,
                                     nvmearb_pick *pick);
 
 /*
- * Board: an arbiter that keeps the open queues and the numbers of their commands itself. It is told of each command
- * that comes, and picks what an arbiter picks that is shown the same queues.
+ * Board: an arbiter that keeps the open queues and the numbers of their commands itself. Told of each command that
+ * comes, it picks what an arbiter picks that is shown the same queues.
  */
 
-/*
- * A board. nvmearb_board_init initialises it, and it may be copied. Its fields are the library's. It is valid if
- * `mark` is what nvmearb_board_init writes and the arbiter is valid; the other fields may have any value. Each other
- * call first answers NVMEARB_ESTATE if it isn't valid; a valid one answers as one with the queues that they say.
- */
+/* A board. It is valid if `mark` is what nvmearb_board_init writes and the arbiter is valid. */
 typedef struct nvmearb_board {
     uint64_t mark;
     struct {
@@ -383,20 +374,16 @@ typedef struct nvmearb_board {
     nvmearb_arbiter arbiter;
 } nvmearb_board;
 
-/* Initialises a board, on which no queue is open and which has served nothing; otherwise as nvmearb_arbiter_init. */
+/* Initialises a board, on which no queue is open; otherwise as nvmearb_arbiter_init. */
 uint32_t nvmearb_board_init(nvmearb_board *board, uint32_t mechanism, uint32_t cdw11);
 
 /*
  * Opens a queue, in which no command waits.
- * NVMEARB_EARG if the queue is open, `qid` is above 64, or `priority` isn't one that the queue can have: NVMEARB_ADMIN
- * for queue 0, NVMEARB_URGENT .. NVMEARB_LOW for the others.
+ * NVMEARB_EARG if the queue is open, `qid` is above 64, or `priority` isn't one of this queue's (nvmearb_seen).
  */
 uint32_t nvmearb_board_open(nvmearb_board *board, uint16_t qid, uint16_t priority);
 
-/*
- * Closes a queue. The number of its waiting commands is forgotten; what was served is kept.
- * NVMEARB_EARG if the queue isn't open.
- */
+/* Closes a queue. Its waiting commands are forgotten, what was served is kept. NVMEARB_EARG if it isn't open. */
 uint32_t nvmearb_board_close(nvmearb_board *board, uint16_t qid);
 
 /* One more command waits in a queue: nvmearb_board_came_n with an `n` of 1. */
@@ -409,25 +396,19 @@ uint32_t nvmearb_board_came(nvmearb_board *board, uint16_t qid);
 uint32_t nvmearb_board_came_n(nvmearb_board *board, uint16_t qid, uint16_t n);
 
 /*
- * One waiting command left a queue without being picked, for example because it was aborted.
+ * One waiting command left a queue without being picked, for example by an Abort.
  * NVMEARB_EARG if the queue isn't open or no command waits in it.
  */
 uint32_t nvmearb_board_went(nvmearb_board *board, uint16_t qid);
 
-/*
- * Writes what nvmearb_board_pick would pick.
- * NVMEARB_NONE if no command waits.
- */
+/* Writes what nvmearb_board_pick would pick; NVMEARB_NONE if no command waits. */
 uint32_t nvmearb_board_peek(const nvmearb_board *board, nvmearb_pick *pick);
 
-/*
- * Picks: as nvmearb_board_peek, and the board counts these commands as served and no longer as waiting. The caller
- * takes all n of them.
- */
+/* As nvmearb_board_peek, and the board counts these commands as served and no longer as waiting. Take all n of them. */
 uint32_t nvmearb_board_pick(nvmearb_board *board, nvmearb_pick *pick);
 
 /*
- * Picks at most `limit` commands, as nvmearb_arbiter_pick_up_to tells. The rest of them still waits.
+ * As nvmearb_board_pick, with a `limit` as nvmearb_arbiter_pick_up_to. The rest still waits.
  * NVMEARB_EARG if `limit` is 0; otherwise NVMEARB_NONE if no command waits.
  */
 uint32_t nvmearb_board_pick_up_to(nvmearb_board *board, uint16_t limit, nvmearb_pick *pick);
@@ -436,22 +417,19 @@ uint32_t nvmearb_board_pick_up_to(nvmearb_board *board, uint16_t limit, nvmearb_
 uint32_t nvmearb_board_set(nvmearb_board *board, uint32_t cdw11);
 
 /*
- * Table: the queues and features of a controller, and the answers to the admin commands that create, delete, set and
- * get them.
+ * Table: the queues and features of a controller, and the answers to the admin commands on them.
  *
  * The order of calls, with a table and a board; rings, doorbells, phase tags, interrupts and data are the caller's:
  *
  *   1. nvmearb_is_of_this_header.
- *   2. nvmearb_table_init. Add a region of each kind for the admin queue, then one for each ring that a Create command
- *      may name.
+ *   2. nvmearb_table_init. Add a region of each kind for the admin queue, then one for each ring that a Create may
+ *      name.
  *   3. nvmearb_board_init, and nvmearb_board_open for queue 0.
- *   4. nvmearb_board_came for each command that a submission queue tail doorbell announces, or nvmearb_board_came_n
- *      for all of them. A board counts at most NVMEARB_MAX_COUNT of a queue; tell it of further ones once some were
- *      picked.
- *   5. nvmearb_board_pick writes a queue and a number n, as nvmearb_board_pick_up_to does for a caller that has room
- *      for so many commands. Take the n oldest waiting commands out of its ring.
- *        I/O:   nvmearb_sqe_decode, then nvmearb_check and an execution of one's own, then nvmearb_cqe_encode.
- *        Admin: nvmearb_table_apply, then what the verdict asks for, then nvmearb_cqe_encode.
+ *   4. nvmearb_board_came_n at a submission queue tail doorbell. Tell of commands above NVMEARB_MAX_COUNT in a queue
+ *      once some were picked.
+ *   5. nvmearb_board_pick, or nvmearb_board_pick_up_to. Take the n oldest waiting commands out of the queue's ring.
+ *        I/O:   nvmearb_sqe_decode, nvmearb_check, your execution, nvmearb_cqe_encode.
+ *        Admin: nvmearb_table_apply, what the verdict asks for, nvmearb_cqe_encode.
  */
 
 /* The most regions of a kind, the admin queue's included, and the most I/O queues of a kind. */
@@ -464,11 +442,7 @@ typedef struct nvmearb_region {
     uint16_t slots; /* 2 to 4096 */
 } nvmearb_region;
 
-/*
- * A queue table. nvmearb_table_init initialises it, and it may be copied. Its fields are the library's. It is valid if
- * `mark` is what nvmearb_table_init writes; the other fields may have any value. Each other call first answers
- * NVMEARB_ESTATE if it isn't valid; a valid one answers as one with the regions, queues and features that they say.
- */
+/* A queue table. It is valid if `mark` is what nvmearb_table_init writes. */
 typedef struct nvmearb_table {
     uint64_t mark;
     struct {
@@ -489,8 +463,8 @@ typedef struct nvmearb_table {
 } nvmearb_table;
 
 /*
- * The verdict on an admin command: what the caller does before it answers the command. All but NVMEARB_DONE mean
- * success, and all but NVMEARB_DONE and NVMEARB_ABORT are answered with 0 as Dword 0.
+ * The verdict on an admin command: what to do before it is answered. All but NVMEARB_DONE mean success, and all but
+ * NVMEARB_DONE and NVMEARB_ABORT 0 as Dword 0.
  */
 #define NVMEARB_DONE 0u            /* nothing: answer with `status` and `dw0` */
 #define NVMEARB_OPEN_SQ 1u         /* a submission queue was created: fetch from it (nvmearb_board_open) */
@@ -502,38 +476,36 @@ typedef struct nvmearb_table {
 
 /* The answer to an admin command. A field that a verdict of its kind doesn't have is 0. */
 typedef struct nvmearb_answer {
-    uint32_t verdict;      /* NVMEARB_DONE .. NVMEARB_ABORT */
+    uint32_t verdict;
     uint32_t dw0;          /* Dword 0 of its completion; NVMEARB_ABORT: 0, and the caller decides */
     uint32_t cdw11;        /* NVMEARB_SET_ARBITRATION: the settings, with bits 07:03 as 0 */
-    uint16_t qid;          /* the queue identifier; NVMEARB_ABORT: SQID, the command's submission queue */
+    uint16_t qid;          /* the queue identifier; NVMEARB_ABORT: SQID */
     uint16_t region;       /* NVMEARB_OPEN_SQ, NVMEARB_OPEN_CQ: the number of its region; anywhere, its identifier */
     uint16_t cqid;         /* NVMEARB_OPEN_SQ: its completion queue */
     uint16_t priority;     /* NVMEARB_OPEN_SQ: NVMEARB_URGENT .. NVMEARB_LOW */
-    nvmearb_status status; /* the status of its completion */
-    uint16_t cid;          /* NVMEARB_ABORT: the command identifier */
+    nvmearb_status status; /* of its completion */
+    uint16_t cid;          /* NVMEARB_ABORT: CID */
 } nvmearb_answer;
 
 /* A submission queue that is open or closing. */
 typedef struct nvmearb_queue {
     uint16_t region;   /* the number of its region */
-    uint16_t cqid;     /* its completion queue */
+    uint16_t cqid;
     uint16_t priority; /* NVMEARB_ADMIN .. NVMEARB_LOW */
     uint16_t closing;  /* 1 if its deletion began and isn't finished, else 0 */
 } nvmearb_queue;
 
 /*
- * Initialises a queue table, which has no region and no queue. `nsq` and `ncq` are the most I/O submission queues and
- * I/O completion queues. `cdw11` is that of the Arbitration feature; its bits 07:03 are ignored.
+ * Initialises a queue table without regions or queues. `nsq` and `ncq` are the most I/O submission and completion
+ * queues.
  * NVMEARB_EARG if `nsq` or `ncq` isn't 1 to NVMEARB_MAX_IO_QUEUES.
  */
 uint32_t nvmearb_table_init(nvmearb_table *table, uint16_t nsq, uint16_t ncq, uint32_t cdw11);
 
 /*
- * Adds a submission region of `slots` slots, and writes its number. Numbers count from 0. Region 0 is that of the
- * admin queue, which is open from then on. A Create command takes one of the others, which no later Create can take
- * again.
- * The first of these: NVMEARB_EUSED if a region of either kind has this address, NVMEARB_EMANY if NVMEARB_MAX_REGIONS
- * submission regions are there, NVMEARB_ESIZE if `slots` isn't 2 to 4096.
+ * Adds a submission region, and writes its number, from 0 on. Region 0 is that of the admin queue, which is open from
+ * then on. A Create takes one of the others, which no later Create can take again.
+ * The first that applies of NVMEARB_EUSED (by a region of either kind), NVMEARB_EMANY and NVMEARB_ESIZE.
  */
 uint32_t nvmearb_table_add_sq_region(nvmearb_table *table, uint64_t address, uint16_t slots, uint16_t *number);
 
@@ -541,110 +513,96 @@ uint32_t nvmearb_table_add_sq_region(nvmearb_table *table, uint64_t address, uin
 uint32_t nvmearb_table_add_cq_region(nvmearb_table *table, uint64_t address, uint16_t slots, uint16_t *number);
 
 /*
- * Applies an admin command, and writes the answer. A command whose status isn't success leaves every byte of the table
- * as it was. Add region 0 of both kinds before the first command.
+ * Applies an admin command, and writes the answer. Where its status isn't success, every byte of the table stays.
+ * Before the first command add region 0 of both kinds.
  *
- * At NVMEARB_ABORT the caller looks for the oldest waiting command with this identifier in this queue. If one waits,
- * the caller takes it out (nvmearb_board_went), answers it with 0/07, Command Abort Requested, and the Abort with 0 as
- * Dword 0. Otherwise the Abort is answered with 1: also if its SQID is 0, if the queue isn't open or is
- * closing, or if the command was picked.
+ * At NVMEARB_ABORT look for the oldest waiting command with this identifier in this queue. If one waits, take it out
+ * (nvmearb_board_went), answer it with 0/07, and the Abort with 0 as Dword 0. Otherwise answer the Abort with 1: also
+ * if SQID is 0, the queue isn't open or is closing, or the command was picked.
  *
- * Other opcodes than those of NVMEARB_ADMIN_.. are answered with 0/01, Invalid Command Opcode. Set and Get Features of
- * other identifiers than 01h and 07h, and an entry whose FUSE isn't 0, are answered with 0/02, Invalid Field in Command.
- * A controller that has more commands, such as Identify, looks at `kind` and `fid` of nvmearb_admin_of first and keeps
- * those entries from the table.
+ * Other opcodes than those of NVMEARB_ADMIN_.. are answered with 0/01. An entry whose FUSE isn't 0, and Set and Get
+ * Features of other identifiers than 01h and 07h, are answered with 0/02. For more commands, such as Identify, look at
+ * `kind` and `fid` of nvmearb_admin_of first and keep those entries from the table.
  */
 uint32_t nvmearb_table_apply(nvmearb_table *table, const uint8_t bytes[NVMEARB_SQE_BYTES], nvmearb_answer *answer);
 
 /*
- * Finishes the deletion of a submission queue: its identifier is free again. After NVMEARB_BEGIN_DELETE, whose command
- * isn't answered yet, the caller
+ * Finishes the deletion of a submission queue: its identifier is free again. After NVMEARB_BEGIN_DELETE the caller
  *   - fetches and picks no more commands of the queue (nvmearb_board_close),
- *   - answers each command of the queue that waits with 0/08, Command Aborted due to SQ Deletion,
- *   - waits until the commands of the queue that were picked are answered too,
+ *   - answers each command of the queue that waits with 0/08,
+ *   - waits until those that were picked are answered too,
  *   - makes this call, and only then answers the Delete, with success.
  * NVMEARB_EARG if the queue isn't closing.
  */
 uint32_t nvmearb_table_finish_delete(nvmearb_table *table, uint16_t qid);
 
-/*
- * Writes what the table has of a submission queue.
- * NVMEARB_NONE if the queue is neither open nor closing.
- */
+/* Writes what the table has of a submission queue; NVMEARB_NONE if it is neither open nor closing. */
 uint32_t nvmearb_table_sq(const nvmearb_table *table, uint16_t qid, nvmearb_queue *queue);
 
-/*
- * Writes the number of the region of a completion queue.
- * NVMEARB_NONE if the queue isn't open.
- */
+/* Writes the number of the region of a completion queue; NVMEARB_NONE if it isn't open. */
 uint32_t nvmearb_table_cq(const nvmearb_table *table, uint16_t qid, uint16_t *region);
 
-/* Writes how many I/O submission queues and I/O completion queues are allotted, each 1 to NVMEARB_MAX_IO_QUEUES. */
+/* Writes how many I/O submission and completion queues are allotted, each 1 to NVMEARB_MAX_IO_QUEUES. */
 uint32_t nvmearb_table_allotted(const nvmearb_table *table, uint16_t *nsq, uint16_t *ncq);
 
 /* Writes the settings of the Arbitration feature. */
 uint32_t nvmearb_table_settings(const nvmearb_table *table, nvmearb_settings *settings);
 
 /*
- * Controller: the queue side of an NVMe controller, driven by calls in the order at the top. It checks doorbells,
- * says which slot is fetched next, arbitrates, and carries out the admin commands on queues, features and Abort. It hands
- * I/O commands and the device's own admin commands to the device under tags, and gives each completion with its slot,
- * SQHD and phase tag. The device keeps registers, memory, data and interrupts. capi/examples/device.c is a small one, and
- * capi/examples/nvme.c one that Linux takes for a disk in QEMU.
+ * Controller: the queue side of an NVMe controller, by calls in the order at the top. It checks doorbells, arbitrates,
+ * and carries out the admin commands on queues, features and Abort. The device executes all other commands, and keeps
+ * registers, memory, data and interrupts. Examples are capi/examples/device.c, and capi/examples/nvme.c, which Linux
+ * takes for a disk in QEMU.
  */
 
 /*
- * A slot of a controller: it holds one command from its fetch until its completion is posted. The caller keeps an array
- * of them, whose content is the library's. Nothing is fetched while none is free. At most as many commands of a
- * submission queue hold a slot as its depth (nvmearb_ctrl_set_depth). Let there be as many slots as the depths of the
- * queues that may be open have together: admin_depth + nsq * depth. Then one is free for each command that may be fetched
- * otherwise, while queues are being deleted too. With fewer, commands of one queue may keep those of another from being
- * fetched. The admin queue waits too: no Abort or Delete is fetched while other queues hold all slots.
+ * A slot of a controller holds one command from its fetch until its completion is posted. The caller keeps an array of
+ * them, whose content is the library's. Commands of a submission queue hold at most as many as its depth
+ * (nvmearb_ctrl_set_depth). Let there be as many as the depths of the queues that may be open have together:
+ * admin_depth + nsq * depth. Then no fetch lacks one, while queues are being deleted too. With fewer, commands of one
+ * queue may keep those of another from being fetched: no Abort or Delete is fetched while other queues hold all.
  * docs/EMBEDDING.md ("How many commands your backend has") tells which depths weights need.
  */
 typedef struct nvmearb_slot {
     uint64_t words[11];
 } nvmearb_slot;
 
-/* The most slots of a controller. */
+/* The most slots of a controller, and the highest depth of a submission queue. */
 #define NVMEARB_MAX_SLOTS 65535
-
-/* The highest depth of a submission queue. */
 #define NVMEARB_MAX_DEPTH 4095
 
 /*
- * A controller. nvmearb_ctrl_init_anywhere or nvmearb_ctrl_init makes it. Its fields are the library's. It is valid if
- * `mark` is what these write; zeros aren't. Each other call first answers NVMEARB_ESTATE if it isn't valid. One that is
- * given slots, but nvmearb_ctrl_verify, then answers NVMEARB_EARG if `count` isn't that of the making.
+ * A controller. It is valid if `mark` is what nvmearb_ctrl_init_anywhere or nvmearb_ctrl_init writes; zeros aren't. A
+ * call with slots, but nvmearb_ctrl_verify, then answers NVMEARB_EARG if `count` isn't that of the making.
  * nvmearb_ctrl_peek and nvmearb_ctrl_pick answer NVMEARB_ESTATE too if the arbiter isn't valid, as that of a making is.
  *
- * The caller hands each call the array of slots that the controller was made with, and writes neither into it nor into
- * the controller. Whatever bytes lie there, a call reads and writes no more than it is given, and returns. If something
- * else wrote them, nothing more is promised of what it answers and writes; nvmearb_ctrl_verify finds some of that. The
- * caller reads no slot of a ring but those that nvmearb_ctrl_fetch and nvmearb_ctrl_next_fetch tell, and posts no
- * completion but those of nvmearb_ctrl_post. A ring has 64 or 16 bytes for each slot, from its address on.
+ * Hand each call the slots of the making, and write neither into them nor into the controller. If something else wrote
+ * there, a call still returns, and reads and writes only what it is given; nothing more is promised.
+ * nvmearb_ctrl_verify finds some such writes. Read no slot of a ring but those that nvmearb_ctrl_fetch and
+ * nvmearb_ctrl_next_fetch tell, and post no completion but those of nvmearb_ctrl_post. A ring has 64 or 16 bytes for
+ * each slot, from its address on.
  *
- * A submission queue is open until its deletion begins, and then closing until nvmearb_ctrl_finish finishes that.
+ * A submission queue is open until its deletion begins, and then closing until nvmearb_ctrl_finish ends that.
  *
- * A controller and its slots are numbers without a pointer. So both together may be moved, or saved as bytes and restored
- * by a library of the same major and minor version, which the mark has. What is restored takes the place of the first: no
- * copy is used beside it. The device saves with it where its queues lie, and what it has by tag. What it took after the
- * saving it drops: the same tags come again after the restoring.
+ * A controller and its slots hold no pointer. Both together may be moved, or saved as bytes and restored by a library
+ * of the same major and minor version, which the mark has. What is restored replaces the first: use no copy beside it.
+ * Save with it where its queues lie, and what you have by tag. At a restore drop what was taken after the saving: the
+ * same tags come again.
  *
- * These calls take the longer the more there is of something, and no other one does:
+ * The time of these calls, and of no other, grows with what stands beside them:
  *
  *   nvmearb_ctrl_init, nvmearb_ctrl_init_anywhere, nvmearb_ctrl_verify   the slots
  *   nvmearb_ctrl_named                                                   the slots up to the command's
  *   nvmearb_ctrl_waits                                                   the commands before its own, 255 at most
- *   nvmearb_ctrl_pick of a Delete I/O Submission Queue or an Abort       the queue's waiting commands, 256 at most
- *   nvmearb_ctrl_pick of a Create or a Delete I/O Completion Queue       the regions and the open queues
+ *   nvmearb_ctrl_pick of a Delete SQ or an Abort                         the queue's waiting commands, 256 at most
+ *   nvmearb_ctrl_pick of a Create or a Delete CQ                         the regions and the open queues
  *   nvmearb_ctrl_add_sq_region, nvmearb_ctrl_add_cq_region               the regions
  *   nvmearb_ctrl_finish                                                  the identifiers up to the queue's
  *   nvmearb_ctrl_next_fetch, nvmearb_ctrl_next_to_post                   the turns up to the queue's, 65 at most
  *
- * PC must be 1, and a ring has at most 4096 slots. So CAP.MQES is at most 4095, and CAP.CQR is 1. Commands without a
- * posted completion have no limit but the depths: a completion queue that its host doesn't read stops the submission
- * queues that post to it, and no other.
+ * PC must be 1, and a ring has at most 4096 slots: CAP.CQR is 1, and CAP.MQES at most 4095. Commands without a posted
+ * completion have no limit but the depths. A completion queue that its host doesn't read stops the submission queues
+ * that post to it, and no other.
  */
 typedef struct nvmearb_ctrl {
     uint64_t mark;
@@ -656,7 +614,7 @@ typedef struct nvmearb_ctrl {
 typedef struct nvmearb_config {
     nvmearb_region asq, acq; /* the admin queues: ASQ and ACQ; slots are the fields of AQA plus 1 */
     uint32_t mechanism;      /* CC.AMS 000b: NVMEARB_ROUND_ROBIN, 001b: NVMEARB_WEIGHTED */
-    uint32_t cdw11;          /* the Arbitration feature; bits 07:03 are ignored */
+    uint32_t cdw11;          /* the Arbitration feature */
     uint16_t nsq, ncq;       /* the most I/O submission and completion queues, 1 to NVMEARB_MAX_IO_QUEUES */
     uint16_t depth;          /* the most commands of one I/O submission queue with a slot, 1 to NVMEARB_MAX_DEPTH */
     uint16_t admin_depth;    /* the same of the admin queue, above the number of event requests that the device holds */
@@ -673,79 +631,72 @@ typedef struct nvmearb_placement {
 typedef struct nvmearb_asked {
     uint64_t address;    /* PRP1: where the ring lies */
     uint16_t qsize;      /* QSIZE: its slots less 1 */
-    uint16_t vector;     /* IV of a completion queue; 0 of a submission queue */
-    uint16_t interrupts; /* IEN of a completion queue: 1 or 0; 0 of a submission queue */
+    uint16_t vector;     /* IV of a completion queue, else 0 */
+    uint16_t interrupts; /* IEN of a completion queue, 1 or 0, else 0 */
 } nvmearb_asked;
 
-/* The kinds of steps. */
-#define NVMEARB_PICKED 1u      /* commands of an I/O queue were picked: nvmearb_ctrl_take gives them */
-#define NVMEARB_CARRIED_OUT 2u /* a command of the admin queue was picked and carried out by the controller */
-#define NVMEARB_PASSED 3u      /* an admin command was picked that is the device's: nvmearb_ctrl_take gives it */
+/* The kinds of steps, by what was picked. */
+#define NVMEARB_PICKED 1u      /* commands of an I/O queue: nvmearb_ctrl_take gives them */
+#define NVMEARB_CARRIED_OUT 2u /* a command of the admin queue, which the controller carried out */
+#define NVMEARB_PASSED 3u      /* an admin command of the device: nvmearb_ctrl_take gives it */
 
 /* What a pick did. A field that a step of its kind doesn't have is 0. */
 typedef struct nvmearb_step {
-    uint32_t kind; /* NVMEARB_PICKED, NVMEARB_CARRIED_OUT or NVMEARB_PASSED */
+    uint32_t kind;
     /*
-     * NVMEARB_CARRIED_OUT: what the command came to. The caller ends a deletion (NVMEARB_BEGIN_DELETE, by
-     * nvmearb_ctrl_finish), and keeps `asked` of a queue that was created. Nothing else is left to do: its completion
-     * becomes ready by itself.
+     * NVMEARB_CARRIED_OUT: what the command came to. Its completion becomes ready by itself. 6. and 9. at the top say
+     * all that is left to do.
      */
     nvmearb_answer answer;
-    nvmearb_pick pick; /* NVMEARB_PICKED and NVMEARB_PASSED: the queue, and how many of its commands */
-    /* NVMEARB_CARRIED_OUT, where the verdict of `answer` is NVMEARB_OPEN_SQ or NVMEARB_OPEN_CQ; else all 0. */
-    nvmearb_asked asked;
+    nvmearb_pick pick;   /* NVMEARB_PICKED and NVMEARB_PASSED: the queue, and how many of its commands */
+    nvmearb_asked asked; /* NVMEARB_CARRIED_OUT with a verdict of NVMEARB_OPEN_SQ or NVMEARB_OPEN_CQ; else all 0 */
 } nvmearb_step;
 
 /*
- * A command that the device has. Its tag is its name until it is completed. Bits 15:0 are the index of the slot that
- * holds it. Bits 31:16 are that slot's generation, which goes up by one, modulo 65,536, each time the device takes a
- * command of the slot. A tag is used up once its command is completed, or the controller is made anew over the same
- * slots, which keeps their generations. A call with a tag that is used up answers NVMEARB_NONE and changes nothing, so
- * what the device completes twice, or late, ends no other command. A tag comes again with the 65,536th command that is
+ * A command that the device has. Its tag names it until it is completed. Bits 15:0 are the index of its slot. Bits
+ * 31:16 are the slot's generation, which rises by one with each command that the device takes of it. A tag is used up
+ * once its command is completed, or the controller is made anew over the same slots, which keeps their generations. A
+ * call with a tag that is used up answers NVMEARB_NONE and changes nothing. A tag comes again with the 65,536th command
  * taken from its slot after it.
  */
 typedef struct nvmearb_command {
     nvmearb_sqe entry;
-    uint32_t cookie; /* what the caller gave nvmearb_ctrl_fetched with it, for example the number of its queue */
+    uint32_t cookie; /* what nvmearb_ctrl_fetched was given with it */
     uint32_t tag;
 } nvmearb_command;
 
 /*
- * The slot of a tag, for an array in which the device keeps what it has of a command. It is below `count` of
- * nvmearb_ctrl_init, unless something else wrote into the controller or its slots.
+ * The slot of a tag, an index for what the device keeps of a command. It is below `count`, unless something else wrote
+ * into the controller or its slots.
  */
 #define NVMEARB_SLOT_OF(tag) ((tag) & 0xffffu)
 
 /*
- * The status flags of a completion: bits 31 and 30 of Dword 3. A host that finds Do Not Retry
- * doesn't submit the same command again; without it Linux submits a failing Read six times. What a controller answers
- * itself has Do Not Retry for the statuses 0/01, 0/02, 0/0c, 0/13, 1/00, 1/01, 1/02, 1/08 and 1/0d, for no other, and
- * never More.
+ * The status flags of a completion: bits 31 and 30 of Dword 3. Without Do Not Retry Linux submits a failing Read six
+ * times. The controller's own answers have Do Not Retry for 0/01, 0/02, 0/0c, 0/13, 1/00, 1/01, 1/02, 1/08 and 1/0d,
+ * for no other status, and never More.
  */
 #define NVMEARB_DNR 1u  /* Do Not Retry */
-#define NVMEARB_MORE 2u /* More: the Error Information log page has more of the command */
+#define NVMEARB_MORE 2u /* the Error Information log page has more of the command */
 
 /* A completion to be written into the ring of a completion queue. */
 typedef struct nvmearb_post {
-    /*
-     * The completion queue entry; the phase tag is in its last four bytes. Byte 15 has Do Not Retry in bit 7 and More
-     * in bit 6. nvmearb_cqe_decode takes no entry with a flag.
-     */
+    /* Byte 15 has Do Not Retry in bit 7 and More in bit 6: nvmearb_cqe_decode takes no entry with a flag. */
     uint8_t bytes[NVMEARB_CQE_BYTES];
     uint32_t cookie;                  /* that of its command */
     uint32_t tag;                     /* that of its command, or one that is used up if the device never took it */
-    uint16_t slot;                    /* the slot of the ring */
+    uint16_t slot;                    /* of the ring */
 } nvmearb_post;
 
 /*
- * Initialises a controller as nvmearb_ctrl_init does, but one whose queues may lie anywhere in memory: the host
- * chooses, as Linux does. A Create names any address that is a multiple of the memory page. There may be any number of
- * Creates, and the host may use the memory of a queue again once its Delete is answered. The step of an accepted Create
- * tells its address, slots, vector and interrupt enable (nvmearb_asked). The device keeps them by the identifier, those
- * of submission queues and of completion queues apart, until the next accepted Create of that identifier and kind. The
- * admin queues lie at ASQ and ACQ, with vector 0 and interrupts enabled. The library doesn't know the memory: a Create
- * at an address where none is, or over another ring, is accepted. The device checks each access, and that no address
- * goes over the end of all addresses. Where an access to a ring fails it sets CSTS.CFS, and waits for the reset.
+ * Initialises a controller as nvmearb_ctrl_init, but the host chooses where queues lie. There may be any number of
+ * Creates, each at any multiple of the memory page. The host may reuse a queue's memory once its Delete is answered.
+ * The device keeps what the step of an accepted Create tells (nvmearb_asked) by kind and identifier, until the next
+ * accepted Create of both. The admin queues lie at ASQ and ACQ, with vector 0 and interrupts enabled.
+ *
+ * The library doesn't know the memory: it accepts a Create where none is, or over another ring. The device checks each
+ * access, and that no address goes over the end of all addresses. Where an access to a ring fails, it sets CSTS.CFS and
+ * waits for the reset.
  *
  * The first of these that applies refuses a Create that isn't fused:
  *   1/02, Invalid Queue Size: QSIZE is above `mqes`
@@ -757,30 +708,27 @@ typedef struct nvmearb_post {
  *   1/01: CQID of a submission queue is 0 or above the allotted number
  *   1/00, Completion Queue Invalid: that queue isn't open.
  * NVMEARB_EARG as nvmearb_ctrl_init, and if `page` is no power of two, `mqes` isn't 1 to 4095, or `vectors` is 0.
- * Otherwise NVMEARB_ESIZE if `asq` or `acq` doesn't have 2 to 4096 slots. Their addresses are not compared.
+ * Otherwise NVMEARB_ESIZE for `asq` or `acq`. Their addresses are not compared.
  */
 uint32_t nvmearb_ctrl_init_anywhere(nvmearb_ctrl *ctrl, nvmearb_slot *slots, size_t count, const nvmearb_config *config,
                                     const nvmearb_placement *placement);
 
 /*
- * Initialises a controller with its admin queues alone, which are open, on region 0 of each kind. No command is
- * fetched, and all slots, `count` of 1 to NVMEARB_MAX_SLOTS, are free. Any bytes may lie in `ctrl` and the slots. The
- * slots keep their generations: don't clear them at a reset, and hand in the same ones, so that tags of before are used
- * up (nvmearb_command).
+ * Initialises a controller with its admin queues alone, which are open, on region 0 of each kind. All slots are free:
+ * `count` of 1 to NVMEARB_MAX_SLOTS. Any bytes may lie in `ctrl` and the slots. The slots keep their generations: hand
+ * in the same ones at a reset, and don't clear them, so that tags of before are used up.
  *
- * The device says beforehand where rings may lie, by nvmearb_ctrl_add_sq_region and nvmearb_ctrl_add_cq_region. A
- * Create names the address of such a region that no queue has used, and has exactly QSIZE + 1 slots. There are
- * NVMEARB_MAX_REGIONS of a kind, and no two have one address. A region is added before a Create of its address is
- * picked: of a controller whose device adds one later, docs/PROVED.md promises less.
- * NVMEARB_EARG if `count`, `mechanism`, `nsq`, `ncq`, `depth` or `admin_depth` is out of its range (nvmearb_config).
- * Otherwise the first of these: NVMEARB_ESIZE if `asq` doesn't have 2 to 4096 slots, NVMEARB_EUSED if both have one
- * address, NVMEARB_ESIZE if `acq` doesn't have 2 to 4096 slots.
+ * The device says beforehand where rings may lie (nvmearb_ctrl_add_sq_region, nvmearb_ctrl_add_cq_region). A Create
+ * names the address of a region that no queue has used and that has exactly QSIZE + 1 slots. Add a region before a
+ * Create of its address is picked: with one added later, docs/PROVED.md promises less.
+ * NVMEARB_EARG if `count`, `mechanism`, `nsq`, `ncq`, `depth` or `admin_depth` is out of its range. Otherwise the first
+ * of these: NVMEARB_ESIZE for `asq`, NVMEARB_EUSED if both have one address, NVMEARB_ESIZE for `acq`.
  */
 uint32_t nvmearb_ctrl_init(nvmearb_ctrl *ctrl, nvmearb_slot *slots, size_t count, const nvmearb_config *config);
 
 /*
- * Adds a submission region, which a Create I/O Submission Queue may name, and writes its number. Otherwise as
- * nvmearb_table_add_sq_region, whose refusals it has. NVMEARB_EMANY if queues may lie anywhere.
+ * Adds a submission region, as nvmearb_table_add_sq_region and with its refusals. NVMEARB_EMANY too if queues may lie
+ * anywhere.
  */
 uint32_t nvmearb_ctrl_add_sq_region(nvmearb_ctrl *ctrl, uint64_t address, uint16_t slots, uint16_t *number);
 
@@ -788,237 +736,212 @@ uint32_t nvmearb_ctrl_add_sq_region(nvmearb_ctrl *ctrl, uint64_t address, uint16
 uint32_t nvmearb_ctrl_add_cq_region(nvmearb_ctrl *ctrl, uint64_t address, uint16_t slots, uint16_t *number);
 
 /*
- * From now on the admin commands of this opcode are the device's. They are picked in their turn, and the device takes
- * and completes them as it does commands of I/O queues, at any later time. (An Asynchronous Event Request waits like
- * this.) Each making of the controller forgets it. The opcodes 00h, 01h, 04h, 05h, 09h and 0Ah stay the controller's,
- * and so does a fused command, which it refuses. PSDT is left to the device; the controller looks at that of no
- * command. A command that is neither's is answered with 0/01, Invalid Command Opcode, and Set and Get Features of such
- * a feature identifier with 0/02, Invalid Field in Command.
+ * From now on, until the next making, admin commands of this opcode are the device's. They are picked in their turn;
+ * the device takes and completes them as I/O commands, at any later time. The opcodes 00h, 01h, 04h, 05h, 09h and 0Ah
+ * stay the controller's, and so does a fused command, which it refuses. PSDT of every command is left to the device. A
+ * command that is neither's is answered with 0/01, and Set and Get Features of an identifier that is neither's with
+ * 0/02.
  *
- * The controller aborts a command that waits: it is answered with 0/07, Command Abort Requested. An Abort that names
- * any other command is answered with 1 as Dword 0, not aborted, unless NVMEARB_OPC_ABORT was announced here. Then it is
- * passed on to the device, which looks up the tag of that command by nvmearb_ctrl_named; nvmearb_admin_of tells its
- * queue and identifier. The device completes the command with 0/07 if it can end it, and then the Abort with 0 as Dword
- * 0, or else with 1. An Abort may name itself: compare the tags, and complete it with 1 as Dword 0. Where the host has
- * more Aborts out than Identify allows (ACL), the device completes one with 1/03, Abort Command Limit Exceeded.
- * capi/examples/admin.c ends Asynchronous Event Requests so.
+ * The controller aborts a command that waits: it is answered with 0/07. An Abort of any other command is answered with
+ * 1 as Dword 0, not aborted, unless NVMEARB_OPC_ABORT was announced here. Then the device gets the Abort, and finds the
+ * tag of that command by nvmearb_admin_of and nvmearb_ctrl_named. If it can end that command, it completes it with
+ * 0/07, and then the Abort with 0 as Dword 0; otherwise the Abort with 1. An Abort may name itself: compare the tags,
+ * and complete it with 1. Where the host has more Aborts out than Identify allows (ACL), complete one with 1/03, Abort
+ * Command Limit Exceeded. capi/examples/admin.c ends Asynchronous Event Requests so.
  */
 uint32_t nvmearb_ctrl_own_opcode(nvmearb_ctrl *ctrl, uint8_t opcode);
 
 /*
- * From now on Set Features and Get Features of this feature identifier are the device's, as nvmearb_ctrl_own_opcode
- * tells. Of the controller's own features, 01h and 07h, the device has no more than a Get Features that selects (SEL)
- * another value than the current one.
+ * From now on Set and Get Features of this feature identifier are the device's, as nvmearb_ctrl_own_opcode tells. Of
+ * 01h and 07h, the controller's own, the device has only a Get Features that selects (SEL) another value than the
+ * current one.
  */
 uint32_t nvmearb_ctrl_own_feature(nvmearb_ctrl *ctrl, uint8_t fid);
 
 /*
- * From now on at most `depth` commands of a submission queue hold a slot: those that wait, and those that are picked, with
- * the device, or to be posted. It takes the place of the depth that nvmearb_config says. Call it at any time, best before
- * the queue is created. An identifier keeps its depth until the next call, or until the controller is made anew, whatever
- * is created and deleted. Where more commands hold a slot already, nothing is fetched of the queue until fewer do. A depth
- * may be above the number of slots, but then queues share them (nvmearb_slot). `qid` 0 is the admin queue, whose depth has
- * to be above the number of Asynchronous Event Requests that the device holds, or no admin command is fetched any more.
+ * From now on at most `depth` commands of a submission queue hold a slot (nvmearb_slot). This replaces the depth of
+ * nvmearb_config until the next call or making, whatever is created and deleted. Call it at any time, best before the
+ * queue is created. Where more hold a slot already, nothing is fetched of the queue until fewer do. A depth may be
+ * above the number of slots, which queues share then. `qid` 0 is the admin queue: it fetches nothing any more once the
+ * device holds as many event requests as its depth.
  * NVMEARB_EARG if `qid` is above NVMEARB_MAX_IO_QUEUES or `depth` isn't 1 to NVMEARB_MAX_DEPTH.
  */
 uint32_t nvmearb_ctrl_set_depth(nvmearb_ctrl *ctrl, uint16_t qid, uint16_t depth);
 
 /*
- * From now on no command of a submission queue is picked, if `on` is 1, or they are again, if it is 0. It is for a queue
- * that the device can't serve, say since a namespace is busy. What waits in it stays there, and up to its depth it is
- * fetched as before; an Abort and a deletion still end it. Commands that were picked stay picked. The queue may be the
- * admin queue. A queue that is created anew isn't held.
+ * With an `on` of 1 no command of a submission queue is picked from now on, and with 0 they are again. It is for a
+ * queue, the admin queue too, that the device can't serve. Commands are still fetched up to its depth; an Abort and a
+ * deletion still end what waits. What was picked stays picked. A queue that is created anew isn't held.
  * NVMEARB_EARG if `on` is above 1; otherwise NVMEARB_NONE if the queue isn't open.
  */
 uint32_t nvmearb_ctrl_hold(nvmearb_ctrl *ctrl, uint16_t qid, uint8_t on);
 
 /*
  * From now on an I/O submission queue has this priority class, NVMEARB_URGENT to NVMEARB_LOW, whatever its Create asked
- * for (QPRIO). Linux asks for urgent for all, so that weights do nothing there: by this a device gives priorities. A
- * queue that is created anew has the class of its Create. Under round robin a class has no effect.
+ * for (QPRIO). A queue that is created anew has the class of its Create. Under round robin a class has no effect.
  * NVMEARB_EARG if `priority` is none of the four; otherwise NVMEARB_NONE if `qid` is 0, or the queue isn't open.
  */
 uint32_t nvmearb_ctrl_set_class(nvmearb_ctrl *ctrl, uint16_t qid, uint16_t priority);
 
 /*
- * The host wrote the tail doorbell of a submission queue: `tail` is bits 15:00 of the value.
- * NVMEARB_NONE if the queue isn't open (a write to an invalid doorbell register). Otherwise NVMEARB_EARG if the ring has
- * no such slot, or hasn't as many free slots (an invalid doorbell write value). A ring holds one command less than it has
- * slots.
- * A value that the doorbell has already is accepted, here and of a head, though the specification lets a controller
- * report it as an invalid doorbell write value. So a device with shadow doorbells hands in what it reads there.
+ * The host wrote the tail doorbell of a submission queue: `tail` is bits 15:00 of the value. A ring holds one command
+ * less than it has slots. A value that the doorbell has already is accepted, here and of a head, so hand in what a
+ * shadow doorbell has. The specification lets a controller report such a value as an invalid doorbell write value.
+ * NVMEARB_NONE if the queue isn't open (Invalid Doorbell Register). Otherwise NVMEARB_EARG if the ring has no such
+ * slot, or hasn't as many free slots (Invalid Doorbell Write Value).
  */
 uint32_t nvmearb_ctrl_sq_tail(nvmearb_ctrl *ctrl, uint16_t qid, uint16_t tail);
 
 /*
- * The host wrote the head doorbell of a completion queue: `head` is bits 15:00 of the value.
+ * The host wrote the head doorbell of a completion queue: `head` is bits 15:00 of the value. The host has entries to
+ * read, for which a pin stays asserted, unless `head` is the slot after that of the last post.
  * NVMEARB_NONE if the queue isn't open; otherwise NVMEARB_EARG if the ring has no such slot, or not as many completions
  * were posted.
- * The host has entries to read, for which a pin stays asserted, unless `head` is the slot after that of the last post.
  */
 uint32_t nvmearb_ctrl_cq_head(nvmearb_ctrl *ctrl, uint16_t cqid, uint16_t head);
 
 /*
  * Writes the slot of the ring of a submission queue whose entry is fetched next.
- * NVMEARB_NONE if the queue isn't open, the host submitted no more, or no slot of `ctrl` is free. Also if as many of
- * its commands hold a slot as its depth says, or if 256 of them wait, or as many as its ring has slots less 1.
+ * NVMEARB_NONE if the queue isn't open, the host submitted no more, or no slot of `ctrl` is free. Also if its commands
+ * hold as many slots as its depth, or 256 of them wait, or as many as its ring has slots less 1.
  */
 uint32_t nvmearb_ctrl_fetch(const nvmearb_ctrl *ctrl, uint16_t qid, uint16_t *slot);
 
 /*
  * Writes the next submission queue of which nvmearb_ctrl_fetch tells a slot, and that slot. Queues take turns by
  * ascending identifier, 0 after NVMEARB_MAX_IO_QUEUES. `qid` in: the queue told last; to begin with the admin queue,
- * NVMEARB_MAX_IO_QUEUES or more. Out: the queue told; unchanged if none.
- * With each call a queue that has an entry to fetch is told, or its turn comes nearer (law queues_take_turns,
- * crates/nvme_ctrl): while it has some, it is told within NVMEARB_MAX_QUEUES calls.
- * The rest of a queue that was told may be fetched by nvmearb_ctrl_fetch, which looks at no other. With fewer slots than
- * the depths have together, fetch one entry for each call, so that queues share the free slots.
- * NVMEARB_NONE if nvmearb_ctrl_fetch tells a slot of no queue.
+ * NVMEARB_MAX_IO_QUEUES or more. Out: the queue told; unchanged if none. A queue that keeps having an entry to fetch is
+ * told within NVMEARB_MAX_QUEUES calls (law queues_take_turns, crates/nvme_ctrl).
+ * nvmearb_ctrl_fetch tells further slots of a queue. With fewer slots than the depths have together, fetch one entry
+ * for each call, so that queues share the free ones.
+ * NVMEARB_NONE if there is no such queue.
  */
 uint32_t nvmearb_ctrl_next_fetch(const nvmearb_ctrl *ctrl, uint16_t *qid, uint16_t *slot);
 
 /*
- * The entry in the slot that nvmearb_ctrl_fetch tells was read: its command waits to be picked. `cookie` is kept with
- * it. A device that reads by DMA may make other calls before this one: until then the same slot of the queue is told
- * again, or none. If the deletion of the queue begins meanwhile, drop the entry.
+ * The entry in the slot that nvmearb_ctrl_fetch tells was read: its command waits to be picked, with `cookie`. Other
+ * calls may come before this one, as with DMA: until then the same slot of the queue is told again, or none. If the
+ * queue's deletion begins meanwhile, drop the entry.
  * NVMEARB_NONE if nvmearb_ctrl_fetch tells none.
  */
 uint32_t nvmearb_ctrl_fetched(nvmearb_ctrl *ctrl, nvmearb_slot *slots, size_t count, uint16_t qid,
                               const uint8_t bytes[NVMEARB_SQE_BYTES], uint32_t cookie);
 
 /*
- * Writes the pick that arbitration makes next of the commands that wait now, where there is room for all of it, whether
- * or not nvmearb_ctrl_pick can make it already.
+ * Writes the next pick of the commands that wait now, with room for all of it, whether or not nvmearb_ctrl_pick can
+ * make it yet.
  * NVMEARB_NONE if no command waits but in queues that are held.
  */
 uint32_t nvmearb_ctrl_peek(const nvmearb_ctrl *ctrl, const nvmearb_slot *slots, size_t count, nvmearb_pick *pick);
 
 /*
- * Makes the next pick of arbitration, and writes what it did. `room` says how many commands the device can take now; a
- * device without a bound passes NVMEARB_NO_LIMIT. The queue is the one that is picked with any room. Its n is the least
- * of the burst, what its class has left of its weight, what waits in the queue, and `room`. (The burst is the most that
- * may be fetched at a time: Command Arbitration.) The rest waits as nvmearb_arbiter_pick_up_to tells.
+ * Makes the next pick of arbitration, and writes what it did. `room` is how many commands the device can take now, or
+ * NVMEARB_NO_LIMIT. The queue is the same with any room. n is the least of the burst, what its class has left of its
+ * weight, what waits in the queue, and `room`. (The burst is the most that may be fetched at a time: Command
+ * Arbitration.) The rest waits as nvmearb_arbiter_pick_up_to tells.
  *
- * An admin command is picked alone, and wants a room of 1. A device that is full passes 1 where nvmearb_ctrl_peek names
- * queue 0. Under round robin that may name an I/O queue first: hold it (nvmearb_ctrl_hold), and peek again.
- * An admin command that isn't the device's is carried out at once. A deletion answers the waiting commands of its queue
- * with 0/08, and an Abort a waiting command with 0/07.
+ * An admin command is picked alone, and wants a room of 1: docs/EMBEDDING.md tells how a device that is full picks it.
+ * If it isn't the device's, it is carried out at once. A deletion answers the waiting commands of its queue with 0/08,
+ * and an Abort a waiting command with 0/07.
  *
- * NVMEARB_BUSY if commands are picked and not taken; otherwise NVMEARB_NONE if no command waits but in queues that are
- * held; otherwise NVMEARB_NOROOM if `room` is 0.
+ * NVMEARB_BUSY if commands are picked and not taken; otherwise NVMEARB_NONE as nvmearb_ctrl_peek; otherwise
+ * NVMEARB_NOROOM if `room` is 0.
  */
 uint32_t nvmearb_ctrl_pick(nvmearb_ctrl *ctrl, nvmearb_slot *slots, size_t count, uint16_t room, nvmearb_step *step);
 
-/*
- * The device takes the oldest of the commands that are picked and not taken: writes it.
- * NVMEARB_NONE if all are taken.
- */
+/* The device takes the oldest of the commands that are picked and not taken; NVMEARB_NONE if all are taken. */
 uint32_t nvmearb_ctrl_take(nvmearb_ctrl *ctrl, nvmearb_slot *slots, size_t count, nvmearb_command *command);
 
 /*
- * The device completes a command, whose completion is ready then. `dw0` is Dword 0 of its completion.
- * NVMEARB_EARG if `status->sct` is above 7; otherwise NVMEARB_NONE if the device has no command of this tag: none was
- * taken under it, or the tag is used up.
+ * The device completes a command, whose completion is ready then, with `dw0` as Dword 0.
+ * NVMEARB_EARG if `status->sct` is above 7; otherwise NVMEARB_NONE if the device has no command of this tag.
  */
 uint32_t nvmearb_ctrl_complete(nvmearb_ctrl *ctrl, nvmearb_slot *slots, size_t count, uint32_t tag,
                                const nvmearb_status *status, uint32_t dw0);
 
 /*
- * The device completes a command, with flags: NVMEARB_DNR, NVMEARB_MORE, both or 0. nvmearb_ctrl_complete gives none.
- * Otherwise as nvmearb_ctrl_complete; NVMEARB_EARG too if `flags` has another bit.
+ * As nvmearb_ctrl_complete, which gives no flags, with flags: NVMEARB_DNR, NVMEARB_MORE, both or 0.
+ * NVMEARB_EARG too if `flags` has another bit.
  */
 uint32_t nvmearb_ctrl_complete_with(nvmearb_ctrl *ctrl, nvmearb_slot *slots, size_t count, uint32_t tag,
                                     const nvmearb_status *status, uint32_t dw0, uint8_t flags);
 
 /*
- * Writes the completion that became ready first in the completion queue `cqid`, which goes into `slot` of its ring. To
- * the controller it is posted now. Let the write reach memory before that of a later completion of any queue: that of a
- * Delete may free the ring.
+ * Writes the completion that became ready first in a completion queue, which counts as posted now. Let the write reach
+ * memory before that of a later completion of any queue: that of a Delete may free the ring.
  * NVMEARB_NONE if the queue isn't open, if none is ready, or if the host has freed no slot of the ring.
  */
 uint32_t nvmearb_ctrl_post(nvmearb_ctrl *ctrl, nvmearb_slot *slots, size_t count, uint16_t cqid, nvmearb_post *post);
 
 /*
- * Writes the next completion queue of which nvmearb_ctrl_post gives a completion. Queues take turns as those of
- * nvmearb_ctrl_next_fetch, with `cqid` as `qid` there, and by the same law.
- * NVMEARB_NONE if nvmearb_ctrl_post gives one of no queue.
+ * Writes the next completion queue of which nvmearb_ctrl_post gives a completion. `cqid`, turns and law are as in
+ * nvmearb_ctrl_next_fetch.
+ * NVMEARB_NONE if there is no such queue.
  */
 uint32_t nvmearb_ctrl_next_to_post(const nvmearb_ctrl *ctrl, const nvmearb_slot *slots, size_t count, uint16_t *cqid);
 
 /*
- * Finishes a deletion of a submission queue, all of whose commands have their completions posted, and writes its
- * identifier, which is free then. The completion of the Delete is ready then. Of several it is the first one by
- * identifier. Until here nothing is fetched or picked of the queue, and the Delete isn't answered. A Delete of its
- * completion queue is refused (1/0c, Invalid Queue Deletion): also one that came with it, if this isn't done at once. What
- * the device has of the queue may still be completed and posted. Other queues go on, the admin queue among them, and
- * further deletions may begin: each waits for the commands of its own queue.
- * NVMEARB_NONE if of each queue that is being deleted a command that was fetched has no completion posted yet.
+ * Finishes a deletion of a submission queue all of whose commands have their completions posted; of several the first
+ * by identifier. Writes the identifier, which is free then. The completion of the Delete is ready then. Until here
+ * nothing is fetched or picked of the queue, and a Delete of its completion queue is refused (1/0c): also one that came
+ * with it, if this isn't done at once. What the device has of the queue may still be completed and posted. Other queues
+ * go on, the admin queue too, and further deletions may begin: each waits for the commands of its own queue.
+ * NVMEARB_NONE if each queue that is being deleted has a fetched command without a posted completion.
  */
 uint32_t nvmearb_ctrl_finish(nvmearb_ctrl *ctrl, nvmearb_slot *slots, size_t count, uint16_t *qid);
 
-/*
- * Writes the command of a tag once more.
- * NVMEARB_NONE if the device has no command of this tag.
- */
+/* Writes the command of a tag once more; NVMEARB_NONE if the device has no command of this tag. */
 uint32_t nvmearb_ctrl_command(const nvmearb_ctrl *ctrl, const nvmearb_slot *slots, size_t count, uint32_t tag,
                               nvmearb_command *command);
 
 /*
- * Writes the tag of the command with the identifier `cid`, of the submission queue `qid`, that the device has, so that
- * a device finds what an Abort names, which may be that Abort. If the host gave two of them one identifier, it is the
- * tag of either.
+ * Writes the tag of the command `cid` of submission queue `qid` that the device has, such as one that an Abort names.
+ * If the host gave two of them one identifier, it is the tag of either.
  * NVMEARB_NONE if the device has no such command: it waits, say, or is completed.
  */
 uint32_t nvmearb_ctrl_named(const nvmearb_ctrl *ctrl, const nvmearb_slot *slots, size_t count, uint16_t qid,
                             uint16_t cid, uint32_t *tag);
 
 /*
- * Whether a submission queue is open: writes the number of its region, which is `qid` where queues may lie anywhere.
- * NVMEARB_NONE if it isn't.
+ * Writes the region of a submission queue, `qid` where queues may lie anywhere; NVMEARB_NONE if the queue isn't open.
  */
 uint32_t nvmearb_ctrl_sq(const nvmearb_ctrl *ctrl, uint16_t qid, uint16_t *region);
 
 /*
- * Whether a completion queue is open: writes the number of its region, which is `cqid` where queues may lie anywhere.
- * NVMEARB_NONE if it isn't.
+ * Writes the region of a completion queue, `cqid` where queues may lie anywhere; NVMEARB_NONE if the queue isn't open.
  */
 uint32_t nvmearb_ctrl_cq(const nvmearb_ctrl *ctrl, uint16_t cqid, uint16_t *region);
 
-/*
- * Writes how many commands of a submission queue were fetched and wait to be picked.
- * NVMEARB_NONE if the queue isn't open.
- */
+/* Writes how many commands of a submission queue were fetched and wait to be picked; NVMEARB_NONE if it isn't open. */
 uint32_t nvmearb_ctrl_waiting(const nvmearb_ctrl *ctrl, uint16_t qid, uint16_t *count);
 
 /*
- * Writes the entry of a command that waits in a submission queue, and what the caller keeps with it. `n` counts from 0,
- * which is the oldest and picked first.
+ * Writes the entry and the cookie of a command that waits in a submission queue. `n` counts from 0, which is the oldest
+ * and picked first.
  * NVMEARB_NONE if the queue isn't open, or if at most `n` commands wait in it.
  */
 uint32_t nvmearb_ctrl_waits(const nvmearb_ctrl *ctrl, const nvmearb_slot *slots, size_t count, uint16_t qid,
                             uint16_t n, nvmearb_sqe *entry, uint32_t *cookie);
 
 /*
- * Writes what the next pick is shown of a submission queue: its priority class, and how many of its commands wait, 0 if
- * it is held. An arbiter that is shown all open queues so makes the same pick. capi/examples/trace.c writes a trace by
- * it.
+ * Writes what the next pick is shown of a submission queue; `count` is 0 if it is held. An arbiter that is shown all
+ * open queues so picks the same (capi/examples/trace.c).
  * NVMEARB_NONE if the queue isn't open.
  */
 uint32_t nvmearb_ctrl_seen(const nvmearb_ctrl *ctrl, uint16_t qid, nvmearb_seen *seen);
 
 /*
- * Tests whether something was written into a controller or its slots by mistake. It looks at the arbiter, heads and
- * tails, and each identifier of a queue or number of a slot that is used as one. It looks at the numbers of outstanding
- * and picked commands. Of each chain of slots it tests that it has as many as it says, in the pool and used for it. It is meant
- * for tests, for what was restored, and for a call that answers what it shouldn't. What the library wrote passes; not
+ * Tests whether something was written into a controller or its slots by mistake: for tests, what was restored, and a
+ * call that answers what it shouldn't. It looks at the arbiter, heads, tails, the numbers of outstanding and picked
+ * commands, each number used as one of a queue or a slot, and the chains of slots. What the library wrote passes. Not
  * each mistake is found, such as another command in a slot, or another queue in the queue table.
- * NVMEARB_ESTATE if `ctrl` isn't valid, `count` isn't that of the making, or one of these numbers is out of range.
+ * NVMEARB_ESTATE if `ctrl` isn't valid, `count` isn't that of the making, or one of these is out of range.
  */
 uint32_t nvmearb_ctrl_verify(const nvmearb_ctrl *ctrl, const nvmearb_slot *slots, size_t count);
 
 /*
- * Returns 1 if the library is the one of this header, of its version and with states of its sizes. Else it returns 0, so
- * also for an unproved one (NVMEARB_UNPROVED). Make no other call of a library of another header.
+ * Returns 1 if the library is that of this header, by its version and the sizes of its states. Else it returns 0, also
+ * for an unproved one (NVMEARB_UNPROVED). Make no other call of a library of another header.
  */
 static inline int nvmearb_is_of_this_header(void)
 {

@@ -127,7 +127,7 @@ impl StatusFlags {
 #[derive(Clone, Copy, Debug, PartialEq, Eq, Hash)]
 pub struct Post {
     /// The completion queue entry. Byte 15 has Do Not Retry in bit 7 and More in bit 6, and
-    /// [`Cqe::from_bytes`](crate::Cqe::from_bytes) takes no entry with a mark.
+    /// [`Cqe::from_bytes`](crate::Cqe::from_bytes) takes no entry with a flag.
     pub bytes: [u8; CQE_BYTES],
     /// The cookie of its command.
     pub cookie: u32,

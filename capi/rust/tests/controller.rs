@@ -74,7 +74,7 @@ fn passed_on(ctrl: &mut Controller, entry: Sqe) -> Tag {
 }
 
 /// A completion is posted to a completion queue: its slot, SQHD, command identifier, phase tag, status and Dword 0. It has
-/// neither mark.
+/// neither flag.
 fn posted(ctrl: &mut Controller, cqid: u16, want: (u16, u16, u16, bool, Status, u32)) {
     posted_with(ctrl, cqid, want, StatusFlags::default());
 }

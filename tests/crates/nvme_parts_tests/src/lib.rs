@@ -6,7 +6,11 @@ mod admin;
 #[cfg(test)]
 mod arbiter;
 #[cfg(test)]
+mod calls;
+#[cfg(test)]
 mod ctrl;
+#[cfg(test)]
+mod device;
 #[cfg(test)]
 mod entry;
 #[cfg(test)]

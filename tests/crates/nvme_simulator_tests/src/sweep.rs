@@ -324,7 +324,14 @@ fn runs_are_counted_on_a_terminal(rt: HostRuntime) -> Result<(), Fail> {
     };
     let (mut terminal, mut answer) = (Vec::new(rt.alloc()), Vec::new(rt.alloc()));
     let shown = Some(&mut terminal);
-    let done = sweep.answer(&rt, rt.alloc(), &style, shown, &mut answer, &mut None::<Vec<u8>>);
+    let done = sweep.answer(
+        &rt,
+        rt.alloc(),
+        &style,
+        shown,
+        &mut answer,
+        &mut None::<Vec<u8>>,
+    );
     assert!(rt; done.is_ok());
     assert!(rt; terminal.starts_with(b"\r"));
     assert!(rt; terminal.ends_with(b" of 2 runs\r\x1b[K"));

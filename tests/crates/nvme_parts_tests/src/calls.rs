@@ -1,11 +1,9 @@
 // The calls of a controller with an admin queue pair of 8 slots, and an I/O queue pair of 4 slots that the host creates.
-ghost use Rattle.std.specs.Prelude.{IfOk, length, ◌<◌, ◌^◌};
-ghost use Rattle.nvme_ctrl.specs.Standing.{IsController};
 
-use crate::ROOM;
 use nvme_admin::{AdminError, Limits, Region};
 use nvme_arbiter::{Class, Mechanism, Pick, Seen, Settings};
 use nvme_ctrl::{Answer, Controller, Post, Slot, StatusFlags, Step, Waiting};
+use nvme_ctrl_uses::ROOM;
 use nvme_entry::{Sqe, Status};
 use nvme_placing::{PRP_OFFSET_INVALID, Placement};
 use std::alloc::AllocError;
@@ -87,38 +85,23 @@ fn read(cid: u16) -> Sqe {
 }
 
 // The calls that write slots. Each leaves a controller a controller.
-fn pick(ctrl: &mut Controller, slots: &mut [Slot], room: u16) -> Step
-    requires { IsController ctrl.old slots.old }
-    ensures { IsController ctrl.new slots.new }
-{
+fn pick(ctrl: &mut Controller, slots: &mut [Slot], room: u16) -> Step {
     ctrl.pick(slots, room)
 }
 
-fn take(ctrl: &mut Controller, slots: &mut [Slot]) -> Option<u16>
-    requires { IsController ctrl.old slots.old }
-    ensures { IsController ctrl.new slots.new }
-{
+fn take(ctrl: &mut Controller, slots: &mut [Slot]) -> Option<u16> {
     ctrl.take(slots)
 }
 
-fn complete(ctrl: &mut Controller, slots: &mut [Slot], tag: u16, answer: Answer) -> bool
-    requires { IsController ctrl.old slots.old }
-    ensures { IsController ctrl.new slots.new }
-{
+fn complete(ctrl: &mut Controller, slots: &mut [Slot], tag: u16, answer: Answer) -> bool {
     ctrl.complete(slots, tag, answer)
 }
 
-fn post_next(ctrl: &mut Controller, slots: &mut [Slot], cqid: u16) -> Option<Post>
-    requires { IsController ctrl.old slots.old }
-    ensures { IsController ctrl.new slots.new }
-{
+fn post_next(ctrl: &mut Controller, slots: &mut [Slot], cqid: u16) -> Option<Post> {
     ctrl.post(slots, cqid)
 }
 
-fn finish(ctrl: &mut Controller, slots: &mut [Slot]) -> Option<u16>
-    requires { IsController ctrl.old slots.old }
-    ensures { IsController ctrl.new slots.new }
-{
+fn finish(ctrl: &mut Controller, slots: &mut [Slot]) -> Option<u16> {
     ctrl.finish(slots)
 }
 
@@ -131,26 +114,17 @@ fn fetch(
     qid: u16,
     slot: u16,
     entry: &Sqe,
-)
-    requires { IsController ctrl.old slots.old }
-    ensures { IsController ctrl.new slots.new }
-{
+) {
     assert_eq!(rt; ctrl.fetch(qid), Some(slot));
     assert!(rt; ctrl.fetched(slots, qid, entry, u32::from(entry.cid)));
 }
 
 // The host writes a tail doorbell, and a head doorbell.
-fn tail(rt: &impl Abort, ctrl: &mut Controller, slots: &[Slot], qid: u16, slot: u16, rung: bool)
-    requires { IsController ctrl.old slots.now }
-    ensures { IsController ctrl.new slots.now }
-{
+fn tail(rt: &impl Abort, ctrl: &mut Controller, slots: &[Slot], qid: u16, slot: u16, rung: bool) {
     assert_eq!(rt; ctrl.sq_tail(qid, slot), rung);
 }
 
-fn head(rt: &impl Abort, ctrl: &mut Controller, slots: &[Slot], cqid: u16, slot: u16, rung: bool)
-    requires { IsController ctrl.old slots.now }
-    ensures { IsController ctrl.new slots.now }
-{
+fn head(rt: &impl Abort, ctrl: &mut Controller, slots: &[Slot], cqid: u16, slot: u16, rung: bool) {
     assert_eq!(rt; ctrl.cq_head(cqid, slot), rung);
 }
 
@@ -173,29 +147,20 @@ fn posted(
 }
 
 // Adds the regions of the I/O queue pair.
-fn add_regions(ctrl: &mut Controller, slots: &[Slot]) -> Result<(), AdminError>
-    requires { IsController ctrl.old slots.now }
-    ensures { IsController ctrl.new slots.now }
-{
+fn add_regions(ctrl: &mut Controller, slots: &[Slot]) -> Result<(), AdminError> {
     ctrl.add_sq_region(SQ, 4)?;
     ctrl.add_cq_region(CQ, 4)?;
     Ok(())
 }
 
 // Adds the submission region of a second queue.
-fn add_second(ctrl: &mut Controller, slots: &[Slot]) -> Result<(), AdminError>
-    requires { IsController ctrl.old slots.now }
-    ensures { IsController ctrl.new slots.now }
-{
+fn add_second(ctrl: &mut Controller, slots: &[Slot]) -> Result<(), AdminError> {
     ctrl.add_sq_region(SECOND, 4)?;
     Ok(())
 }
 
 // Announces Abort, so that Aborts of what the device has are the device's.
-fn own_aborts(ctrl: &mut Controller, slots: &[Slot])
-    requires { IsController ctrl.old slots.now }
-    ensures { IsController ctrl.new slots.now }
-{
+fn own_aborts(ctrl: &mut Controller, slots: &[Slot]) {
     ctrl.own_opcode(0x08);
 }
 
@@ -204,10 +169,7 @@ fn prepared(
     rt: &impl Abort,
     mechanism: Mechanism,
     slots: &mut [Slot],
-) -> Result<Controller, AdminError>
-    requires few { length slots.old < 2 ^ 16 }
-    ensures front { IfOk result (λ c. IsController c slots.new) }
-{
+) -> Result<Controller, AdminError> {
     let limits = Limits { nsq: 4, ncq: 4 };
     // (no limit on the burst)
     let settings = Settings::from_cdw11(7);
@@ -228,10 +190,7 @@ fn prepared(
 }
 
 // The device takes the next command, and answers that it succeeded.
-fn serve_one(rt: &impl Abort, ctrl: &mut Controller, slots: &mut [Slot])
-    requires { IsController ctrl.old slots.old }
-    ensures { IsController ctrl.new slots.new }
-{
+fn serve_one(rt: &impl Abort, ctrl: &mut Controller, slots: &mut [Slot]) {
     let Some(tag) = take(ctrl, slots) else {
         assert!(rt; false, "nothing is picked");
         return;
@@ -240,10 +199,7 @@ fn serve_one(rt: &impl Abort, ctrl: &mut Controller, slots: &mut [Slot])
 }
 
 // A step of arbitration.
-fn step(rt: &impl Abort, ctrl: &mut Controller, slots: &mut [Slot], carries_out: bool)
-    requires { IsController ctrl.old slots.old }
-    ensures { IsController ctrl.new slots.new }
-{
+fn step(rt: &impl Abort, ctrl: &mut Controller, slots: &mut [Slot], carries_out: bool) {
     let step = pick(ctrl, slots, ROOM);
     assert_eq!(rt; matches!(step, Step::Done(..)), carries_out);
     assert!(rt; carries_out || matches!(step, Step::Picked(_)));
@@ -258,10 +214,7 @@ fn post_flagged(
     want: (u16, u16, u16, bool),
     status: Status,
     flags: StatusFlags,
-)
-    requires { IsController ctrl.old slots.old }
-    ensures { IsController ctrl.new slots.new }
-{
+) {
     posted(rt, post_next(ctrl, slots, cqid), want, status, flags);
 }
 
@@ -273,19 +226,19 @@ fn post(
     cqid: u16,
     want: (u16, u16, u16, bool),
     status: Status,
-)
-    requires { IsController ctrl.old slots.old }
-    ensures { IsController ctrl.new slots.new }
-{
+) {
     post_flagged(rt, ctrl, slots, cqid, want, status, StatusFlags::NONE);
 }
 
 // Two commands go through the rings from a slot on, with a phase tag.
-fn turn(rt: &impl Abort, ctrl: &mut Controller, slots: &mut [Slot], at: u16, next: u16, phase: bool)
-    requires few { at < 4 }
-    requires front { IsController ctrl.old slots.old }
-    ensures { IsController ctrl.new slots.new }
-{
+fn turn(
+    rt: &impl Abort,
+    ctrl: &mut Controller,
+    slots: &mut [Slot],
+    at: u16,
+    next: u16,
+    phase: bool,
+) {
     tail(rt, ctrl, slots, 1, next, true);
     fetch(rt, ctrl, slots, 1, at, &read(30));
     fetch(rt, ctrl, slots, 1, at + 1, &read(31));
@@ -306,11 +259,7 @@ fn turn(rt: &impl Abort, ctrl: &mut Controller, slots: &mut [Slot], at: u16, nex
 
 // The host submits three reads, of command identifiers that follow one another, and they are fetched. They fill the ring
 // of four slots.
-fn fill(rt: &impl Abort, ctrl: &mut Controller, slots: &mut [Slot], cid: u16)
-    requires few { cid < 100 }
-    requires front { IsController ctrl.old slots.old }
-    ensures { IsController ctrl.new slots.new }
-{
+fn fill(rt: &impl Abort, ctrl: &mut Controller, slots: &mut [Slot], cid: u16) {
     tail(rt, ctrl, slots, 1, 4, false);
     tail(rt, ctrl, slots, 1, 3, true);
     tail(rt, ctrl, slots, 1, 0, false);
@@ -325,10 +274,7 @@ fn fill(rt: &impl Abort, ctrl: &mut Controller, slots: &mut [Slot], cid: u16)
 }
 
 // They are picked, and the device takes them.
-fn take_three(rt: &impl Abort, ctrl: &mut Controller, slots: &mut [Slot]) -> Option<[u16; 3]>
-    requires { IsController ctrl.old slots.old }
-    ensures { IsController ctrl.new slots.new }
-{
+fn take_three(rt: &impl Abort, ctrl: &mut Controller, slots: &mut [Slot]) -> Option<[u16; 3]> {
     assert_eq!(rt; pick(ctrl, slots, 0), Step::NoRoom);
     let step = pick(ctrl, slots, ROOM);
     assert!(rt; matches!(step, Step::Picked(Pick { qid: 1, n: 3, .. })));
@@ -383,10 +329,7 @@ fn rings_go_round(rt: HostRuntime) -> Result<(), Fail> {
 }
 
 // Abort of command 41 of queue 1. The admin queue goes first. (Base Specification, Abort)
-fn abort_one(rt: &impl Abort, ctrl: &mut Controller, slots: &mut [Slot])
-    requires { IsController ctrl.old slots.old }
-    ensures { IsController ctrl.new slots.new }
-{
+fn abort_one(rt: &impl Abort, ctrl: &mut Controller, slots: &mut [Slot]) {
     let abort = entry(0x08, 12, 0, 41 << 16 | 1, 0);
     tail(rt, ctrl, slots, 0, 3, true);
     fetch(rt, ctrl, slots, 0, 2, &abort);
@@ -404,10 +347,7 @@ fn abort_one(rt: &impl Abort, ctrl: &mut Controller, slots: &mut [Slot])
 
 // An Abort of command 20 of queue 1 is passed on to the device, which has that command: it ends it, and answers the Abort.
 // (Base Specification, Abort)
-fn abort_taken(rt: &impl Abort, ctrl: &mut Controller, slots: &mut [Slot])
-    requires { IsController ctrl.old slots.old }
-    ensures { IsController ctrl.new slots.new }
-{
+fn abort_taken(rt: &impl Abort, ctrl: &mut Controller, slots: &mut [Slot]) {
     let abort = entry(0x08, 12, 0, 20 << 16 | 1, 0);
     tail(rt, ctrl, slots, 0, 3, true);
     fetch(rt, ctrl, slots, 0, 2, &abort);
@@ -446,10 +386,7 @@ fn device_aborts_what_it_has(rt: HostRuntime) -> Result<(), Fail> {
 
 // Delete of submission queue 1: nothing of it is fetched or picked any more. (Base Specification, Delete I/O Submission
 // Queue)
-fn begin_delete(rt: &impl Abort, ctrl: &mut Controller, slots: &mut [Slot])
-    requires { IsController ctrl.old slots.old }
-    ensures { IsController ctrl.new slots.new }
-{
+fn begin_delete(rt: &impl Abort, ctrl: &mut Controller, slots: &mut [Slot]) {
     let delete = entry(0x00, 13, 0, 1, 0);
     tail(rt, ctrl, slots, 0, 4, true);
     fetch(rt, ctrl, slots, 0, 3, &delete);
@@ -481,10 +418,7 @@ fn abort_and_deletion_end_what_waits(rt: HostRuntime) -> Result<(), Fail> {
 
 // The host creates submission queue 2 on its region, and deletes it and queue 1. Then it asks for the Arbitration feature,
 // while both are being deleted. (Base Specification, Get Features)
-fn delete_both(rt: &impl Abort, ctrl: &mut Controller, slots: &mut [Slot])
-    requires { IsController ctrl.old slots.old }
-    ensures { IsController ctrl.new slots.new }
-{
+fn delete_both(rt: &impl Abort, ctrl: &mut Controller, slots: &mut [Slot]) {
     tail(rt, ctrl, slots, 0, 6, true);
     fetch(
         rt,
@@ -584,10 +518,7 @@ fn reset_leaves_nothing(rt: HostRuntime) -> Result<(), Fail> {
 }
 
 // A controller whose queues may lie anywhere, for pages of 4,096 bytes, rings of at most 8 slots, and 2 vectors.
-fn anywhere(slots: &mut [Slot]) -> Result<Controller, AdminError>
-    requires few { length slots.old < 2 ^ 16 }
-    ensures front { IfOk result (λ c. IsController c slots.new) }
-{
+fn anywhere(slots: &mut [Slot]) -> Result<Controller, AdminError> {
     let placement = Placement {
         page: 4096,
         mqes: 7,
@@ -607,10 +538,7 @@ fn anywhere(slots: &mut [Slot]) -> Result<Controller, AdminError>
 
 // The host creates a queue pair, and deletes the submission queue. It creates it again in the same memory, with 2 slots,
 // and then another one at no multiple of the page.
-fn create_again(rt: &impl Abort, ctrl: &mut Controller, slots: &mut [Slot])
-    requires { IsController ctrl.old slots.old }
-    ensures { IsController ctrl.new slots.new }
-{
+fn create_again(rt: &impl Abort, ctrl: &mut Controller, slots: &mut [Slot]) {
     tail(rt, ctrl, slots, 0, 5, true);
     fetch(rt, ctrl, slots, 0, 0, &create_cq(10));
     step(rt, ctrl, slots, true);
