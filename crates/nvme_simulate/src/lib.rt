@@ -34,6 +34,3 @@ pub use runs::{Form, Measured, measure, simulate};
 pub use streams::Streams;
 pub use target::{Load, LoadFault, MAX_LOAD};
 pub use trace::{put_pick, put_trace_head};
-
-#[cfg(test)]
-mod tests;

@@ -19,6 +19,8 @@ mod plot;
 #[cfg(test)]
 mod replay;
 #[cfg(test)]
+mod simulate;
+#[cfg(test)]
 mod simulation;
 #[cfg(test)]
 mod sweep;

@@ -1,26 +1,32 @@
-// The digest of `abc` is that of FIPS 180-4. Loads, and the gaps that are scaled to them, are worked out by hand, and tails by
-// a few lines of Python.
-use crate::groups::groups_of;
-use crate::lengths::is_too_long;
-use crate::scaling::scaled;
-use crate::tails::{Reached, percentiles_of, tail_of};
-use crate::{
-    Digest, Form, Listings, Load, LoadFault, OverrideFault, Overrides, Progress, ReplayError,
-    SimulateFault, Source, Stream, Streams, model_in, overload_of, put_pick, put_trace_head,
-    simulate, sources_in,
-};
+// The digest of `abc` is that of FIPS 180-4. Loads, and the gaps that are scaled to them, are worked out by hand.
 use nvme_arbiter::{Class, Mechanism, Pick, Seen, Settings};
 use nvme_channels::Placement;
-use nvme_latency::Latencies;
 use nvme_load::{
     Arrivals, Closed, Distribution, Extent, Gap, Mean, Mix, Operation, Order, Phases, Places,
     Replay, Request, Service, Services,
 };
 use nvme_model::{Device, End, Model, Pauses, Queue};
+use nvme_simulate::{
+    Digest, Form, Listings, Load, LoadFault, OverrideFault, Overrides, Progress, ReplayError,
+    SimulateFault, Source, Stream, Streams, model_in, overload_of, put_pick, put_trace_head,
+    simulate, sources_in,
+};
 use nvme_simulation::Picked;
+use std::process::Abort;
 use std::test::Fail;
 
 const MICROSECOND: u64 = 1_000_000;
+
+// The model at this load.
+fn scaled(model: Model, load: Load) -> Result<Model, LoadFault> {
+    let overrides = Overrides {
+        seed: None,
+        end: None,
+        warm_up: None,
+        load: Some(load),
+    };
+    overrides.applied(model)
+}
 
 // A queue of reads that take 100 us each.
 fn queue(arrivals: Arrivals) -> Result<Queue, Fail> {
@@ -130,8 +136,8 @@ fn shape_of(arrivals: &Arrivals) -> (&'static str, u64, u64, u64) {
 
 // What the arrivals of the second queue of a model say, once it is scaled to a load. Those of the first one, which is closed,
 // stay.
-fn shape_at(
-    rt: &HostRuntime,
+fn shape_at<R: Abort>(
+    rt: &R,
     load: &str,
     model: Model,
 ) -> Result<(&'static str, u64, u64, u64), Fail> {
@@ -337,89 +343,6 @@ fn a_model_is_simulated(rt: HostRuntime) -> Result<(), Fail> {
     assert!(rt; trace.as_slice().starts_with(b"{\"version\":1,"));
     assert!(rt; chart.as_slice().starts_with(b"<svg "));
     assert!(rt; chart.as_slice().ends_with(b"</svg>\n"));
-    Ok(())
-}
-
-// The latencies are 1 to 1000.
-#[test]
-fn tails_pass_a_twentieth(rt: HostRuntime) -> Result<(), Fail> {
-    let mut latencies = Latencies::new(rt.alloc());
-    for time in 1..=1_000u64 {
-        latencies.add(time)?;
-    }
-    let ranked = latencies.ranked();
-    let percentiles = percentiles_of(rt.alloc(), &ranked)?;
-    for (at, name, time) in [(0, "p50", 500), (1, "p99", 990), (2, "p99.9", 999)] {
-        let found = percentiles.get(at).map(|it| (it.level.name, it.time));
-        assert_eq!(rt; found, Some((name, time)));
-    }
-    let tail = tail_of(rt.alloc(), &ranked, &percentiles)?;
-    assert_eq!(rt; tail.len(), 107);
-    for (at, count, time) in [
-        (0, 1_000, 1),
-        (1, 950, 51),
-        (13, 518, 483),
-        (14, 501, 500),
-        (15, 476, 525),
-        (69, 38, 963),
-        (70, 37, 964),
-        (106, 1, 1_000),
-    ] {
-        assert_eq!(rt; tail.get(at).copied(), Some(Reached { time, count }));
-    }
-    Ok(())
-}
-
-// Beyond the 99th percentile of 60 commands there is none, so it isn't marked.
-#[test]
-fn percentiles_have_a_command_beyond(rt: HostRuntime) -> Result<(), Fail> {
-    let mut latencies = Latencies::new(rt.alloc());
-    for time in 1..=60u64 {
-        latencies.add(time)?;
-    }
-    let percentiles = percentiles_of(rt.alloc(), &latencies.ranked())?;
-    assert_eq!(rt; percentiles.len(), 1);
-    let nothing = Latencies::new(rt.alloc()).ranked();
-    assert!(rt; percentiles_of(rt.alloc(), &nothing)?.is_empty());
-    assert!(rt; tail_of(rt.alloc(), &nothing, &[])?.is_empty());
-    Ok(())
-}
-
-#[test]
-fn queues_of_one_class_have_curves(rt: HostRuntime) -> Result<(), Fail> {
-    let mean = Mean::new(MICROSECOND)?;
-    let mut model = model(&rt, Arrivals::Poisson(mean), None)?;
-    let names = ["q1 high", "q2 high"];
-    let groups = groups_of(rt.alloc(), &model)?;
-    assert_eq!(rt; groups.len(), 2);
-    for (group, name) in groups.iter().zip(&names) {
-        assert_eq!(rt; group.name(rt.alloc())?.as_str(), *name);
-    }
-    for _ in 0..7 {
-        model.queues.push(queue(Arrivals::Poisson(mean))?)?;
-    }
-    let groups = groups_of(rt.alloc(), &model)?;
-    assert_eq!(rt; groups.len(), 1);
-    for group in &groups {
-        assert_eq!(rt; group.name(rt.alloc())?.as_str(), "high");
-        assert_eq!(rt; group.style(), 1);
-    }
-    Ok(())
-}
-
-// A command each 2^60 picoseconds, which are 16, beside a closed host that thinks 2^63, so that it has one turn of 8.
-#[test]
-fn commands_come_before_the_clock_ends(rt: HostRuntime) -> Result<(), Fail> {
-    for (commands, lasts) in [(24, false), (25, true)] {
-        let mut queues = Vec::new(rt.alloc());
-        queues.push(queue(Arrivals::Closed(Closed::new(8, 1 << 63)?))?)?;
-        queues.push(queue(Arrivals::Regular(Gap::new(1 << 60)?))?)?;
-        let device = Device::new(2, 4, Placement::Pool, None)?;
-        let settings = Settings::from_cdw11(0x0703_0103);
-        let end = End::after(commands)?;
-        let model = Model::new(Mechanism::Weighted, settings, device, queues, 7, end, 0)?;
-        assert_eq!(rt; is_too_long(&model), lasts);
-    }
     Ok(())
 }
 
