@@ -598,7 +598,7 @@ typedef struct nvmearb_slot {
  *   nvmearb_ctrl_pick of a Create or a Delete CQ                         the regions and the open queues
  *   nvmearb_ctrl_add_sq_region, nvmearb_ctrl_add_cq_region               the regions
  *   nvmearb_ctrl_finish                                                  the identifiers up to the queue's
- *   nvmearb_ctrl_next_fetch, nvmearb_ctrl_next_to_post                   the turns up to the queue's, 65 at most
+ *   nvmearb_ctrl_next_fetch, nvmearb_ctrl_next_to_post                   the queues before it whose work has to wait
  *
  * PC must be 1, and a ring has at most 4096 slots: CAP.CQR is 1, and CAP.MQES at most 4095. Commands without a posted
  * completion have no limit but the depths. A completion queue that its host doesn't read stops the submission queues
@@ -607,7 +607,7 @@ typedef struct nvmearb_slot {
 typedef struct nvmearb_ctrl {
     uint64_t mark;
     size_t count; /* the number of its slots */
-    uint64_t words[764];
+    uint64_t words[766];
 } nvmearb_ctrl;
 
 /* What a controller is made with. A depth isn't the size of a ring (nvmearb_ctrl_set_depth). */

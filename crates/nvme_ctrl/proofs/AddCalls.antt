@@ -215,6 +215,8 @@ module _ (rules : FrontRules) (late : Bool) (notes : Notes) (c : Controller) (po
       no_cqs = n.no_cqs;
       sq_size = n.sq_size;
       cq_size = n.cq_size;
+      rung = n.rung;
+      readied = n.readied;
     }
 
     sq_items : HasItems (with_table c table) pool sq_added s.items
@@ -394,6 +396,8 @@ module _ (rules : FrontRules) (late : Bool) (notes : Notes) (c : Controller) (po
       no_cqs = n.no_cqs;
       sq_size = n.sq_size;
       cq_size = n.cq_size;
+      rung = n.rung;
+      readied = n.readied;
     }
 
     cq_items : HasItems (with_table c table) pool cq_added s.items

@@ -44,6 +44,8 @@ use Rattle.nvme_ctrl.proofs.OutTags.{still_not_out-answered, still_not_out-flagg
 use Rattle.nvme_ctrl.proofs.SlotItems.{All-both, at_put, ready_state-range, out_stays, all_waiting_stay, all_ready_stay, all_free_stay}
 use Rattle.nvme_ctrl.proofs.AnsweredPlaces.{IsOther, is_other, at_hand, has_entries, has_it, queue_is, goes_to, answered, holds_answered, was_fetched, others_out, others_in_windows}
 use Rattle.nvme_ctrl.proofs.PendingDeletions.{deletions_stay}
+use Rattle.nvme_ctrl.specs.kept.QueueSets.{with_queue}
+use Rattle.nvme_ctrl.proofs.QueueSets.{readied-put}
 
 -- ---- what the device has, without a command
 -- a command among some is among those that are left without another
@@ -77,7 +79,7 @@ answered_cq c q chain = record (cq_at c.cqs q) { ready = chain }
 
 -- the controller, where a completion queue has a ready completion more
 abbrev pub answered_controller : Controller → ℕ → Chain → Controller
-answered_controller c q chain = record c { cqs = slice_set c.cqs q (answered_cq c q chain) }
+answered_controller c q chain = record c { cqs = slice_set c.cqs q (answered_cq c q chain); readied = with_queue c.readied q true }
 
 abbrev ready_item : Item → (sqid : ℕ) → Answer → StatusFlags → ReadyItem
 ready_item it sqid answer flags = record { tag = it.tag; ready = done sqid it.place it.entry.cid answer; was_out = true; flags = flags }
@@ -340,6 +342,8 @@ module _ (rules : FrontRules) (late : Bool) (notes : Notes) (c : Controller) (sl
         (λ closed. absurd (cc (closed, cq_life))) q (λ other. n.no_cqs q) none;
     sq_size = n.sq_size;
     cq_size = length-set c.cqs cqid (answered_cq c cqid chain) ∙ n.cq_size;
+    rung = n.rung;
+    readied = readied-put c.readied cqid true c.cqs (answered_cq c cqid chain) there n.readied (λ no. absurd (cc no));
   }
 
   -- the notes afterwards

@@ -315,6 +315,8 @@ module _ (kind : Kind) (a n : ℕ) where
           no_cqs = numbers.no_cqs;
           sq_size = numbers.sq_size;
           cq_size = numbers.cq_size;
+          rung = numbers.rung;
+          readied = numbers.readied;
         }
 
         -- the doorbells tell what they told

@@ -183,6 +183,8 @@ module _ (rules : FrontRules) (notes : Notes) (a : Controller) (slots : List Slo
       no_cqs = n.no_cqs;
       sq_size = n.sq_size;
       cq_size = n.cq_size;
+      rung = n.rung;
+      readied = n.readied;
     });
     has = has_pending;
     doorbells = (let d = h.doorbells in record { sqs = d.sqs; cqs = d.cqs; phases = d.phases; no_tails = d.no_tails; no_heads = d.no_heads; no_posts = d.no_posts });

@@ -36,6 +36,8 @@ use Rattle.nvme_ctrl.proofs.OpenQueues.{open_region, any_upto}
 use Rattle.nvme_ctrl.proofs.Lives.{put_sq-states, put_cq-states}
 use Rattle.nvme_ctrl.proofs.ToldQueues.{told_some, told_none, closing_same}
 use Rattle.nvme_ctrl.proofs.QueueStates.{IsSqWith, sq_with, sq_of_with, put_sq-regions, put_cq-regions, put_sq-with, put_sq-none, put_cq-none, kept_there, kept_cq_there, opened_apart, opened_where_open}
+use Rattle.nvme_ctrl.specs.kept.QueueSets.{with_queue}
+use Rattle.nvme_ctrl.proofs.QueueSets.{rung-put, readied-kept}
 
 -- ---- the queues of a table that are open
 -- the queue of an entry
@@ -111,7 +113,7 @@ abbrev pub with_ring : SqState → Ring → SqState
 with_ring state ring = record state { ring = ring }
 
 abbrev pub with_sq_ring : Controller → ℕ → Ring → Controller
-with_sq_ring c q ring = record c { sqs = slice_set c.sqs q (with_ring (sq_at c.sqs q) ring) }
+with_sq_ring c q ring = record c { sqs = slice_set c.sqs q (with_ring (sq_at c.sqs q) ring); rung = with_queue c.rung q true }
 
 module _ (c : Controller) (slots : List Slot) (k : Content) (q r : ℕ) (ring : Ring) (n : HasNumbers c k) (life : k.sq_life q ≡ Some r) where
   abbrev ring_state : SqState
@@ -149,6 +151,8 @@ module _ (c : Controller) (slots : List Slot) (k : Content) (q r : ℕ) (ring : 
     no_cqs = n.no_cqs;
     sq_size = length-set c.sqs q ring_state ∙ n.sq_size;
     cq_size = n.cq_size;
+    rung = rung-put c.rung q true c.sqs ring_state (kept_there c k n q r life) n.rung (λ no. absurd (cc no));
+    readied = n.readied;
   }
 
   sq_ring-items : (g : Items) → HasItems c slots k g → HasItems (with_sq_ring c q ring) slots k g
@@ -329,6 +333,8 @@ module _ (c : Controller) (slots : List Slot) (k : Content) (q r : ℕ) (ring : 
     no_cqs = put_cq-none c k n q r life cq_ring_state;
     sq_size = n.sq_size;
     cq_size = length-set c.cqs q cq_ring_state ∙ n.cq_size;
+    rung = n.rung;
+    readied = readied-kept c.readied q c.cqs cq_ring_state cq_there_is n.readied (λ none. none);
   }
 
   cq_ring-items : (g : Items) → HasItems c slots k g → HasItems (with_cq_ring c q ring) slots k g

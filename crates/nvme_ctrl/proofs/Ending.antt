@@ -31,6 +31,8 @@ use Rattle.nvme_ctrl.proofs.PutFlags.{put_flags}
 use Rattle.nvme_ctrl.proofs.OwnStatus.{All-unmap}
 use Rattle.nvme_ctrl.proofs.Pools.{length-put_item, item_at-put_item_same, item_at-put_item_other, next_at-put_item, chain-put_item, IsNew-nil, IsNew-cons, IsNew-append, chain-other, length-apart}
 use Rattle.nvme_ctrl.proofs.SlotItems.{All-both, ready_state-range, same_state, waiting_stays, out_stays, ready_stays}
+use Rattle.nvme_ctrl.specs.kept.QueueSets.{with_queue}
+use Rattle.nvme_ctrl.proofs.QueueSets.{readied-put}
 
 module _ (rules : FrontRules) (notes : Notes) (a : Controller) (slots : List Slot) (k : Content) (g : Items) (h : Keeps rules notes a slots k g) where
   -- a slot of another state is none of those that are ready
@@ -67,7 +69,7 @@ module _ (rules : FrontRules) (notes : Notes) (a : Controller) (slots : List Slo
   state = record (cq_at a.cqs cqid) { ready = chain }
 
   abbrev after : Controller
-  after = record a { cqs = slice_set a.cqs cqid state }
+  after = record a { cqs = slice_set a.cqs cqid state; readied = with_queue a.readied cqid true }
 
   there : cqid < length a.cqs
   there = let size = h.numbers.cq_size in let within = h.numbers.few_cqs cqid region life in omega (arith, within)
@@ -150,6 +152,8 @@ module _ (rules : FrontRules) (notes : Notes) (a : Controller) (slots : List Slo
     no_cqs = λ q. put_cq-states (λ (q : ℕ) (s : CqState). k.cq_life q ≡ None → s ≡ no_cq_state) a.cqs cqid state there (λ none. absurd (cc (none, life))) q (λ other. n.no_cqs q);
     sq_size = n.sq_size;
     cq_size = length-set a.cqs cqid state ∙ n.cq_size;
+    rung = n.rung;
+    readied = readied-put a.readied cqid true a.cqs state there n.readied (λ no. absurd (cc no));
   }
 
   items_after : HasItems after pool kept later
@@ -291,13 +295,13 @@ pub keeps_end : (rules : FrontRules) (notes : Notes) (a b : Controller) (slots m
     → s ≡ slot_at slots tag → mid ≡ put_item slots tag (record s { state = state; sct = status.sct; sc = status.sc; dw0 = dw0; more = bit (own_flags status).more; do_not_retry = bit (own_flags status).do_not_retry }) → cq ≡ cq_at a.cqs cqid
     → ((xs : List ℕ) → IsChain mid cq.ready xs → tag < length mid → IsNew tag xs → length xs + 1 < 2 ^ 16 → IsChain pool chain (xs ++ tag ∷ []))
     → SameItems mid pool → ((xs : List ℕ) → IsChain mid cq.ready xs → SameLinks xs mid pool)
-    → b ≡ record a { cqs = slice_set a.cqs cqid (record cq { ready = chain }) } → status.sct < 8
+    → b ≡ record a { cqs = slice_set a.cqs cqid (record cq { ready = chain }); readied = with_queue a.readied cqid true } → status.sct < 8
     → IsLoose slots g tag → MakesReady slots tag state status dw0 t → IsThrough notes t → IsCookie notes slots tag t.place → t.passed ≡ is_passed_at notes t.place → IsUnflagged notes t.place
     → (region : ℕ) → k.cq_life cqid ≡ Some region → k.sq_id t.place.region ≡ Some t.sqid
     → Keeps rules notes b pool (with_ready k region t) (with_item g region (ended tag t))
 keeps_end rules notes a b slots mid pool k g t tag state cqid dw0 status s cq chain h slot_is put cq_is pushes same links is few loose makes through cookie passed_as unflagged region life of_queue =
     subst (λ (c : Controller). Keeps rules notes c pool (with_ready k region t) (with_item g region (ended tag t)))
-    (sym (is ∙ ap (λ (c : CqState). record a { cqs = slice_set a.cqs cqid (record c { ready = chain }) }) cq_is))
+    (sym (is ∙ ap (λ (c : CqState). record a { cqs = slice_set a.cqs cqid (record c { ready = chain }); readied = with_queue a.readied cqid true }) cq_is))
     (keeps_ended rules notes a slots k g h tag loose cqid region life t through pool size others left chain
     (pushes (ready_tags (g.readies region)) linked (subst (λ (n : ℕ). tag < n) (sym mid_size) loose.inside) (loose.readies region) room) ready
     (same_cookies-but slots pool tag others (ap (λ (x : Slot). x.cookie) now ∙ ap (λ (x : Slot). x.cookie) slot_is)) cookie passed_as unflagged) where

@@ -1,5 +1,5 @@
 -- A fetch from a queue: when it may be made, and that the controller stands at its log afterwards.
-use Rattle.std.proofs.Common.{◌≡◌, ◌≢◌, ℕ, ◌+◌, ◌-◌, ◌%◌, ◌^◌, ◌<◌, ◌≤◌, ◌==◌, Bool, false, if◌then◌else◌, List, [], ◌∷◌, ◌++◌, length, map, take, drop, Option, Some, None, refl, sym, ap, ◌∙◌, subst, arith, inl, inr, length-append, length-drop, true, ◌&&◌}
+use Rattle.std.proofs.Common.{◌≡◌, ◌≢◌, ℕ, ◌+◌, ◌-◌, ◌%◌, ◌^◌, ◌<◌, ◌≤◌, ◌==◌, not, Bool, false, if◌then◌else◌, List, [], ◌∷◌, ◌++◌, length, map, take, drop, Option, Some, None, refl, sym, ap, ◌∙◌, subst, arith, inl, inr, length-append, length-drop, true, ◌&&◌}
 use Rattle.std.specs.Prelude.{slice_set, IsTrue, IsSomeAnd, IfSome, option_map, unwrap_or}
 use Rattle.std.specs.List.{All}
 use Rattle.std.proofs.lemmas.Bool.{cases_eq, eq-eqb, ne_eqb, and_parts, eqb-true}
@@ -58,6 +58,8 @@ use Rattle.nvme_ctrl.proofs.Standing.{holds-fetch}
 use Rattle.nvme_ctrl.proofs.ToldQueues.{told_some, closing_same}
 use Rattle.nvme_ctrl.proofs.Turns.{filled-is}
 use Rattle.nvme_ctrl.proofs.PendingDeletions.{deletions_stay}
+use Rattle.nvme_ctrl.specs.kept.QueueSets.{with_queue}
+use Rattle.nvme_ctrl.proofs.QueueSets.{rung-put, not_false}
 
 -- ---- what waits
 module _ (rules : FrontRules) (late : Bool) (notes : Notes) (c : Controller) (slots : List Slot) (s : StandsAt rules late notes c slots) where
@@ -226,7 +228,7 @@ fetched_state state window ring = record state { ring = ring; window = window }
 
 abbrev pub fetched_controller : Controller → ℕ → Chain → Chain → Ring → BoardFields → Controller
 fetched_controller c q free window ring board =
-    record c { sqs = slice_set c.sqs q (fetched_state (sq_at c.sqs q) window ring); free = free; board = board }
+    record c { sqs = slice_set c.sqs q (fetched_state (sq_at c.sqs q) window ring); free = free; board = board; rung = with_queue c.rung q (not (ring.head == ring.tail)) }
 
 abbrev pub fetched_item : (tag r n : ℕ) → Sqe → Item
 fetched_item tag r n entry = record { tag = tag; place = place_at r n; entry = entry }
@@ -409,6 +411,8 @@ module _ (rules : FrontRules) (late : Bool) (notes : Notes) (c : Controller) (sl
           no_cqs = n.no_cqs;
           sq_size = length-set c.sqs qid (fetched_state (sq_at c.sqs qid) window ring) ∙ n.sq_size;
           cq_size = n.cq_size;
+          rung = rung-put c.rung qid (not (ring.head == ring.tail)) c.sqs (fetched_state (sq_at c.sqs qid) window ring) there n.rung (λ same. eqb-true ring.head ring.tail (not_false (ring.head == ring.tail) same));
+          readied = n.readied;
         }
 
     -- ---- the commands

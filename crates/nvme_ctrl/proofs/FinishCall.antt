@@ -59,6 +59,7 @@ use Rattle.nvme_ctrl.specs.Deletions.{deleting}
 use Rattle.nvme_ctrl.specs.declared.state.SqState.{SqState}
 use Rattle.nvme_ctrl.proofs.DeletedQueues.{unheld_apart, unheld_undeleting}
 use Rattle.nvme_ctrl.proofs.PendingDeletions.{Here, Elsewhere, is_put, put-same, put-other, deletion_item, IsFlagged, flagged_item, item_flagged, none_counted, some_deletes, deletions_ended}
+use Rattle.nvme_ctrl.proofs.QueueSets.{rung-kept}
 
 -- what holds of the first n and of the others holds of all
 all_joined : {X : Type 0} (P : X → Type 0) (n : ℕ) (xs : List X) → All P (take n xs) → All P (drop n xs) → All P xs
@@ -434,6 +435,8 @@ module _ (rules : FrontRules) (late : Bool) (notes : Notes) (c : Controller) (sl
       no_cqs = n.no_cqs;
       sq_size = length-set c.sqs item.qid no_sq_state ∙ n.sq_size;
       cq_size = n.cq_size;
+      rung = rung-kept c.rung item.qid c.sqs no_sq_state (omega (arith, within, n.sq_size)) n.rung (λ same. refl);
+      readied = n.readied;
     }) where
       sq_left : (q r : ℕ) → q ≢ item.qid → k.sq_life q ≡ Some r → IsSqOf m k1 q r
       sq_left q r other is =

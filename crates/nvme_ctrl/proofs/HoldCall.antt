@@ -42,6 +42,7 @@ use Rattle.nvme_ctrl.proofs.QueueSteps.{agreement, holds_queues}
 use Rattle.nvme_ctrl.proofs.QueueWords.{in_log, in_content, counted, at_same, at_other}
 use Rattle.nvme_ctrl.proofs.Lives.{put_sq-states}
 use Rattle.nvme_ctrl.proofs.QueueStates.{IsSqWith, sq_of_with, put_sq-with, put_sq-none, put_sq-regions}
+use Rattle.nvme_ctrl.proofs.QueueSets.{rung-kept}
 
 -- another number for whether a queue is held
 abbrev pub held_state : SqState → ℕ → SqState
@@ -215,6 +216,8 @@ module _ (rules : FrontRules) (late : Bool) (notes : Notes) (c : Controller) (sl
     no_cqs = n.no_cqs;
     sq_size = length-set c.sqs q state ∙ n.sq_size;
     cq_size = n.cq_size;
+    rung = rung-kept c.rung q c.sqs state there n.rung (λ same. same);
+    readied = n.readied;
   }
 
   items_now : HasItems after slots now s.items

@@ -57,6 +57,7 @@ pub mod Pools
 pub mod Generations
 pub mod Chains
 pub mod QueueStates
+pub mod QueueSets
 pub mod Lives
 pub mod Phases
 pub mod PostCall
@@ -80,6 +81,7 @@ pub mod SlotStates
 pub mod FetchCalls
 pub mod NoPosts
 pub mod FetchTold
+pub mod RungQueues
 pub mod ToldQueues
 pub mod Freeing
 pub mod AddedTables

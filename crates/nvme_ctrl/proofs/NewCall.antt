@@ -211,6 +211,8 @@ made table board sq_slots cq_slots depths free = record {
   deletions = replicate 65 no_deletion;
   pending_deletions = 0;
   own = no_own;
+  rung = 0;
+  readied = 0;
 }
 
 module _ (rules : FrontRules) (mechanism : Mechanism) (settings : ArbitrationFields) (table : PlacedTable) (sq_slots cq_slots : ℕ)
@@ -291,6 +293,8 @@ module _ (rules : FrontRules) (mechanism : Mechanism) (settings : ArbitrationFie
       no_cqs = λ q none. each_cq (λ y state. y ≢ 0 → state ≡ no_cq_state) cq_slots (λ other. absurd (other refl)) (λ y other also. refl) q (only_others q none);
       sq_size = length-set (replicate 65 no_sq_state) 0 (first_sq_state sq_slots) ∙ length-replicate 65 no_sq_state;
       cq_size = length-set (replicate 65 no_cq_state) 0 (first_cq_state cq_slots) ∙ length-replicate 65 no_cq_state;
+      rung = λ q few out. each_sq (λ y state. state.ring.head ≡ state.ring.tail) sq_slots refl (λ y other. refl) q;
+      readied = λ q few out. each_cq (λ y state. state.ready.len ≡ 0) cq_slots refl (λ y other. refl) q;
     }
 
     none_pending : (r : ℕ) → deletion_at (replicate 65 no_deletion) r ≡ no_deletion

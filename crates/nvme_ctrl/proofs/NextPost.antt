@@ -1,16 +1,18 @@
 -- What the next post tells of its completion queue and its command.
-use Rattle.std.proofs.Common.{◌≡◌, ◌≢◌, ℕ, ◌+◌, ◌<◌, ◌≤◌, ◌==◌, ◌||◌, Bool, true, false, if◌then◌else◌, List, [], ◌∷◌, Some, None, refl, sym, subst, arith, inl, inr}
+use Rattle.std.proofs.Common.{◌≡◌, ◌≢◌, ℕ, ◌+◌, ◌<◌, ◌≤◌, ◌==◌, ◌||◌, Bool, true, false, if◌then◌else◌, List, [], ◌∷◌, Option, Some, None, refl, sym, subst, arith, inl, inr}
 use Rattle.std.specs.Prelude.{◌⊎◌}
 use Rattle.std.proofs.lemmas.Bool.{eqb-true, eqb-false, leb-true, leb-false}
 use Rattle.std.proofs.lemmas.Option.{same_Some}
 use Rattle.nvme_ctrl.specs.Doorbells.{gap}
-use Rattle.nvme_ctrl.specs.Posts.{IsPostOf, completion_of, is_full, first_post, post_in}
+use Rattle.nvme_ctrl.specs.Posts.{IsPostOf, completion_of, is_full, first_post, post_in, next_post_of}
 use Rattle.nvme_ctrl.specs.declared.posts.Post.{Post}
 use Rattle.nvme_ctrl.specs.declared.ring.Ring.{Ring}
 use Rattle.nvme_ctrl.specs.declared.slot.Slot.{Slot}
 use Rattle.nvme_ctrl.specs.declared.state.CqState.{CqState}
 use Rattle.nvme_ctrl.specs.declared.state.Controller.{Controller}
 use Rattle.nvme_ctrl.specs.kept.Pool.{slot_at, flags_in, IsChain}
+use Rattle.nvme_ctrl.specs.kept.State.{cq_at}
+use Rattle.nvme_ctrl.specs.kept.QueueSets.{has_queue}
 use Rattle.nvme_ctrl.proofs.Pools.{linked-head}
 
 -- a ring is full where it has no slot free
@@ -36,6 +38,21 @@ postable c slots cq p h = by (is_full cq.ring) (cq.ready.len == 0) refl refl h w
     some = eqb-false cq.ready.len 0 n;
     post_is = same_Some p (first_post c slots cq) e;
   }
+
+-- there is one in a queue that is in the set of those that may have ready completions, or there is none for it isn't in it
+some_in : (b : Bool) (o : Option Post) (p : Post) → Some p ≡ (if b then o else None) → Some p ≡ o
+some_in true o p h = h
+some_in false o p h = cc h
+
+pub some_is_in : (c : Controller) (slots : List Slot) (cqid : ℕ) (p : Post) → Some p ≡ next_post_of c slots cqid → Some p ≡ post_in c slots (cq_at c.cqs cqid)
+some_is_in c slots cqid p h = some_in (has_queue c.readied cqid) _ p h
+
+none_out : (b : Bool) (o : Option Post) → (if b then o else None) ≡ None → (b ≡ false) ⊎ (o ≡ None)
+none_out true o h = inr h
+none_out false o h = inl refl
+
+pub none_is_out : (c : Controller) (slots : List Slot) (cqid : ℕ) → next_post_of c slots cqid ≡ None → (has_queue c.readied cqid ≡ false) ⊎ (post_in c slots (cq_at c.cqs cqid) ≡ None)
+none_is_out c slots cqid h = none_out (has_queue c.readied cqid) _ h
 
 -- it is that of the command in its slot
 pub by_command : (c : Controller) (slots : List Slot) (cq : CqState) (p : Post) → p ≡ first_post c slots cq

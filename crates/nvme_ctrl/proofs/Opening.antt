@@ -35,6 +35,7 @@ use Rattle.nvme_ctrl.proofs.CarriedOut.{none_picked_of}
 use Rattle.nvme_ctrl.proofs.Lives.{put_cq-states, ids_opened, ids_closed}
 use Rattle.nvme_ctrl.proofs.PendingDeletions.{none_deletes}
 use Rattle.nvme_ctrl.proofs.Windowed.{keeps_board}
+use Rattle.nvme_ctrl.proofs.QueueSets.{rung-kept, readied-kept}
 
 -- ---- lives
 -- the life of an identifier, where another one is put
@@ -153,6 +154,8 @@ module _ (rules : FrontRules) (notes : Notes) (a : Controller) (slots : List Slo
     no_cqs = λ q none. let p = none_left k.cq_life cqid x q none in cq_left q p.0 ∙ n.no_cqs q p.1;
     sq_size = n.sq_size;
     cq_size = length-set a.cqs cqid cq_state ∙ n.cq_size;
+    rung = n.rung;
+    readied = readied-kept a.readied cqid a.cqs cq_state cq_there n.readied (λ none. refl);
   }
 
   cq_items : HasItems cq_after slots cq_kept g
@@ -270,6 +273,8 @@ module _ (rules : FrontRules) (notes : Notes) (a : Controller) (slots : List Slo
         (λ differs none. n.no_cqs q (sym (life_other k.cq_life cqid None q differs) ∙ none)) none;
     sq_size = n.sq_size;
     cq_size = length-set a.cqs cqid no_cq_state ∙ n.cq_size;
+    rung = n.rung;
+    readied = readied-kept a.readied cqid a.cqs no_cq_state close_there n.readied (λ none. refl);
   }
 
   close_items : HasItems after_close slots kept_close g
@@ -440,6 +445,8 @@ module _ (rules : FrontRules) (notes : Notes) (a : Controller) (slots : List Slo
     no_cqs = n.no_cqs;
     sq_size = length-set a.sqs qid sq_state ∙ n.sq_size;
     cq_size = n.cq_size;
+    rung = rung-kept a.rung qid a.sqs sq_state sq_there n.rung (λ same. refl);
+    readied = n.readied;
   }
 
   nothing_waits : g.windows region ≡ []

@@ -31,6 +31,8 @@ owned rules late notes c slots own depths s = record {
     no_cqs = n.no_cqs;
     sq_size = n.sq_size;
     cq_size = n.cq_size;
+    rung = n.rung;
+    readied = n.readied;
   });
   has = (let m = s.has in record {
     window_chain = m.window_chain;

@@ -58,6 +58,7 @@ use Rattle.nvme_ctrl.specs.Observation.{observed_of}
 use Rattle.nvme_log.specs.Histories.{arbitration_of}
 use Rattle.nvme_ctrl.specs.declared.slot.Slot.{Slot}
 use Rattle.nvme_ctrl.specs.declared.state.Controller.{Controller}
+use Rattle.nvme_ctrl.proofs.QueueSets.{rung-kept}
 
 module _ (rules : FrontRules) (late : Bool) (notes : Notes) (c : Controller) (slots : List Slot) (s : StandsAt rules late notes c slots) where
   abbrev past : Past
@@ -238,6 +239,8 @@ module _ (rules : FrontRules) (late : Bool) (notes : Notes) (c : Controller) (sl
     no_cqs = n.no_cqs;
     sq_size = length-set c.sqs q (picked_state c q pick.n) ∙ n.sq_size;
     cq_size = n.cq_size;
+    rung = rung-kept c.rung q c.sqs (picked_state c q pick.n) there n.rung (λ same. same);
+    readied = n.readied;
   }
 
   -- ---- items

@@ -1,5 +1,5 @@
 -- A post: what its function did, the command whose completion is posted, and that it may be.
-use Rattle.std.proofs.Common.{◌≡◌, ℕ, ◌+◌, ◌-◌, ◌<◌, ◌^◌, ◌%◌, ◌==◌, Bool, if◌then◌else◌, List, [], ◌∷◌, ◌++◌, length, Option, Some, None, sym, ap, ◌∙◌, arith}
+use Rattle.std.proofs.Common.{◌≡◌, ℕ, ◌+◌, ◌-◌, ◌<◌, ◌^◌, ◌%◌, ◌==◌, not, Bool, if◌then◌else◌, List, [], ◌∷◌, ◌++◌, length, Option, Some, None, sym, ap, ◌∙◌, arith}
 use Rattle.std.specs.Prelude.{slice_set, option_map}
 use Rattle.std.proofs.lemmas.Option.{same_Some}
 use Rattle.std.proofs.lemmas.List.Elements.{All-head, All-same}
@@ -25,6 +25,7 @@ use Rattle.nvme_ctrl.specs.kept.Kept.{ReadyItem, Items, readies_of, IsReadyIn, S
 use Rattle.nvme_ctrl.specs.Posts.{completion_of}
 use Rattle.nvme_ctrl.proofs.AfterSteps.{CanPost, post_event, after_post}
 use Rattle.nvme_ctrl.proofs.Standing.{holds-post}
+use Rattle.nvme_ctrl.specs.kept.QueueSets.{with_queue}
 
 -- the pool where a slot's command is gone
 abbrev pub freed : List Slot → ℕ → List Slot
@@ -101,6 +102,7 @@ abbrev pub controller_after : PostCall → Controller
 controller_after p = record p.c {
   sqs = slice_set p.c.sqs (command p).sqid (sq_after p.c (command p).sqid);
   cqs = slice_set p.c.cqs p.cqid p.cq;
+  readied = with_queue p.c.readied p.cqid (not (p.cq.ready.len == 0));
   outstanding = if (command p).state == 5 then p.c.outstanding else p.c.outstanding - 1;
   free = p.free;
 }

@@ -2,7 +2,7 @@
 use Rattle.nvme_log.proofs.Turns.{admin-unaborted}
 use Rattle.nvme_log.specs.Account.{PostsOwnBy}
 use Rattle.nvme_ctrl.proofs.Noted.{each-event}
-use Rattle.std.proofs.Common.{◌≡◌, ◌≢◌, ℕ, ◌+◌, ◌<◌, ◌≤◌, ◌%◌, ◌==◌, ◌&&◌, ◌⊎◌, Bool, true, false, if◌then◌else◌, List, [], ◌∷◌, ◌++◌, length, Option, Some, None, is_some, refl, get_or, sym, ap, ◌∙◌, subst, arith, length-append, inl, inr, eqb-true, MatchBool}
+use Rattle.std.proofs.Common.{◌≡◌, ◌≢◌, ℕ, ◌+◌, ◌<◌, ◌≤◌, ◌%◌, ◌==◌, ◌&&◌, ◌⊎◌, not, Bool, true, false, if◌then◌else◌, List, [], ◌∷◌, ◌++◌, length, Option, Some, None, is_some, refl, get_or, sym, ap, ◌∙◌, subst, arith, length-append, inl, inr, eqb-true, MatchBool}
 use Rattle.std.specs.Prelude.{All, slice_set}
 use Rattle.std.proofs.lemmas.Bool.{cases_eq, eq-eqb, ne_eqb, or_left, or_right, and_parts}
 use Rattle.std.proofs.lemmas.List.Sums.{get_or-le-sum_by}
@@ -43,6 +43,7 @@ use Rattle.nvme_ctrl.proofs.PostNumbers.{numbers_after, counts_before, has_room,
 use Rattle.nvme_ctrl.proofs.PostItems.{tag, size_is, other_kept, tag_freed, ready_contents, has_after, tag_cookie}
 use Rattle.nvme_ctrl.proofs.OutTags.{still_not_out-logged}
 use Rattle.nvme_ctrl.proofs.SlotItems.{All-both, All-parts, at_put}
+use Rattle.nvme_ctrl.specs.kept.QueueSets.{with_queue}
 
 -- ---- who holds a tag after a post
 -- another place than the posted one keeps its tag
@@ -346,7 +347,7 @@ posted_call p = record {
 
 -- the controller that the function leaves
 abbrev pub left_by : Controller → List Slot → (cqid tag : ℕ) → CqState → Chain → Controller
-left_by c slots cqid tag cq free = record (counted_post (record c { cqs = slice_set c.cqs cqid cq }) (slot_at slots tag)) { free = free }
+left_by c slots cqid tag cq free = record (counted_post (record c { cqs = slice_set c.cqs cqid cq; readied = with_queue c.readied cqid (not (cq.ready.len == 0)) }) (slot_at slots tag)) { free = free }
 
 -- no completion is ready in a queue that isn't open
 none_open : (c : Controller) (slots : List Slot) (cqid : ℕ) → cq_at c.cqs cqid ≡ no_cq_state → IsChain slots (cq_at c.cqs cqid).ready []
@@ -389,13 +390,13 @@ call_posts rules late notes c slots cqid tag cq free new stands did = by (stands
 -- so do the steps of the function, one after another
 pub steps_post : (rules : FrontRules) (late : Bool) (notes : Notes) (c put counted : Controller) (slots pool : List Slot) (cqid tag : ℕ) (old cq : CqState) (command : Slot) (free : Chain)
     (new : List Slot) (cqe : Cqe)
-    → old ≡ cq_at c.cqs cqid → command ≡ slot_at slots tag → cqe ≡ completion_of c command (old.phase == 1) → put ≡ record c { cqs = slice_set c.cqs cqid cq }
+    → old ≡ cq_at c.cqs cqid → command ≡ slot_at slots tag → cqe ≡ completion_of c command (old.phase == 1) → put ≡ record c { cqs = slice_set c.cqs cqid cq; readied = with_queue c.readied cqid (not (cq.ready.len == 0)) }
     → counted ≡ counted_post put command → pool ≡ put_item slots tag (record command { state = 0 })
     → HasDone old counted.free slots pool tag cq free new → StandsAt rules late notes c slots
     → HasPosted rules late notes cqid old.ring.tail cqe command.cookie (flags_in command) (record counted { free = free }) new
 steps_post rules late notes c put counted slots pool cqid tag old cq command free new cqe is_old is_command is_cqe is_put is_counted is_pool did stands =
     let first : cqe ≡ completion_of c (slot_at slots tag) ((cq_at c.cqs cqid).phase == 1) = is_cqe ∙ (λ j. completion_of c (is_command j) ((is_old j).phase == 1)) in
-    let left : counted ≡ counted_post (record c { cqs = slice_set c.cqs cqid cq }) (slot_at slots tag) = is_counted ∙ (λ j. counted_post (is_put j) (is_command j)) in
+    let left : counted ≡ counted_post (record c { cqs = slice_set c.cqs cqid cq; readied = with_queue c.readied cqid (not (cq.ready.len == 0)) }) (slot_at slots tag) = is_counted ∙ (λ j. counted_post (is_put j) (is_command j)) in
     let pools : pool ≡ freed slots tag = is_pool ∙ ap (λ (s : Slot). put_item slots tag (record s { state = 0 })) is_command in
     let done : HasDone (cq_at c.cqs cqid) c.free slots (freed slots tag) tag cq free new =
     subst (λ (o : CqState). HasDone o c.free slots (freed slots tag) tag cq free new) is_old

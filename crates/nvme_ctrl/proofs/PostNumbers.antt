@@ -1,6 +1,6 @@
 -- After a post the numbers of a controller are those of its content, and its rings go by the doorbells.
 use Rattle.std.proofs.Common.{◌≡◌, ◌≢◌, ℕ, ◌+◌, ◌-◌, ◌<◌, ◌==◌, Bool, true, false, not, if◌then◌else◌, [], ◌∷◌, length, Option, Some, None, ◌||◌, refl, sym, ap, ◌∙◌, subst, arith, length-append}
-use Rattle.std.proofs.lemmas.Bool.{eq-eqb, ne_eqb, or_left, or_right}
+use Rattle.std.proofs.lemmas.Bool.{eq-eqb, eqb-true, ne_eqb, or_left, or_right}
 use Rattle.std.proofs.lemmas.List.{length-set}
 use Rattle.nvme_log.specs.Places.{fetched, one_if}
 use Rattle.nvme_log.specs.Completions.{posted_to, phase_after}
@@ -21,6 +21,7 @@ use Rattle.nvme_ctrl.specs.declared.ring.Ring.{Ring}
 use Rattle.std.proofs.lemmas.Option.{same_Some}
 use Rattle.nvme_ctrl.proofs.Turns.{filled-is}
 use Rattle.nvme_ctrl.proofs.PostCall.{PostCall, content, past_of, command, region, cqe_of, later, notes_after, content_after, sq_after, controller_after, ready_in, life_is, sqs_have, cqs_have}
+use Rattle.nvme_ctrl.proofs.QueueSets.{rung-kept, readied-put, not_false}
 
 -- ---- the states of submission queues, with the content of their regions
 -- what isn't counted by a post is left
@@ -111,6 +112,8 @@ numbers_after p =
           (λ no. absurd (let life = p.life in cc (no, life))) q (λ other no. h.no_cqs q no) none;
       sq_size = length-set p.c.sqs (command p).sqid (sq_after p.c (command p).sqid) ∙ h.sq_size;
       cq_size = length-set p.c.cqs p.cqid p.cq ∙ h.cq_size;
+      rung = rung-kept p.c.rung (command p).sqid p.c.sqs (sq_after p.c (command p).sqid) (sqs_have p) h.rung (λ same. same);
+      readied = readied-put p.c.readied p.cqid (not (p.cq.ready.len == 0)) p.c.cqs p.cq (cqs_have p) h.readied (λ none. eqb-true p.cq.ready.len 0 (not_false (p.cq.ready.len == 0) none));
     } where
       cqs_after : (q x : ℕ) → (content p).cq_life q ≡ Some x → ((cq_at (controller_after p).cqs q).ring.slots ≡ ((content_after p).cq x).slots) × (0 < ((content_after p).cq x).slots)
       cqs_after =

@@ -33,6 +33,7 @@ use Rattle.nvme_ctrl.proofs.ReadyHand.{All-taken}
 use Rattle.nvme_ctrl.proofs.Lives.{one_life, one_id, put_sq-lives, put_sq-states}
 use Rattle.nvme_ctrl.proofs.SlotItems.{All-both, at_put, take_step, drop_step, ready_state-range, other_state, waiting_stays, out_stays, all_ready_stay, all_free_stay}
 use Rattle.nvme_ctrl.proofs.PendingDeletions.{deletions_stay}
+use Rattle.nvme_ctrl.proofs.QueueSets.{rung-kept}
 
 -- the item between two lists
 slice_get-next : {X : Type 0} (xs : List X) (x : X) (ys : List X) → slice_get (xs ++ x ∷ ys) (length xs) ≡ Some x
@@ -264,6 +265,8 @@ module _ (c : Controller) (slots : List Slot) (k : Content) (g : Items) (n : Has
     no_cqs = n.no_cqs;
     sq_size = length-set c.sqs q (took_sq c chain) ∙ n.sq_size;
     cq_size = n.cq_size;
+    rung = rung-kept c.rung q c.sqs (took_sq c chain) there n.rung (λ same. same);
+    readied = n.readied;
   }
 
   -- so are the rings

@@ -38,6 +38,7 @@ use Rattle.nvme_ctrl.proofs.Passed.{passed_left}
 use Rattle.nvme_ctrl.proofs.Cookies.{SameCookies, same_cookies, cookie_left, items_left, readies_left}
 use Rattle.nvme_ctrl.proofs.Pools.{chain-other}
 use Rattle.nvme_ctrl.proofs.SlotItems.{ready_state-range}
+use Rattle.nvme_ctrl.proofs.QueueSets.{rung-kept}
 
 -- other items in the window of a region
 abbrev pub with_window : Items → ℕ → List Item → Items
@@ -281,6 +282,8 @@ module _ (rules : FrontRules) (notes : Notes) (a : Controller) (slots : List Slo
     no_cqs = n.no_cqs;
     sq_size = length-set a.sqs qid s ∙ n.sq_size;
     cq_size = n.cq_size;
+    rung = rung-kept a.rung qid a.sqs s there n.rung (λ same. ap (λ (z : Ring). z.head) ring ∙ same ∙ sym (ap (λ (z : Ring). z.tail) ring));
+    readied = n.readied;
   }
 
   items_after : HasItems after pool kept later
@@ -395,6 +398,8 @@ keeps_outstanding rules notes a slots k g board v n m h is arbiter same = record
     no_cqs = n.no_cqs;
     sq_size = n.sq_size;
     cq_size = n.cq_size;
+    rung = n.rung;
+    readied = n.readied;
   });
   has = (let m = h.has in record {
     window_chain = m.window_chain;
@@ -477,6 +482,8 @@ keeps_table rules notes a slots k g table t h tells stays = record {
     no_cqs = n.no_cqs;
     sq_size = n.sq_size;
     cq_size = n.cq_size;
+    rung = n.rung;
+    readied = n.readied;
   });
   has = (let m = h.has in record {
     window_chain = m.window_chain;

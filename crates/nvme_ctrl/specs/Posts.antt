@@ -9,6 +9,7 @@ use Rattle.nvme_ctrl.specs.Doorbells.{gap, cq_slots, consumed}
 use Rattle.nvme_ctrl.specs.Tags.{is_through}
 use Rattle.nvme_ctrl.specs.kept.Pool.{slot_at, flags_in}
 use Rattle.nvme_ctrl.specs.kept.State.{sq_at, cq_at}
+use Rattle.nvme_ctrl.specs.kept.QueueSets.{has_queue}
 use Rattle.nvme_ctrl.specs.declared.status_flags.StatusFlags.{StatusFlags}
 use Rattle.nvme_ctrl.specs.declared.posts.Post.{Post}
 use Rattle.nvme_ctrl.specs.declared.ring.Ring.{Ring}
@@ -65,6 +66,6 @@ first_post c slots cq = record {
 abbrev pub post_in : Controller → List Slot → CqState → Option Post
 post_in c slots cq = if is_full cq.ring || cq.ready.len == 0 then None else Some (first_post c slots cq)
 
--- the next post to the completion queue of an identifier
+-- the next post to the completion queue of an identifier: none where it isn't among those that may have ready completions
 abbrev pub next_post_of : Controller → List Slot → (cqid : ℕ) → Option Post
-next_post_of c slots cqid = post_in c slots (cq_at c.cqs cqid)
+next_post_of c slots cqid = if has_queue c.readied cqid then post_in c slots (cq_at c.cqs cqid) else None

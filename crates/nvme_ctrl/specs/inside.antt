@@ -8,3 +8,4 @@ pub mod First
 pub mod Loose
 pub mod Carrying
 pub mod Lookups
+pub mod Turns

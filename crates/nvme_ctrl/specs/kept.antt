@@ -4,4 +4,5 @@ pub mod Content
 pub mod Standing
 pub mod Pool
 pub mod State
+pub mod QueueSets
 pub mod Kept

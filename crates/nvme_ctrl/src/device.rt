@@ -1,4 +1,5 @@
 // The commands that the device takes, and its answers. (tags: profile)
+use crate::queue_set::with_queue;
 use crate::slot::{ANSWERED, OUT, Slot, put_item, put_out, slot_at};
 use crate::state::Controller;
 use crate::status_flags::{StatusFlags, bit};
@@ -83,6 +84,7 @@ impl Controller {
         let mut cq = self.cq(cqid);
         cq.ready.push(slots, tag);
         self.put_cq(cqid, cq);
+        self.readied = with_queue(self.readied, cqid, true);
         true
     }
 }

@@ -1,5 +1,6 @@
 // The doorbells of a controller. (PCIe Transport Specification, Submission Queue y Tail Doorbell, Completion Queue y Head
 // Doorbell)
+use crate::queue_set::with_queue;
 use crate::state::Controller;
 
 impl Controller {
@@ -28,9 +29,12 @@ impl Controller {
             return false;
         }
         let mut sq = self.sq(qid);
-        let rung = sq.ring.write_to(slot);
+        if !sq.ring.write_to(slot) {
+            return false;
+        }
         self.put_sq(qid, sq);
-        rung
+        self.rung = with_queue(self.rung, qid, true);
+        true
     }
 
     /// The host wrote the head doorbell of a completion queue. False, which changes nothing, where the queue isn't open,

@@ -4,6 +4,7 @@ ghost use Rattle.nvme_entry.specs.AdminCommand.{admin_command_of};
 ghost use Rattle.nvme_ctrl.specs.Making.{slots_asked};
 
 use crate::board_counts::{hide, show_empty, went};
+use crate::queue_set::with_queue;
 use crate::ring::Ring;
 use crate::slot::{DELETING, DROPPED, ENDED, Slot, put_item, slot_at};
 use crate::state::{Controller, CqState, Deletion, SqState};
@@ -63,7 +64,7 @@ impl Controller {
         cqid: u16,
     )
         ensures kept { (rules : FrontRules) (notes : Notes) (k : Content) (g : Items) (t : Ready) → Keeps rules notes self.old slots.old k g → IsLoose slots.old g tag → MakesReady slots.old tag state status dw0 t → IsThrough notes t → IsCookie notes slots.old tag t.place → t.passed ≡ is_passed_at notes t.place → IsUnflagged notes t.place → (x : ℕ) → k.cq_life cqid ≡ Some x → k.sq_id t.place.region ≡ Some t.sqid → Keeps rules notes self.new slots.new (with_ready k x t) (with_item g x (ended tag t)) }
-        ensures left { self.new ≡ record self.old { cqs = self.new.cqs } }
+        ensures left { self.new ≡ record self.old { cqs = self.new.cqs; readied = self.new.readied } }
         ensures size { length slots.new ≡ length slots.old }
         ensures generations { SameGenerations slots.old slots.new }
         ensures others { (y : ℕ) → y ≢ tag → item_at slots.new y ≡ item_at slots.old y }
@@ -86,6 +87,7 @@ impl Controller {
         let mut cq = self.cq(cqid);
         cq.ready.push(slots, tag);
         self.put_cq(cqid, cq);
+        self.readied = with_queue(self.readied, cqid, true);
     }
 
     // Opens a submission queue. (Create I/O Submission Queue)
@@ -161,7 +163,7 @@ impl Controller {
         ensures dropped { (rules : FrontRules) (notes : Notes) (k : Content) (g : Items) (region c y : ℕ) → Keeps rules notes self.old slots.old k g → self.old.picked ≡ 0 → IsDroppable notes k qid region c → IsLoose slots.old g y → HasDropped rules notes (dropped k qid region c) slots.old y self.new slots.new }
         ensures size { length slots.new ≡ length slots.old }
         ensures generations { SameGenerations slots.old slots.new }
-        ensures left { self.new ≡ record self.old { sqs = self.new.sqs; cqs = self.new.cqs } }
+        ensures left { self.new ≡ record self.old { sqs = self.new.sqs; cqs = self.new.cqs; readied = self.new.readied } }
     {
         for _ in 0..self.sq(qid).window.len {
             self.drop_oldest(slots, qid);
@@ -174,7 +176,7 @@ impl Controller {
         ensures others { (rules : FrontRules) (notes : Notes) (k : Content) (g : Items) (region : ℕ) (x : Item) (rest : List Item) → Keeps rules notes self.old slots.old k g → k.sq_life qid ≡ Some region → g.windows region ≡ x ∷ rest → (y : ℕ) → y ≢ x.tag → item_at slots.new y ≡ item_at slots.old y }
         ensures size { length slots.new ≡ length slots.old }
         ensures generations { SameGenerations slots.old slots.new }
-        ensures left { self.new ≡ record self.old { sqs = self.new.sqs; cqs = self.new.cqs } }
+        ensures left { self.new ≡ record self.old { sqs = self.new.sqs; cqs = self.new.cqs; readied = self.new.readied } }
     {
         let mut sq = self.sq(qid);
         let Some(x) = sq.window.pop(slots) else {

@@ -1,5 +1,6 @@
 // The fetches of a controller. (Base Specification, Command Submission and Completion Mechanism; depths and windows: profile)
 use crate::board_counts::came;
+use crate::queue_set::with_queue;
 use crate::slot::{Slot, WAITING, put_item, slot_at};
 use crate::state::Controller;
 use nvme_admin::{MAX_REGIONS, SqEntry};
@@ -102,6 +103,7 @@ impl Controller {
         sq.ring.read();
         sq.window.push(slots, tag);
         self.put_sq(qid, sq);
+        self.rung = with_queue(self.rung, qid, sq.ring.head != sq.ring.tail);
         came(&mut self.board, qid, held);
         true
     }

@@ -25,6 +25,7 @@ mod outlook;
 mod own;
 mod picks;
 mod posts;
+mod queue_set;
 mod ranges;
 mod ring;
 mod slot;

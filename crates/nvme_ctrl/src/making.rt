@@ -220,6 +220,8 @@ fn first_controller(
         deletions: no_deletions(),
         pending_deletions: 0,
         own: OwnCommands::none(),
+        rung: 0,
+        readied: 0,
     }
 }
 

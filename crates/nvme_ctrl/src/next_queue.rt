@@ -1,7 +1,9 @@
 // The next queue that has work. (profile)
-ghost use Rattle.std.specs.Prelude.{◌≡◌, ◌≤◌, ℕ};
+ghost use Rattle.std.specs.Prelude.{◌≡◌, ◌≤◌, ℕ, MatchOption};
 ghost use Rattle.nvme_ctrl.specs.NextQueue.{turns_before};
+ghost use Rattle.nvme_ctrl.specs.inside.Turns.{HasNoTurn, IsNextTurn};
 
+use crate::queue_set::first_above;
 use crate::slot::Slot;
 use crate::state::Controller;
 use nvme_arbiter::HIGHEST_QID;
@@ -19,6 +21,26 @@ fn at_turn(last: u16, turn: u16) -> u16
         next - HIGHEST_QID - 1
     } else {
         next
+    }
+}
+
+// The first turn, from one on, of a queue that is in a set. Queues take turns after the last one's.
+fn next_turn(set: u64, last: u16, turn: u16) -> Option<u16>
+    requires last { last ≤ 64 }
+    requires turn { turn ≤ 65 }
+    ensures { MatchOption result (HasNoTurn set last turn) (IsNextTurn set last turn) }
+{
+    // That of the admin queue, behind those of all queues above the last one.
+    let admin = HIGHEST_QID - last;
+    if turn <= admin {
+        return match first_above(set, last + turn) {
+            Some(qid) => Some(qid - last - 1),
+            None => Some(admin),
+        };
+    }
+    match first_above(set, turn - admin - 1) {
+        Some(qid) if qid <= last => Some(admin + qid),
+        _ => None,
     }
 }
 
@@ -42,11 +64,13 @@ impl Controller {
         ensures none { (rules : FrontRules) (late : Bool) (notes : Notes) (slots : List Slot) → Stands rules late notes self.now slots → result ≡ None → (q : ℕ) → HasFetch rules notes self.now slots q → ⊥ }
     {
         let last = last.min(HIGHEST_QID);
-        for turn in 0..HIGHEST_QID + 1 {
-            let qid = at_turn(last, turn);
+        let mut turn = 0;
+        while let Some(next) = next_turn(self.rung, last, turn) {
+            let qid = at_turn(last, next);
             if let Some(slot) = self.fetch(qid) {
                 return Some((qid, slot));
             }
+            turn = next + 1;
         }
         None
     }
@@ -58,11 +82,13 @@ impl Controller {
         ensures none { result ≡ None → (q : ℕ) → next_post_of self.now slots.now q ≡ None }
     {
         let last = last.min(HIGHEST_QID);
-        for turn in 0..HIGHEST_QID + 1 {
-            let cqid = at_turn(last, turn);
+        let mut turn = 0;
+        while let Some(next) = next_turn(self.readied, last, turn) {
+            let cqid = at_turn(last, next);
             if self.next_post(slots, cqid).is_some() {
                 return Some(cqid);
             }
+            turn = next + 1;
         }
         None
     }

@@ -1,4 +1,5 @@
 // The posts of a controller. (Base Specification, Completion Queue Entry, Phase Tag)
+use crate::queue_set::{has_queue, with_queue};
 use crate::slot::{DROPPED, Slot, put_free, slot_at};
 use crate::state::{Controller, CqState};
 use crate::status_flags::StatusFlags;
@@ -86,6 +87,9 @@ impl Controller {
     pub fn next_post(&self, slots: &[Slot], cqid: u16) -> Option<Post>
         ensures value { result ≡ next_post_of self.now slots.now cqid }
     {
+        if !has_queue(self.readied, cqid) {
+            return None;
+        }
         let cq = self.cq(cqid);
         if cq.ring.is_full() || cq.ready.len == 0 {
             return None;
@@ -120,6 +124,7 @@ impl Controller {
         cq.ready.pop(slots);
         cq.write();
         self.put_cq(cqid, cq);
+        self.readied = with_queue(self.readied, cqid, cq.ready.len != 0);
         self.count_post(&command);
         put_free(slots, post.tag);
         self.free.push(slots, post.tag);

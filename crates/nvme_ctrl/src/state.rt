@@ -68,6 +68,10 @@ pub struct Controller {
     pub(crate) pending_deletions: u16,
     /// The admin commands that are the device's.
     pub(crate) own: OwnCommands,
+    /// The I/O submission queues whose rings may have entries that aren't fetched: each that has is in the set.
+    pub(crate) rung: u64,
+    /// The I/O completion queues that may have ready completions: each that has is in the set.
+    pub(crate) readied: u64,
 }
 
 impl SqState {

@@ -25,6 +25,7 @@ use Rattle.nvme_ctrl.specs.declared.state.Deletion.{Deletion}
 use Rattle.nvme_ctrl.specs.kept.Content.{Candidate, Ready, PendingDelete, Content}
 use Rattle.nvme_ctrl.specs.kept.Standing.{Holds, answer_in, is_opened_cq}
 use Rattle.nvme_ctrl.specs.kept.Pool.{slot_at, flags_in, IsChain, AreApart}
+use Rattle.nvme_ctrl.specs.kept.QueueSets.{HoldsRung, HoldsReadied}
 use Rattle.nvme_ctrl.specs.kept.State.{no_sq_state, no_cq_state, sq_at, cq_at, deletion_at, pending_tag, count_pending, picked_in}
 
 -- ---- commands in slots
@@ -200,6 +201,9 @@ pub record HasNumbers (c : Controller) (k : Content) : Type 0 where
   pub no_cqs : (q : ℕ) → k.cq_life q ≡ None → cq_at c.cqs q ≡ no_cq_state
   pub sq_size : length c.sqs ≡ 65
   pub cq_size : length c.cqs ≡ 65
+  -- no queue outside the sets of those that may have work has any
+  pub rung : HoldsRung c.rung c.sqs
+  pub readied : HoldsReadied c.readied c.cqs
 
 -- the slots have its commands
 pub record HasItems (c : Controller) (slots : List Slot) (k : Content) (g : Items) : Type 0 where

@@ -1,5 +1,5 @@
 -- What was answered is a command that the device has, whose slot is put behind those that are ready.
-use Rattle.std.proofs.Common.{◌≡◌, ℕ, ◌<◌, List, ◌∷◌, sym, ap, subst, ◌∙◌, refl, arith}
+use Rattle.std.proofs.Common.{◌≡◌, ℕ, ◌<◌, List, ◌∷◌, sym, ap, subst, ◌∙◌, refl, arith, true}
 use Rattle.std.specs.Prelude.{slice_set}
 use Rattle.nvme_log.specs.Answers.{Answer}
 use Rattle.nvme_ctrl.specs.Notes.{Answered, Flagged}
@@ -14,6 +14,7 @@ use Rattle.nvme_ctrl.specs.kept.Pool.{slot_at, put_item}
 use Rattle.nvme_ctrl.specs.kept.State.{sq_at, cq_at}
 use Rattle.nvme_ctrl.proofs.AnswerCall.{IsPushed, answered_slot, answered_pool, answered_controller, answer-stands, other_is_not_out, out_is_out}
 use Rattle.nvme_ctrl.proofs.Generations.{left_both, put_left, items_left}
+use Rattle.nvme_ctrl.specs.kept.QueueSets.{with_queue}
 use Rattle.nvme_ctrl.proofs.state.Controller.complete.Goals as goal
 
 pub returns-then-slot-ne-OUT-clause-answer : goal.returns-then-slot-ne-OUT-clause-answer
@@ -58,8 +59,10 @@ returns-clause-stands c rules late notes s is_done =
     answer-stands rules late notes self slots s tag (ap (λ (z : Slot). z.state) (sym c.slot_at-slot.ensures) ∙ c.if-slot-ne-OUT.false) answer flags types
     c.push.new.slots c.push.new.self x goes
     (subst (λ (new : List Slot). IsPushed new (cq_at self.cqs x).ready tag c.push.new.slots c.push.new.self) pool pushed) in
-    let put : c.put_cq.new.self ≡ answered_controller self x c.push.new.self =
-    c.put_cq.ensures ∙ ap (λ (q : CqState). record self { cqs = slice_set self.cqs x (record q { ready = c.push.new.self }) }) c.cq-cq.ensures in
+    let readied : c.with_queue-self.result ≡ with_queue self.readied x true = c.with_queue-self.ensures ∙ ap (λ (y : Controller). with_queue y.readied x true) c.put_cq.ensures in
+    let put : record c.put_cq.new.self { readied = c.with_queue-self.result } ≡ answered_controller self x c.push.new.self =
+    (λ j. record (c.put_cq.ensures j) { readied = readied j })
+    ∙ ap (λ (q : CqState). record self { cqs = slice_set self.cqs x (record q { ready = c.push.new.self }); readied = with_queue self.readied x true }) c.cq-cq.ensures in
     subst (λ (y : Controller). HasAnswered rules late notes tag answer flags y c.push.new.slots) (sym put) done
 
 pub returns-clause-front : goal.returns-clause-front

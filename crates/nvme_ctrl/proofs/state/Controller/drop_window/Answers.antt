@@ -17,7 +17,7 @@ loop-init c = record {
 pub loop-preserved : goal.loop-preserved
 loop-preserved c = record {
   end = c.loop.invariant.end;
-  left = c.drop_oldest.ensures.left ∙ ap (λ (x : Controller). record x { sqs = c.drop_oldest.new.self.sqs; cqs = c.drop_oldest.new.self.cqs }) c.loop.invariant.left;
+  left = c.drop_oldest.ensures.left ∙ ap (λ (x : Controller). record x { sqs = c.drop_oldest.new.self.sqs; cqs = c.drop_oldest.new.self.cqs; readied = c.drop_oldest.new.self.readied }) c.loop.invariant.left;
   size = c.drop_oldest.ensures.size ∙ c.loop.invariant.size;
   generations = left_both c.args.slots.now c.loop.slots c.drop_oldest.new.slots c.loop.invariant.generations c.drop_oldest.ensures.generations;
   dropping = λ rules notes k g region to y h none may loose.

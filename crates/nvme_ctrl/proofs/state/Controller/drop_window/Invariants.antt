@@ -14,7 +14,7 @@ use Rattle.nvme_ctrl.proofs.state.Controller.drop_window.Given as goal
 abbrev pub invariant-loop : goal.invariant-loop
 invariant-loop l = record {
   end : l.end ≡ (sq_at l.fn.self.sqs l.qid).window.len;
-  left : l.self ≡ record l.fn.self { sqs = l.self.sqs; cqs = l.self.cqs };
+  left : l.self ≡ record l.fn.self { sqs = l.self.sqs; cqs = l.self.cqs; readied = l.self.readied };
   size : length l.slots ≡ length l.fn.slots;
   generations : SameGenerations l.fn.slots l.slots;
   dropping : (rules : FrontRules) (notes : Notes) (k : Content) (g : Items) (region c y : ℕ) → Keeps rules notes l.fn.self l.fn.slots k g → l.fn.self.picked ≡ 0 → IsDroppable notes k l.qid region c → IsLoose l.fn.slots g y

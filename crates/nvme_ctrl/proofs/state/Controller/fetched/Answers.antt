@@ -22,6 +22,7 @@ use Rattle.nvme_ctrl.proofs.DoorbellCalls.{has_none}
 use Rattle.nvme_ctrl.proofs.FetchCalls.{Fetches, fetched_state, has_fetched, may_come, few_queues, told_fetchable}
 use Rattle.nvme_ctrl.proofs.Generations.{left_both, put_left, items_left}
 use Rattle.nvme_ctrl.proofs.FetchTold.{is_fetchable, some_popped, MayBeFetched, may_be_fetched}
+use Rattle.nvme_ctrl.specs.kept.QueueSets.{with_queue}
 use Rattle.nvme_ctrl.proofs.state.Controller.fetched.Goals as goal
 
 pub returns-in_default-clause-front : goal.returns-in_default-clause-front
@@ -89,9 +90,11 @@ returns-clause-stands c rules late notes s told =
     let self : Controller = c.args.self.now in
     let found = fetched_from c in
     let it = told_fetchable self s.content.table s.numbers.tells c.args.qid found.entry found.can in
-    subst (λ (after : Controller). HasFetched rules late notes c.args.qid c.args.entry.now c.args.cookie (record after { board = c.came.new.board }) c.push.new.slots) (sym c.put_sq.ensures)
+    let rest : Bool = not (c.read.new.self.head == c.read.new.self.tail) in
+    let rung : c.with_queue-self.result ≡ with_queue self.rung c.args.qid rest = c.with_queue-self.ensures ∙ ap (λ (after : Controller). with_queue after.rung c.args.qid rest) c.put_sq.ensures in
+    subst (λ (after : Controller). HasFetched rules late notes c.args.qid c.args.entry.now c.args.cookie (record after { board = c.came.new.board }) c.push.new.slots) (sym (λ j. record (c.put_sq.ensures j) { rung = rung j }))
     (subst (λ (state : SqState). HasFetched rules late notes c.args.qid c.args.entry.now c.args.cookie
-    (record self { sqs = slice_set self.sqs c.args.qid (fetched_state state c.push.new.self c.read.new.self); free = c.pop.new.self; board = c.came.new.board }) c.push.new.slots)
+    (record self { sqs = slice_set self.sqs c.args.qid (fetched_state state c.push.new.self c.read.new.self); free = c.pop.new.self; board = c.came.new.board; rung = with_queue self.rung c.args.qid rest }) c.push.new.slots)
     (sym c.sq-sq.ensures)
     (has_fetched rules late notes self c.args.slots.now s c.args.qid it.entry it.can c.args.entry.now c.args.cookie c.in-Some.tag (waiting c) c.pop.new.self
     c.push.new.self c.read.new.self c.came.new.board c.push.new.slots (fetches c rules late notes s)))

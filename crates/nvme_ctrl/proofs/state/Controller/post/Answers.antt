@@ -1,10 +1,10 @@
 -- What `next_post` tells is posted.
-use Rattle.std.proofs.Common.{◌≡◌, ◌==◌, Bool, List, refl, sym, ap, ◌∙◌, subst, inl, inr}
+use Rattle.std.proofs.Common.{◌≡◌, ◌==◌, not, arith, Bool, List, refl, sym, ap, ◌∙◌, subst, inl, inr}
 use Rattle.nvme_log.specs.Rules.{FrontRules}
 use Rattle.nvme_ctrl.specs.Notes.{Notes}
 use Rattle.nvme_ctrl.specs.Standing.{Stands}
 use Rattle.nvme_ctrl.specs.Calls.{HasPosted}
-use Rattle.nvme_ctrl.specs.Posts.{completion_of, post_in}
+use Rattle.nvme_ctrl.specs.Posts.{NonePostable, completion_of, post_in}
 use Rattle.nvme_ctrl.specs.declared.chain.Chain.{Chain}
 use Rattle.nvme_ctrl.specs.declared.posts.Post.{Post}
 use Rattle.nvme_ctrl.specs.declared.slot.Slot.{Slot}
@@ -12,21 +12,26 @@ use Rattle.nvme_ctrl.specs.declared.state.CqState.{CqState}
 use Rattle.nvme_ctrl.specs.declared.state.Controller.{Controller}
 use Rattle.nvme_ctrl.specs.kept.Pool.{IsChain, flags_in, put_item}
 use Rattle.nvme_ctrl.specs.kept.State.{cq_at}
-use Rattle.nvme_ctrl.proofs.NextPost.{IsPostable, postable, not_postable, by_command, entry_by_command, post_of_command, chain-some, chain-none, chain-first}
+use Rattle.nvme_ctrl.proofs.NextPost.{some_is_in, none_is_out, IsPostable, postable, not_postable, by_command, entry_by_command, post_of_command, chain-some, chain-none, chain-first}
 use Rattle.nvme_ctrl.proofs.NoPosts.{full_ring, all_posted, none_ready, open_life}
 use Rattle.nvme_ctrl.proofs.PostCall.{HasDone}
 use Rattle.nvme_ctrl.proofs.PostLog.{steps_post}
 use Rattle.nvme_ctrl.proofs.Generations.{left_both, put_left, items_left}
+use Rattle.nvme_ctrl.specs.kept.QueueSets.{with_queue}
 use Rattle.nvme_ctrl.proofs.state.Controller.post.Goals as goal
 
 abbrev after : goal.After-slots-2-1 → Controller
 after c = record c.count_post.new.self { free = c.push.new.self }
 
+-- the completion queue is put back
+abbrev put_back : goal.After-slots-2-1 → Controller
+put_back c = record c.put_cq.new.self { readied = c.with_queue-self.result }
+
 -- a slot of the ring is free, and a command is ready
 there : (c : goal.After-slots-2-1) → IsPostable c.args.self.now c.args.slots.now c.cq-cq.result c.in_ok-post.post
 there c =
     postable c.args.self.now c.args.slots.now c.cq-cq.result c.in_ok-post.post
-    (sym c.in_ok-post.was ∙ c.next_post.ensures.value ∙ ap (post_in c.args.self.now c.args.slots.now) (sym c.cq-cq.ensures))
+    (some_is_in c.args.self.now c.args.slots.now c.args.cqid c.in_ok-post.post (sym c.in_ok-post.was ∙ c.next_post.ensures.value) ∙ ap (post_in c.args.self.now c.args.slots.now) (sym c.cq-cq.ensures))
 
 done : (c : goal.After-slots-2-1) → HasDone c.cq-cq.result c.count_post.new.self.free c.args.slots.now c.put_free.new.slots c.in_ok-post.post.tag c.write.new.self c.push.new.self c.push.new.slots
 done c = record {
@@ -49,11 +54,13 @@ posted c rules late notes stands =
     let slots : List Slot = c.args.slots.now in
     let post : Post = c.in_ok-post.post in
     let old : CqState = c.cq-cq.result in
+    let more : Bool = not (c.write.new.self.ready.len == 0) in
+    let readied : c.with_queue-self.result ≡ with_queue self.readied c.args.cqid more = c.with_queue-self.ensures ∙ ap (λ (y : Controller). with_queue y.readied c.args.cqid more) c.put_cq.ensures in
     let cqe : post.cqe ≡ completion_of self c.slot_at-command.result (old.phase == 1) =
     entry_by_command self slots old post (there c).post_is ∙ ap (λ (s : Slot). completion_of self s (old.phase == 1)) (sym c.slot_at-command.ensures) in
     let here : HasPosted rules late notes c.args.cqid old.ring.tail post.cqe c.slot_at-command.result.cookie (flags_in c.slot_at-command.result) (after c) c.push.new.slots =
-    steps_post rules late notes self c.put_cq.new.self c.count_post.new.self slots c.put_free.new.slots c.args.cqid post.tag old c.write.new.self
-    c.slot_at-command.result c.push.new.self c.push.new.slots post.cqe c.cq-cq.ensures c.slot_at-command.ensures cqe c.put_cq.ensures c.count_post.ensures
+    steps_post rules late notes self (put_back c) c.count_post.new.self slots c.put_free.new.slots c.args.cqid post.tag old c.write.new.self
+    c.slot_at-command.result c.push.new.self c.push.new.slots post.cqe c.cq-cq.ensures c.slot_at-command.ensures cqe (λ j. record (c.put_cq.ensures j) { readied = readied j }) c.count_post.ensures
     (c.put_free.ensures ∙ ap (λ (s : Slot). put_item slots post.tag (record s { state = 0 })) (sym c.slot_at-command.ensures)) (done c) stands in
     subst (λ (p : Post). HasPosted rules late notes c.args.cqid p.slot p.cqe p.cookie p.flags (after c) c.push.new.slots) (sym (by_command self slots old post (there c).post_is))
     (subst (λ (s : Slot). HasPosted rules late notes c.args.cqid old.ring.tail post.cqe s.cookie (flags_in s) (after c) c.push.new.slots) c.slot_at-command.ensures here)
@@ -74,10 +81,15 @@ returns-in_err-post-clause-told c rules late notes stands none x is =
     let self : Controller = c.args.self.now in
     let slots : List Slot = c.args.slots.now in
     let life = open_life rules late notes self slots stands c.args.cqid x is in
-    elim (not_postable self slots (cq_at self.cqs c.args.cqid) (sym c.next_post.ensures.value ∙ c.in_err-post.was)) [
-      | inl full ↦ inl (full_ring rules late notes self slots stands c.args.cqid x life full)
-      | inr empty ↦ inr (all_posted rules late notes self slots stands x
-          (none_ready rules late notes self slots stands c.args.cqid x life (chain-none slots (cq_at self.cqs c.args.cqid) empty)))
+    let few = stands.numbers.few_cqs c.args.cqid x life in
+    let none : (cq_at self.cqs c.args.cqid).ready.len ≡ 0 → NonePostable rules notes x = λ empty. inr (all_posted rules late notes self slots stands x
+    (none_ready rules late notes self slots stands c.args.cqid x life (chain-none slots (cq_at self.cqs c.args.cqid) empty))) in
+    elim (none_is_out self slots c.args.cqid (sym c.next_post.ensures.value ∙ c.in_err-post.was)) [
+      | inl out ↦ none (stands.numbers.readied c.args.cqid (omega (arith, few)) out)
+      | inr within ↦ elim (not_postable self slots (cq_at self.cqs c.args.cqid) within) [
+        | inl full ↦ inl (full_ring rules late notes self slots stands c.args.cqid x life full)
+        | inr empty ↦ none empty
+      ]
     ]
 
 pub returns-clause-generations : goal.returns-clause-generations

@@ -1,6 +1,6 @@
 use Rattle.std.proofs.Common.{ℕ, Option, is_some, sym, ap, ◌∙◌}
 use Rattle.nvme_log.specs.Queues.{Queue}
-use Rattle.nvme_ctrl.proofs.DoorbellCalls.{none_is_open, closing_is_not_open}
+use Rattle.nvme_ctrl.proofs.DoorbellCalls.{is_open, is_told_open, none_is_open, closing_is_not_open}
 use Rattle.nvme_ctrl.proofs.ToldEffects.{is_anywhere}
 use Rattle.nvme_ctrl.proofs.state.Controller.sq_region.Goals as goal
 
@@ -14,6 +14,11 @@ pub returns-then-queue-clause-told : goal.returns-then-queue-clause-told
 returns-then-queue-clause-told c rules late notes pool s =
     sym (ap (λ (o : Option Queue). is_some o)
     (closing_is_not_open rules late notes c.args.self.now pool s c.args.qid c.sq.result (c.sq.ensures.told s.content.table s.numbers.tells) c.in_ok-queue.queue c.in_ok-queue.was c.if-queue.true))
+
+pub returns-else-queue-clause-told : goal.returns-else-queue-clause-told
+returns-else-queue-clause-told c rules late notes pool s =
+    let here = is_told_open rules late notes c.args.self.now pool s c.args.qid c.sq.result (c.sq.ensures.told s.content.table s.numbers.tells) c.in_ok-queue.queue c.in_ok-queue.was c.if-queue.false in
+    sym (ap (λ (o : Option Queue). is_some o) (is_open rules late notes c.args.self.now pool s c.args.qid here.entry here.in_table here.opened))
 
 pub returns-else-queue-clause-anywhere : goal.returns-else-queue-clause-anywhere
 returns-else-queue-clause-anywhere c rules late notes pool s on = c.region_told.ensures.anywhere (is_anywhere rules late notes c.args.self.now pool s on)

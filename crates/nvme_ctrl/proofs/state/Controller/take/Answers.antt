@@ -6,7 +6,7 @@ use Rattle.nvme_ctrl.specs.Calls.{HasTaken}
 use Rattle.nvme_ctrl.specs.declared.slot.Slot.{Slot}
 use Rattle.nvme_ctrl.specs.declared.state.SqState.{SqState}
 use Rattle.nvme_ctrl.specs.declared.state.Controller.{Controller}
-use Rattle.nvme_ctrl.specs.kept.Pool.{put_item, slot_at, IsChain}
+use Rattle.nvme_ctrl.specs.kept.Pool.{slot_at, IsChain}
 use Rattle.nvme_ctrl.specs.kept.State.{sq_at}
 use Rattle.nvme_ctrl.proofs.TakeCall.{took, took_pool, took_slot, took_sq, take-stands, take-inside, take-first_there}
 use Rattle.nvme_ctrl.proofs.Generations.{put_next_generation}
