@@ -16,7 +16,7 @@ use Rattle.nvme_log.proofs.Posts.{posts_of-none}
 use Rattle.nvme_ctrl.specs.Notes.{Notes, logged}
 use Rattle.nvme_ctrl.specs.Doorbells.{gap, consumed}
 use Rattle.nvme_ctrl.specs.Tags.{answer_of}
-use Rattle.nvme_ctrl.specs.Posts.{IsFullRing, AllPosted}
+use Rattle.nvme_ctrl.specs.Posts.{IsFullRing, AllPosted, NonePostable, next_post_of}
 use Rattle.nvme_ctrl.specs.declared.slot.Slot.{Slot}
 use Rattle.nvme_ctrl.specs.declared.state.Controller.{Controller}
 use Rattle.nvme_ctrl.specs.kept.Content.{Candidate, Ready, PendingDelete}
@@ -24,6 +24,7 @@ use Rattle.nvme_ctrl.specs.kept.Standing.{IsInHand, IsReady, times_in, times_hel
 use Rattle.nvme_ctrl.specs.kept.Pool.{IsChain}
 use Rattle.nvme_ctrl.specs.kept.State.{cq_at}
 use Rattle.nvme_ctrl.specs.kept.Kept.{Item, ReadyItem, ready_tags, readies_of, candidate_of, places_of, picked_region, picked_of, untaken, IsWaitingIn, IsUnanswered, StandsAt}
+use Rattle.nvme_ctrl.proofs.NextPost.{none_is_out, not_postable, chain-none}
 use Rattle.nvme_ctrl.proofs.OwnStatus.{waiting_is_unaborted}
 use Rattle.nvme_ctrl.proofs.Readying.{over_none}
 use Rattle.nvme_ctrl.proofs.ReadyHand.{times_held-append}
@@ -173,3 +174,17 @@ module _ (rules : FrontRules) (late : Bool) (notes : Notes) (c : Controller) (sl
         filled,
         filled-is (cq_at c.cqs q).ring (consumed rules notes x) (length (posted_to (logged notes) x)) (stands.doorbells.cqs q x life),
       )
+
+  -- ---- where no completion comes next, nothing may be posted
+  pub none_postable : (q x : ℕ) → open_cq (logged notes) q ≡ Some x → next_post_of c slots q ≡ None → NonePostable rules notes x
+  none_postable q x is none =
+      let life = open_life q x is in
+      let few = stands.numbers.few_cqs q x life in
+      let empty : (cq_at c.cqs q).ready.len ≡ 0 → NonePostable rules notes x = λ len. inr (all_posted x (none_ready q x life (chain-none slots (cq_at c.cqs q) len))) in
+      elim (none_is_out c slots q none) [
+        | inl out ↦ empty (stands.numbers.readied q (omega (arith, few)) out)
+        | inr within ↦ elim (not_postable c slots (cq_at c.cqs q) within) [
+            | inl full ↦ inl (full_ring q x life full)
+            | inr len ↦ empty len
+          ]
+      ]

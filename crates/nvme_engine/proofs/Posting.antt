@@ -22,10 +22,7 @@ use Rattle.nvme_ctrl.specs.Standing as ctrl
 use Rattle.nvme_ctrl.specs.kept.Standing.{times_ready, times_held, hand_of}
 use Rattle.nvme_ctrl.specs.declared.slot.Slot.{Slot}
 use Rattle.nvme_ctrl.specs.declared.state.Controller.{Controller}
-use Rattle.nvme_ctrl.specs.kept.State.{cq_at}
-use Rattle.nvme_ctrl.proofs.NextPost.{not_postable, chain-none}
-use Rattle.nvme_ctrl.proofs.NoPosts.{full_ring, none_ready, open_life}
-use Rattle.nvme_ctrl.proofs.NoPosts as posts
+use Rattle.nvme_ctrl.proofs.NoPosts.{none_postable}
 use Rattle.nvme_ctrl.proofs.DoorbellCalls.{cq_is_open}
 use Rattle.nvme_ctrl.proofs.DeletedQueues.{unheld_undeleting}
 use Rattle.nvme_ctrl.proofs.Readying.{unposted-counts}
@@ -56,16 +53,6 @@ ring_of rules late notes e s cqid x is =
     let count : length (cq_regions_of s.their) ≡ length (cq_regions_of rules) = ap length s.alike.cqs in
     subst (λ (regions : _). 2 ≤ slots_at regions x) (sym s.alike.cqs) (s.cq_rings x (omega (arith, below, number, count)))
 
--- where no completion comes next, nothing may be posted
-none_next : (rules : FrontRules) (late : Bool) (notes : Notes) (c : Controller) (slots : List Slot) (s : ctrl.Stands rules late notes c slots) (cqid x : ℕ)
-    → open_cq (logged notes) cqid ≡ Some x → next_post_of c slots cqid ≡ None → NonePostable rules notes x
-none_next rules late notes c slots s cqid x is none =
-    let life = open_life rules late notes c slots s cqid x is in
-    elim (not_postable c slots (cq_at c.cqs cqid) none) [
-      | inl full ↦ inl (full_ring rules late notes c slots s cqid x life full)
-      | inr empty ↦ inr (posts.all_posted rules late notes c slots s x (none_ready rules late notes c slots s cqid x life (chain-none slots (cq_at c.cqs cqid) empty)))
-    ]
-
 -- to an open queue all is posted then, since its ring is empty
 empty_ring : (rules : FrontRules) (late : Bool) (notes : Notes) (e : Engine) (s : StandsAt rules late notes e) (cqid x : ℕ) → open_cq (logged notes) cqid ≡ Some x
     → NonePostable s.their notes x → AllPosted notes x
@@ -75,7 +62,7 @@ empty_ring rules late notes e s cqid x is (inr all) = all
 pub all_posted : (rules : FrontRules) (late : Bool) (notes : Notes) (e : Engine) (s : StandsAt rules late notes e) (cqid x : ℕ) → open_cq (logged notes) cqid ≡ Some x
     → next_post_of e.controller e.slots.items cqid ≡ None → AllPosted notes x
 all_posted rules late notes e s cqid x is none =
-    empty_ring rules late notes e s cqid x is (none_next s.their s.their_late notes e.controller e.slots.items s.stands cqid x is none)
+    empty_ring rules late notes e s cqid x is (none_postable s.their s.their_late notes e.controller e.slots.items s.stands cqid x is none)
 
 module _ (rules : FrontRules) (late : Bool) (notes : Notes) (e : Engine) (s : StandsAt rules late notes e) (cqid x : ℕ) (is_open : open_cq (logged notes) cqid ≡ Some x)
     (region index : ℕ) (cqe : Cqe) (queue : qid_of_region (logged notes) region ≡ Some cqe.sqid) (c : Controller) (slots : List Slot)

@@ -1,19 +1,18 @@
 -- What `next_post` tells is posted.
-use Rattle.std.proofs.Common.{◌≡◌, ◌==◌, not, arith, Bool, List, refl, sym, ap, ◌∙◌, subst, inl, inr}
+use Rattle.std.proofs.Common.{◌≡◌, ◌==◌, not, Bool, List, refl, sym, ap, ◌∙◌, subst}
 use Rattle.nvme_log.specs.Rules.{FrontRules}
 use Rattle.nvme_ctrl.specs.Notes.{Notes}
 use Rattle.nvme_ctrl.specs.Standing.{Stands}
 use Rattle.nvme_ctrl.specs.Calls.{HasPosted}
-use Rattle.nvme_ctrl.specs.Posts.{NonePostable, completion_of, post_in}
+use Rattle.nvme_ctrl.specs.Posts.{completion_of, post_in}
 use Rattle.nvme_ctrl.specs.declared.chain.Chain.{Chain}
 use Rattle.nvme_ctrl.specs.declared.posts.Post.{Post}
 use Rattle.nvme_ctrl.specs.declared.slot.Slot.{Slot}
 use Rattle.nvme_ctrl.specs.declared.state.CqState.{CqState}
 use Rattle.nvme_ctrl.specs.declared.state.Controller.{Controller}
 use Rattle.nvme_ctrl.specs.kept.Pool.{IsChain, flags_in, put_item}
-use Rattle.nvme_ctrl.specs.kept.State.{cq_at}
-use Rattle.nvme_ctrl.proofs.NextPost.{some_is_in, none_is_out, IsPostable, postable, not_postable, by_command, entry_by_command, post_of_command, chain-some, chain-none, chain-first}
-use Rattle.nvme_ctrl.proofs.NoPosts.{full_ring, all_posted, none_ready, open_life}
+use Rattle.nvme_ctrl.proofs.NextPost.{some_is_in, IsPostable, postable, by_command, entry_by_command, post_of_command, chain-some, chain-first}
+use Rattle.nvme_ctrl.proofs.NoPosts.{none_postable}
 use Rattle.nvme_ctrl.proofs.PostCall.{HasDone}
 use Rattle.nvme_ctrl.proofs.PostLog.{steps_post}
 use Rattle.nvme_ctrl.proofs.Generations.{left_both, put_left, items_left}
@@ -78,19 +77,7 @@ returns-clause-stands c = posted c
 
 pub returns-in_err-post-clause-told : goal.returns-in_err-post-clause-told
 returns-in_err-post-clause-told c rules late notes stands none x is =
-    let self : Controller = c.args.self.now in
-    let slots : List Slot = c.args.slots.now in
-    let life = open_life rules late notes self slots stands c.args.cqid x is in
-    let few = stands.numbers.few_cqs c.args.cqid x life in
-    let none : (cq_at self.cqs c.args.cqid).ready.len ≡ 0 → NonePostable rules notes x = λ empty. inr (all_posted rules late notes self slots stands x
-    (none_ready rules late notes self slots stands c.args.cqid x life (chain-none slots (cq_at self.cqs c.args.cqid) empty))) in
-    elim (none_is_out self slots c.args.cqid (sym c.next_post.ensures.value ∙ c.in_err-post.was)) [
-      | inl out ↦ none (stands.numbers.readied c.args.cqid (omega (arith, few)) out)
-      | inr within ↦ elim (not_postable self slots (cq_at self.cqs c.args.cqid) within) [
-        | inl full ↦ inl (full_ring rules late notes self slots stands c.args.cqid x life full)
-        | inr empty ↦ none empty
-      ]
-    ]
+    none_postable rules late notes c.args.self.now c.args.slots.now stands c.args.cqid x is (sym c.next_post.ensures.value ∙ c.in_err-post.was)
 
 pub returns-clause-generations : goal.returns-clause-generations
 returns-clause-generations c =
