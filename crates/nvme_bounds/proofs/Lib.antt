@@ -1,0 +1,6 @@
+pub mod Ends
+pub mod Arcs
+pub mod Picks
+pub mod Levels
+pub mod Totals
+pub mod Composed

@@ -1,0 +1,6 @@
+pub mod Before
+pub mod Longest
+pub mod Runs
+pub mod Stretches
+pub mod Laws
+pub mod Examples
