@@ -4,3 +4,4 @@ pub mod Picks
 pub mod Levels
 pub mod Totals
 pub mod Composed
+pub mod Pools

@@ -1,5 +1,6 @@
 pub mod Before
 pub mod Longest
+pub mod Pools
 pub mod Runs
 pub mod Stretches
 pub mod Laws

@@ -1,6 +1,7 @@
 //! Laws of waits. Each function does nothing: its contract is the law.
 ghost use Rattle.nvme_bounds.specs.Examples.{BoundExamples};
 ghost use Rattle.nvme_bounds.specs.Laws.{EndsComeInTime, FewComeBefore, WaitsAreShort};
+ghost use Rattle.nvme_bounds.specs.Pools.{FullPoolsRun};
 
 /// While a queue has commands to be picked and none is, no more commands of others are picked than `Queues::most_before` says: in each stretch of a lawful
 /// run, with limits or without, in which the settings stay and only queues that were counted are ready.
@@ -17,6 +18,11 @@ pub fn ends_come_in_time()
 /// than `time_behind` of `Queues::most_before`.
 pub fn waits_are_short()
     ensures { WaitsAreShort }
+{}
+
+/// A pool that doesn't pause and has no room runs as many commands as it has channels, or as its depth, where that is less.
+pub fn full_pools_run()
+    ensures { FullPoolsRun }
 {}
 
 /// Bounds at 8:4:2, worked by hand.
