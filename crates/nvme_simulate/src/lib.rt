@@ -3,6 +3,8 @@
 //! scales it to a load. Files that queues replay are read from their bytes.
 #![tactic(auto)]
 
+mod bounds;
+mod bounds_told;
 mod digest;
 mod distributions;
 mod fault;
@@ -18,6 +20,7 @@ mod streams;
 mod tails;
 mod target;
 mod trace;
+mod waits;
 mod watch;
 
 pub use digest::Digest;
@@ -30,7 +33,7 @@ pub use nvme_replay::{FileFault, ReplayError};
 pub use overrides::{OverrideFault, Overrides};
 pub use progress::Progress;
 pub use replays::Listings;
-pub use runs::{Form, Measured, measure, simulate};
+pub use runs::{Form, Measured, measure, simulate, simulate_bounded};
 pub use streams::Streams;
 pub use target::{Load, LoadFault, MAX_LOAD};
 pub use trace::{put_pick, put_trace_head};
