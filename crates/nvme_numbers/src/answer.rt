@@ -22,7 +22,6 @@ use sheet::put_sheet;
 use std::alloc::{AllocError, Global};
 use std::io::Write;
 use table::put_table;
-
 pub use wording::{Micros, micros_of};
 
 // All classes, in the order of their rows.

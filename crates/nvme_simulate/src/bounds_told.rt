@@ -75,7 +75,10 @@ fn put_queue<W: Write>(
     writer: &mut W,
 ) -> io::Result<()> {
     let class = class_name(bound.class);
-    write!(writer, "{{\"queue\":{number},\"class\":\"{class}\",\"wait_max_ps\":")?;
+    write!(
+        writer,
+        "{{\"queue\":{number},\"class\":\"{class}\",\"wait_max_ps\":"
+    )?;
     put_number(longest.map(u128::from), writer)?;
     writer.write_all(b",\"bound_ps\":")?;
     put_number(bound.time.ok(), writer)?;
@@ -93,7 +96,10 @@ fn put_queue<W: Write>(
 /// Writes the key of an object that is still open, and ends the object.
 pub(crate) fn put_key<W: Write>(bounds: &Bounds, writer: &mut W) -> io::Result<()> {
     let service = bounds.service;
-    write!(writer, ",\"bounds\":{{\"service_max_ps\":{service},\"queues\":[")?;
+    write!(
+        writer,
+        ",\"bounds\":{{\"service_max_ps\":{service},\"queues\":["
+    )?;
     for (place, bound) in bounds.queues.iter().enumerate() {
         if place > 0 {
             writer.write_all(b",")?;

@@ -39,11 +39,11 @@ impl Form {
     ) -> Result<(), SimulateFault> {
         let is_written = match (self, bounds) {
             (Form::Text, None) => answer.write_text(output).is_ok(),
-            (Form::Text, Some(bounds)) =>
-                answer.write_text(output).is_ok() && put_table(bounds, output).is_ok(),
+            (Form::Text, Some(bounds)) => answer.write_text(output).is_ok()
+                && put_table(bounds, output).is_ok(),
             (Form::Json, None) => answer.write_json(output).is_ok(),
-            (Form::Json, Some(bounds)) =>
-                answer.write_open_json(output).is_ok() && put_key(bounds, output).is_ok(),
+            (Form::Json, Some(bounds)) => answer.write_open_json(output).is_ok()
+                && put_key(bounds, output).is_ok(),
             (Form::Csv, _) => answer.write_csv(output).is_ok(),
         };
         if is_written {

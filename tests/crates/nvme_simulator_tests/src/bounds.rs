@@ -1,8 +1,6 @@
 // Bounds on waits for arbitration, worked out by hand.
 use nvme_arbiter::{ByClass, Class, Mechanism, Settings};
-use nvme_bounds::{
-    Queues, draw_service, draw_time, longest_service, longest_time, time_behind,
-};
+use nvme_bounds::{Queues, draw_service, draw_time, longest_service, longest_time, time_behind};
 use nvme_clock::{Purpose, Quantiles, TwoPoints, stream};
 use nvme_load::{Distribution, Mean, Service};
 use nvme_simulate::{Digest, Form, Progress, Streams, model_in, simulate_bounded};
@@ -79,9 +77,18 @@ fn services_have_a_longest_time(rt: HostRuntime) -> Result<(), Fail> {
     values.push(3)?;
     values.push(4)?;
     values.push(11)?;
-    assert_eq!(rt; longest_time(&Distribution::Quantiles(Quantiles::new(values)?)), 11);
-    assert_eq!(rt; longest_service(&with_blocks(Distribution::Fixed(60)), 8), 100);
-    assert_eq!(rt; longest_service(&with_blocks(Distribution::Fixed(u64::MAX)), 8), u64::MAX);
+    assert_eq!(rt;
+        longest_time(&Distribution::Quantiles(Quantiles::new(values)?)),
+        11
+    );
+    assert_eq!(rt;
+        longest_service(&with_blocks(Distribution::Fixed(60)), 8),
+        100
+    );
+    assert_eq!(rt;
+        longest_service(&with_blocks(Distribution::Fixed(u64::MAX)), 8),
+        u64::MAX
+    );
     Ok(())
 }
 
@@ -142,14 +149,16 @@ fn told(rt: &HostRuntime, form: Form) -> Result<Vec<u8>, Fail> {
 #[test]
 fn a_bound_is_reached(rt: HostRuntime) -> Result<(), Fail> {
     let text = told(&rt, Form::Text)?;
-    let table = b"wait for arbitration as the next command of its queue, in us; no service is longer than 100.000
+    let table =
+        b"wait for arbitration as the next command of its queue, in us; no service is longer than 100.000
 queue class            seen        bound  picks before
 q1    medium        200.000      200.000             1
 q2    low           200.000      200.000             1
 ";
     assert!(rt; text.as_slice().ends_with(table.as_slice()));
     let object = told(&rt, Form::Json)?;
-    let key = b",\"bounds\":{\"service_max_ps\":100000000,\"queues\":[{\"queue\":1,\"class\":\"medium\",\"wait_max_ps\":200000000,\"bound_ps\":200000000,\"picks_before\":1,\"no_bound\":null},{\"queue\":2,\"class\":\"low\",\"wait_max_ps\":200000000,\"bound_ps\":200000000,\"picks_before\":1,\"no_bound\":null}]}}\n";
+    let key =
+        b",\"bounds\":{\"service_max_ps\":100000000,\"queues\":[{\"queue\":1,\"class\":\"medium\",\"wait_max_ps\":200000000,\"bound_ps\":200000000,\"picks_before\":1,\"no_bound\":null},{\"queue\":2,\"class\":\"low\",\"wait_max_ps\":200000000,\"bound_ps\":200000000,\"picks_before\":1,\"no_bound\":null}]}}\n";
     assert!(rt; object.as_slice().ends_with(key.as_slice()));
     let lines = told(&rt, Form::Csv)?;
     assert!(rt; lines.as_slice().starts_with(b"seed,version,"));
