@@ -3,8 +3,6 @@
 //! scales it to a load. Files that queues replay are read from their bytes.
 #![tactic(auto)]
 
-mod bounds;
-mod bounds_told;
 mod digest;
 mod distributions;
 mod fault;
@@ -20,7 +18,6 @@ mod streams;
 mod tails;
 mod target;
 mod trace;
-mod waits;
 mod watch;
 
 pub use digest::Digest;

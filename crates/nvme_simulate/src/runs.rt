@@ -1,8 +1,6 @@
 // Runs a model to its end.
 ghost use Rattle.nvme_simulation.specs.Simulations.{IsSimulation};
 
-use crate::bounds::Bounds;
-use crate::bounds_told::{put_key, put_table};
 use crate::digest::Digest;
 use crate::distributions::Subject;
 use crate::fault::{SimulateFault, Stream};
@@ -14,6 +12,7 @@ use nvme_model::Model;
 use nvme_numbers::{About, Answer, Member, Numbers, Row};
 use nvme_simulation::{Happening, Simulation, SimulationFault};
 use nvme_version::VERSION;
+use nvme_waits::Bounds;
 use std::alloc::Global;
 use std::io::Write;
 
@@ -40,10 +39,10 @@ impl Form {
         let is_written = match (self, bounds) {
             (Form::Text, None) => answer.write_text(output).is_ok(),
             (Form::Text, Some(bounds)) => answer.write_text(output).is_ok()
-                && put_table(bounds, output).is_ok(),
+                && bounds.write_text(output).is_ok(),
             (Form::Json, None) => answer.write_json(output).is_ok(),
             (Form::Json, Some(bounds)) => answer.write_open_json(output).is_ok()
-                && put_key(bounds, output).is_ok(),
+                && bounds.write_json(output).is_ok(),
             (Form::Csv, _) => answer.write_csv(output).is_ok(),
         };
         if is_written {
@@ -83,14 +82,14 @@ fn step<L: Write, T: Write, P: Write>(
         Happening::Picked(picked) => {
             streams.pick(&picked, watch.seen())?;
             if let Some(bounds) = bounds {
-                bounds.waits.pick(&picked)?;
+                bounds.pick(picked.at, &picked.pick)?;
             }
             Ok(Stepped::On)
         }
         Happening::Finished { command, counts } => {
             streams.finish(&command)?;
             if let Some(bounds) = bounds {
-                bounds.waits.finish(&command, counts);
+                bounds.finish(&command, counts);
             }
             if counts {
                 numbers.add(&command)?;

@@ -1,6 +1,6 @@
 // How long commands waited for arbitration, each from when it was the next one of its queue.
+use nvme_arbiter::Pick;
 use nvme_model::{Finished, Model};
-use nvme_simulation::Picked;
 use std::alloc::{AllocError, Global};
 
 // A command that the device has.
@@ -41,23 +41,23 @@ impl Waits {
         })
     }
 
-    // Commands of a queue are picked. The second one of a pick and those behind it waited for no time.
-    pub(crate) fn pick(&mut self, picked: &Picked) -> Result<(), AllocError> {
-        let qid = picked.pick.qid;
+    // Commands of a queue are picked at this time. The second one of a pick and those behind it waited for no time.
+    pub(crate) fn pick(&mut self, at: u64, pick: &Pick) -> Result<(), AllocError> {
+        let qid = pick.qid;
         let Some(place) = usize::from(qid).checked_sub(1) else {
             return Ok(());
         };
         let Some(queue) = self.queues.get_mut(place) else {
             return Ok(());
         };
-        for _turn in 0..picked.pick.n {
+        for _turn in 0..pick.n {
             self.taken.push(Taken {
                 queue: qid,
                 number: queue.count,
                 since: queue.last,
             })?;
             queue.count = queue.count.saturating_add(1);
-            queue.last = picked.at;
+            queue.last = at;
         }
         Ok(())
     }

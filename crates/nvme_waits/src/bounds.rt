@@ -1,18 +1,21 @@
 // What is proved about how long commands of a model wait for arbitration.
+use crate::told::{put_key, put_table};
 use crate::waits::Waits;
-use nvme_arbiter::{ByClass, Class};
+use nvme_arbiter::{ByClass, Class, Pick};
 use nvme_bounds::{Queues, longest_service, longest_time, time_behind};
 use nvme_channels::Placement;
 use nvme_load::{Arrivals, Operation, Services};
-use nvme_model::{Model, Queue};
+use nvme_model::{Finished, Model, Queue};
+use nvme_numbers::WriteFault;
 use std::alloc::{AllocError, Global};
+use std::io::Write;
 
 // Once a device is full, each command that ends makes room for one.
 const AT_A_TIME: u16 = 1;
 
 /// Why there is no bound in time.
 #[derive(Clone, Copy, Debug, PartialEq, Eq)]
-pub(crate) enum NoBound {
+pub enum NoBound {
     /// Nor is there one in commands: urgent ones may come without end.
     Urgent,
     /// Commands may wait for a stripe while other channels are idle.
@@ -42,21 +45,22 @@ impl NoBound {
 }
 
 /// What is proved of a queue. Times are in picoseconds.
-#[derive(Clone, Copy)]
-pub(crate) struct Bound {
-    pub(crate) class: Class,
+#[derive(Clone, Copy, Debug, PartialEq, Eq)]
+pub struct Bound {
+    pub class: Class,
     /// How many commands of others come before one at most. `None` where there is no bound.
-    pub(crate) before: Option<u64>,
+    pub before: Option<u64>,
     /// The longest that a command waits.
-    pub(crate) time: Result<u128, NoBound>,
+    pub time: Result<u128, NoBound>,
 }
 
 /// What is proved of the queues of a model, and what is seen of them.
 #[derive(Drop)]
-pub(crate) struct Bounds {
-    pub(crate) queues: Vec<Bound>,
+pub struct Bounds {
+    /// Those of the queues, of the identifiers 1, 2 and so on.
+    pub queues: Vec<Bound>,
     /// The longest service of any command, in picoseconds.
-    pub(crate) service: u64,
+    pub service: u64,
     pub(crate) waits: Waits,
 }
 
@@ -142,7 +146,7 @@ fn time_of(model: &Model, before: Option<u64>, service: u64) -> Result<u128, NoB
 
 impl Bounds {
     /// Those of a model, of which no wait was seen.
-    pub(crate) fn of(alloc: Global, model: &Model) -> Result<Bounds, AllocError> {
+    pub fn of(alloc: Global, model: &Model) -> Result<Bounds, AllocError> {
         let all = Queues {
             mechanism: model.mechanism,
             settings: model.settings,
@@ -163,5 +167,38 @@ impl Bounds {
             service,
             waits: Waits::new(alloc, model)?,
         })
+    }
+
+    /// Commands of a queue are picked at this time, in picoseconds.
+    pub fn pick(&mut self, at: u64, pick: &Pick) -> Result<(), AllocError> {
+        self.waits.pick(at, pick)
+    }
+
+    /// A command is done. Its wait is one of those that are told where numbers count it.
+    pub fn finish(&mut self, command: &Finished, counts: bool) {
+        self.waits.finish(command, counts);
+    }
+
+    /// The longest wait that was seen of a queue, by its identifier. `None` where none of its commands counts.
+    pub fn longest(&self, queue: usize) -> Option<u64> {
+        self.waits.longest(queue.checked_sub(1)?)
+    }
+
+    /// Writes a table for people: for each queue the longest wait, its bound, and how many commands come before one at most.
+    /// Times are in microseconds. `WriteFault` where a write failed.
+    pub fn write_text<W: Write>(&self, writer: &mut W) -> Result<(), WriteFault> {
+        match put_table(self, writer) {
+            Ok(()) => Ok(()),
+            Err(_) => Err(WriteFault),
+        }
+    }
+
+    /// Writes the same as a key of an object that is still open, and ends the object and the line. `WriteFault` where a write
+    /// failed.
+    pub fn write_json<W: Write>(&self, writer: &mut W) -> Result<(), WriteFault> {
+        match put_key(self, writer) {
+            Ok(()) => Ok(()),
+            Err(_) => Err(WriteFault),
+        }
     }
 }
