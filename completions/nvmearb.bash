@@ -23,7 +23,7 @@ _nvmearb() {
                 case ${COMP_WORDS[1]} in
                     run) words="--live --workers --summary --format --help" files=toml ;;
                     trace) words="--live --workers --output --help" files=toml ;;
-                    simulate) words="--seed --commands --time --warm-up --load --sweep --seeds --jobs --points --no-head --format --log --trace --chart --output --help" files=toml ;;
+                    simulate) words="--seed --commands --time --warm-up --load --sweep --seeds --jobs --points --no-head --format --bounds --log --trace --chart --output --help" files=toml ;;
                     lint | expand) words="--help" files=toml ;;
                     check) words="--spec --all --quiet --format --help" files=any ;;
                     chart) words="--from --to --no-admin --output --help" files=any ;;

@@ -17,11 +17,12 @@ use crate::tally::{RankedTally, Tally};
 use nvme_arbiter::{Class, Mechanism, Settings};
 use nvme_channels::Channel;
 use nvme_output::WriteFault;
-use object::put_object;
+use object::{put_object, put_open_object};
 use sheet::put_sheet;
 use std::alloc::{AllocError, Global};
 use std::io::Write;
 use table::put_table;
+pub use wording::{Micros, micros_of};
 
 // All classes, in the order of their rows.
 const CLASSES: [Class; 5] = [
@@ -312,6 +313,15 @@ impl Answer<'_> {
     /// Writes the same as one JSON object and a newline. Times are in picoseconds. `WriteFault` where a write failed.
     pub fn write_json<W: Write>(&self, writer: &mut W) -> Result<(), WriteFault> {
         match put_object(self, writer) {
+            Ok(()) => Ok(()),
+            Err(_) => Err(WriteFault),
+        }
+    }
+
+    /// Writes the same, but for the brace and the newline that end it, so that more keys may follow. `WriteFault` where a write
+    /// failed.
+    pub fn write_open_json<W: Write>(&self, writer: &mut W) -> Result<(), WriteFault> {
+        match put_open_object(self, writer) {
             Ok(()) => Ok(()),
             Err(_) => Err(WriteFault),
         }

@@ -14,7 +14,7 @@ mod row;
 mod sums;
 mod tally;
 
-pub use answer::{About, Answer, Member};
+pub use answer::{About, Answer, Member, Micros, micros_of};
 pub use finish_log::{log_header, log_line};
 pub use names::{PickingWords, class_name};
 pub use numbers::Numbers;

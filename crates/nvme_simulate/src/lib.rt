@@ -30,7 +30,7 @@ pub use nvme_replay::{FileFault, ReplayError};
 pub use overrides::{OverrideFault, Overrides};
 pub use progress::Progress;
 pub use replays::Listings;
-pub use runs::{Form, Measured, measure, simulate};
+pub use runs::{Form, Measured, measure, simulate, simulate_bounded};
 pub use streams::Streams;
 pub use target::{Load, LoadFault, MAX_LOAD};
 pub use trace::{put_pick, put_trace_head};

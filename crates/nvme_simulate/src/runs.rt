@@ -12,6 +12,7 @@ use nvme_model::Model;
 use nvme_numbers::{About, Answer, Member, Numbers, Row};
 use nvme_simulation::{Happening, Simulation, SimulationFault};
 use nvme_version::VERSION;
+use nvme_waits::Bounds;
 use std::alloc::Global;
 use std::io::Write;
 
@@ -27,16 +28,27 @@ pub enum Form {
 }
 
 impl Form {
-    // Writes an answer so.
-    fn put<W: Write>(self, answer: &Answer, output: &mut W) -> Result<(), SimulateFault> {
-        let written = match self {
-            Form::Text => answer.write_text(output),
-            Form::Json => answer.write_json(output),
-            Form::Csv => answer.write_csv(output),
+    // Writes an answer so, and what is proved about waits, where that is wanted: behind the tables, or as one more key of the
+    // object. Lines of comma-separated values have no place for it.
+    fn put<W: Write>(
+        self,
+        answer: &Answer,
+        bounds: Option<&Bounds>,
+        output: &mut W,
+    ) -> Result<(), SimulateFault> {
+        let is_written = match (self, bounds) {
+            (Form::Text, None) => answer.write_text(output).is_ok(),
+            (Form::Text, Some(bounds)) => answer.write_text(output).is_ok()
+                && bounds.write_text(output).is_ok(),
+            (Form::Json, None) => answer.write_json(output).is_ok(),
+            (Form::Json, Some(bounds)) => answer.write_open_json(output).is_ok()
+                && bounds.write_json(output).is_ok(),
+            (Form::Csv, _) => answer.write_csv(output).is_ok(),
         };
-        match written {
-            Ok(()) => Ok(()),
-            Err(_) => Err(SimulateFault::Write(Stream::Answer)),
+        if is_written {
+            Ok(())
+        } else {
+            Err(SimulateFault::Write(Stream::Answer))
         }
     }
 }
@@ -56,6 +68,7 @@ enum Stepped {
 fn step<L: Write, T: Write, P: Write>(
     simulation: &mut Simulation,
     watch: &mut Watch,
+    bounds: &mut Option<Bounds>,
     numbers: &mut Numbers,
     streams: &mut Streams<L, T, P>,
 ) -> Result<Stepped, SimulateFault>
@@ -68,10 +81,16 @@ fn step<L: Write, T: Write, P: Write>(
     match simulation.step()? {
         Happening::Picked(picked) => {
             streams.pick(&picked, watch.seen())?;
+            if let Some(bounds) = bounds {
+                bounds.pick(picked.at, &picked.pick)?;
+            }
             Ok(Stepped::On)
         }
         Happening::Finished { command, counts } => {
             streams.finish(&command)?;
+            if let Some(bounds) = bounds {
+                bounds.finish(&command, counts);
+            }
             if counts {
                 numbers.add(&command)?;
             }
@@ -87,6 +106,7 @@ fn step<L: Write, T: Write, P: Write>(
 fn run<L: Write, T: Write, P: Write>(
     simulation: &mut Simulation,
     watch: &mut Watch,
+    bounds: &mut Option<Bounds>,
     numbers: &mut Numbers,
     streams: &mut Streams<L, T, P>,
 ) -> Result<u64, SimulateFault>
@@ -94,7 +114,7 @@ fn run<L: Write, T: Write, P: Write>(
 {
     let mut end = 0;
     for _ in 0..u64::MAX {
-        match step(simulation, watch, numbers, streams)? {
+        match step(simulation, watch, bounds, numbers, streams)? {
             Stepped::Finished(time) => end = time,
             Stepped::On => {}
             Stepped::Over => break,
@@ -117,6 +137,7 @@ struct Played {
 fn played_to_end<L: Write, T: Write, P: Write>(
     alloc: Global,
     model: Model,
+    bounds: &mut Option<Bounds>,
     streams: &mut Streams<L, T, P>,
 ) -> Result<Played, SimulateFault> {
     if is_too_long(&model) {
@@ -126,7 +147,7 @@ fn played_to_end<L: Write, T: Write, P: Write>(
     let mut watch = Watch::new(alloc, &model);
     streams.begin(&model)?;
     let mut simulation = Simulation::new(alloc, model)?;
-    let ran = run(&mut simulation, &mut watch, &mut numbers, streams);
+    let ran = run(&mut simulation, &mut watch, bounds, &mut numbers, streams);
     streams.progress.clear();
     let end = ran?;
     streams.end()?;
@@ -152,6 +173,40 @@ fn put_chart<W: Write>(
     }
 }
 
+// What is written behind a run.
+#[derive(Drop)]
+struct Behind<'a, W, C> {
+    digest: &'a Digest,
+    form: Form,
+    output: &'a mut W,
+    chart: &'a mut Option<C>,
+}
+
+// Runs a model to its end, and writes its picture, where one is wanted, and its answer, with its bounds where there are any.
+fn simulated<L: Write, T: Write, P: Write, W: Write, C: Write>(
+    alloc: Global,
+    model: Model,
+    mut bounds: Option<Bounds>,
+    streams: &mut Streams<L, T, P>,
+    behind: Behind<W, C>,
+) -> Result<(), SimulateFault> {
+    let subject = Subject::of(alloc, &model)?;
+    let Played {
+        simulation,
+        numbers,
+        end,
+    } = played_to_end(alloc, model, &mut bounds, streams)?;
+    let about = About {
+        version: VERSION,
+        digest: behind.digest.as_str(),
+    };
+    if let Some(chart) = behind.chart {
+        put_chart(alloc, &subject, &numbers, behind.digest, chart)?;
+    }
+    let answer = numbers.answer(end, simulation.channels(), about)?;
+    behind.form.put(&answer, bounds.as_ref(), behind.output)
+}
+
 /// Runs a model to its end, and writes its answer, with the digest of its file. What happens is written to the streams
 /// meanwhile, and a picture of the latencies to `chart`, where there is one, before the answer. A model whose commands would
 /// come for longer than the clock goes, by their mean times, is refused before anything is written.
@@ -164,21 +219,33 @@ pub fn simulate<L: Write, T: Write, P: Write, W: Write, C: Write>(
     output: &mut W,
     chart: &mut Option<C>,
 ) -> Result<(), SimulateFault> {
-    let subject = Subject::of(alloc, &model)?;
-    let Played {
-        simulation,
-        numbers,
-        end,
-    } = played_to_end(alloc, model, streams)?;
-    let about = About {
-        version: VERSION,
-        digest: digest.as_str(),
+    let behind = Behind {
+        digest,
+        form,
+        output,
+        chart,
     };
-    if let Some(chart) = chart {
-        put_chart(alloc, &subject, &numbers, digest, chart)?;
-    }
-    let answer = numbers.answer(end, simulation.channels(), about)?;
-    form.put(&answer, output)
+    simulated(alloc, model, None, streams, behind)
+}
+
+/// Does the same, and tells beside the longest waits for arbitration what is proved about them, but in comma-separated values.
+pub fn simulate_bounded<L: Write, T: Write, P: Write, W: Write, C: Write>(
+    alloc: Global,
+    model: Model,
+    digest: &Digest,
+    form: Form,
+    streams: &mut Streams<L, T, P>,
+    output: &mut W,
+    chart: &mut Option<C>,
+) -> Result<(), SimulateFault> {
+    let bounds = Bounds::of(alloc, &model)?;
+    let behind = Behind {
+        digest,
+        form,
+        output,
+        chart,
+    };
+    simulated(alloc, model, Some(bounds), streams, behind)
 }
 
 /// The numbers of a run.
@@ -203,7 +270,7 @@ pub fn measure<P: Write + Drop>(
         trace: None::<Vec<u8>>,
         progress,
     };
-    let Played { numbers, end, .. } = played_to_end(alloc, model, &mut streams)?;
+    let Played { numbers, end, .. } = played_to_end(alloc, model, &mut None, &mut streams)?;
     let about = About {
         version: VERSION,
         digest: "",

@@ -175,9 +175,13 @@ no_head = record (new_rule (codes "no-head")) { long = Some (codes "no-head"); a
 abbrev pub swept : App
 swept = with_rule (with_rule (with_rule (with_rule (with_rule bounded sweep) seeds) jobs) points) no_head
 
+-- what is proved about waits is told
+abbrev pub bounds : Rule
+bounds = record (new_rule (codes "bounds")) { long = Some (codes "bounds"); action = Some SetTrue }
+
 -- the subcommand that simulates, with the files that it writes beside its answer
 abbrev pub logged : Names → App
-logged names = with_rule (with_rule (with_rule swept (format names)) (text_option (codes "log"))) (text_option (codes "trace"))
+logged names = with_rule (with_rule (with_rule (with_rule swept (format names)) bounds) (text_option (codes "log"))) (text_option (codes "trace"))
 
 abbrev pub simulate : Names → App
 simulate names = with_rule (with_rule (logged names) (text_option (codes "chart"))) output

@@ -1,7 +1,7 @@
 // The command line of the program, by `clap`.
 ghost use Rattle.std.specs.Prelude.{◌≡◌, IfOk, codes};
 ghost use Rattle.clap.specs.Words.{App, app_of};
-ghost use Rattle.nvme_words.specs.CommandLine.{OnCommandLine, all, backlogged, blocks, bounded, chart, check, dword, expand, file, first, format, jobs, last, lint, mode, no_admin, number, once, option, ranged, reported, run, output, quiet, settings, simulate, stats, text_option, trace, traced, window, with_file, with_input, with_run, with_trace, workers, seeds, sweep, swept};
+ghost use Rattle.nvme_words.specs.CommandLine.{OnCommandLine, all, backlogged, blocks, bounded, bounds, chart, check, dword, expand, file, first, format, jobs, last, lint, mode, no_admin, number, once, option, ranged, reported, run, output, quiet, settings, simulate, stats, text_option, trace, traced, window, with_file, with_input, with_run, with_trace, workers, seeds, sweep, swept};
 ghost use Rattle.nvme_words.specs.inside.Built.{AddsIfMade, HasApp, HasRule};
 
 use clap::builder::ValueParser;
@@ -435,6 +435,16 @@ fn swept_command<'a>(alloc: Global) -> Result<Command<'a>, AllocError>
         .arg(no_head)
 }
 
+// What is proved about waits is told beside the longest ones.
+fn bounds_arg<'a>(alloc: Global) -> Arg<'a>
+    ensures { HasRule bounds result }
+{
+    Arg::new(alloc, "bounds")
+        .long("bounds")
+        .help("Tell how long a command waits for arbitration, beside the longest time that it may")
+        .action(ArgAction::SetTrue)
+}
+
 // The subcommand that simulates.
 fn simulate_command<'a>(alloc: Global, formats: &'a [&'a str]) -> Result<Command<'a>, AllocError>
     ensures { IfOk result (HasApp (simulate formats.entry)) }
@@ -444,6 +454,7 @@ fn simulate_command<'a>(alloc: Global, formats: &'a [&'a str]) -> Result<Command
     let chart = "A file that gets a picture of the latencies as SVG";
     swept_command(alloc)?
         .arg(format_arg(alloc, formats))?
+        .arg(bounds_arg(alloc))?
         .arg(text_arg(alloc, "log", "FILE", log))?
         .arg(text_arg(alloc, "trace", "FILE", trace))?
         .arg(text_arg(alloc, "chart", "FILE", chart))?

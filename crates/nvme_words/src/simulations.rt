@@ -30,6 +30,8 @@ pub struct SimulationWords<'a> {
     pub no_head: bool,
     /// How the answer is written.
     pub format: Format,
+    /// What is proved about waits is told.
+    pub bounds: bool,
     /// The name of the file that gets the finished commands.
     pub log: Option<&'a str>,
     /// The name of the file that gets the picks.
@@ -108,11 +110,27 @@ fn words_of<'a>(
         points: matches.get_flag("points"),
         no_head: matches.get_flag("no-head"),
         format: format_of(matches),
+        bounds: matches.get_flag("bounds"),
         log: matches.get_str("log"),
         trace: matches.get_str("trace"),
         chart: matches.get_str("chart"),
         output: name_of(matches.get_str("output")),
     })
+}
+
+impl SimulationWords<'_> {
+    /// What of them doesn't go with `--bounds`.
+    pub fn unfit_for_bounds(&self) -> Option<&'static str> {
+        if !self.bounds {
+            None
+        } else if self.is_sweep() {
+            Some("--bounds doesn't go with --sweep and --seeds")
+        } else if self.format == Format::Csv {
+            Some("--bounds doesn't go with --format csv")
+        } else {
+            None
+        }
+    }
 }
 
 /// What a line of `simulate` says. `None` where the words, of which the first is the program's name, are another line,

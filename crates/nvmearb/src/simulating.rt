@@ -9,7 +9,7 @@ use crate::telling::{failed, no_memory, unwritten};
 use nvme_program::{Format, SimulationWords};
 use nvme_simulate::{
     Digest, FileFault, Form, Listings, Model, ModelFault, Overrides, Progress, ReplayError,
-    SimulateFault, Source, Stream, Streams, Told, model_in, simulate, sources_in,
+    SimulateFault, Source, Stream, Streams, Told, model_in, simulate, simulate_bounded, sources_in,
 };
 use std::fs;
 use std::io::{self, BufWriter, Write};
@@ -81,7 +81,8 @@ fn overrides_of<E: Write>(line: &SimulationWords, errors: &mut E) -> Result<Over
         let _ = writeln!(errors, "nvmearb: {option} {name:?} is {role}");
         return Err(BAD_LINE);
     }
-    if let Some(fault) = line.unfit_for_sweep() {
+    let unfit = line.unfit_for_sweep().or(line.unfit_for_bounds());
+    if let Some(fault) = unfit {
         let _ = writeln!(errors, "nvmearb: {fault}");
         return Err(BAD_LINE);
     }
@@ -258,7 +259,12 @@ fn ran<R: AllocGlobal + Files, P: Write + Drop, W: Write, E: Write>(
         progress,
     };
     let (alloc, form) = (rt.alloc(), form_of(line.format));
-    match simulate(alloc, model, digest, form, &mut streams, output, chart) {
+    let run = if line.bounds {
+        simulate_bounded(alloc, model, digest, form, &mut streams, output, chart)
+    } else {
+        simulate(alloc, model, digest, form, &mut streams, output, chart)
+    };
+    match run {
         Ok(()) => 0,
         Err(fault) => tell_fault(line, fault, &log_notes, &trace_notes, errors),
     }

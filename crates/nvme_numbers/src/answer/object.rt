@@ -166,8 +166,8 @@ fn put_about<W: Write>(answer: &Answer, writer: &mut W) -> io::Result<()> {
     write!(writer, ",\"end_ps\":{end}")
 }
 
-/// Writes one object for tools.
-pub fn put_object<W: Write>(answer: &Answer, writer: &mut W) -> io::Result<()> {
+/// Writes one object for tools, but for the brace that ends it.
+pub fn put_open_object<W: Write>(answer: &Answer, writer: &mut W) -> io::Result<()> {
     put_about(answer, writer)?;
     put_settings(answer, writer)?;
     put_device(&answer.asked.device, writer)?;
@@ -181,6 +181,11 @@ pub fn put_object<W: Write>(answer: &Answer, writer: &mut W) -> io::Result<()> {
     writer.write_all(b"],\"classes\":[")?;
     put_classes(&answer.classes, writer)?;
     writer.write_all(b"],\"all\":{")?;
-    put_row(&answer.all, writer)?;
+    put_row(&answer.all, writer)
+}
+
+/// Writes one object for tools.
+pub fn put_object<W: Write>(answer: &Answer, writer: &mut W) -> io::Result<()> {
+    put_open_object(answer, writer)?;
     writer.write_all(b"}\n")
 }

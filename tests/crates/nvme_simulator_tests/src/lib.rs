@@ -1,6 +1,8 @@
 //! Tests of the simulator's crates. Each module uses the public names of one of them.
 
 #[cfg(test)]
+mod bounds;
+#[cfg(test)]
 mod channels;
 #[cfg(test)]
 mod clock;

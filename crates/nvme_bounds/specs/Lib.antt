@@ -1,0 +1,7 @@
+pub mod Before
+pub mod Longest
+pub mod Pools
+pub mod Runs
+pub mod Stretches
+pub mod Laws
+pub mod Examples

@@ -1,0 +1,17 @@
+-- The longest service. (profile)
+use Rattle.std.specs.Prelude.{ℕ, ◌+◌, ◌-◌, ◌*◌, max, length, slice_index}
+use Rattle.nvme_clock.specs.Quantiles.{values_of}
+use Rattle.nvme_load.specs.declared.services.Distribution.{Distribution}
+use Rattle.nvme_load.specs.declared.services.Distribution.TheVariants.{Fixed, Exponential, TwoPoints, Quantiles}
+use Rattle.nvme_load.specs.declared.services.Service.{Service}
+
+-- an exponential time is at most 64 means
+abbrev pub longest_time : Distribution → ℕ
+longest_time (Fixed time) = time
+longest_time (Exponential mean) = 64 * mean.picoseconds
+longest_time (TwoPoints points) = max points.usual points.rare
+longest_time (Quantiles table) = slice_index (values_of table) (length (values_of table) - 1)
+
+-- of a command of so many blocks
+abbrev pub longest_service : Service → ℕ → ℕ
+longest_service service blocks = longest_time service.time + service.per_block * blocks

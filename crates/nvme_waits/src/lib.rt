@@ -1,0 +1,8 @@
+//! The waits of a simulation's commands for arbitration: the longest that were seen, and what is proved about how long they may be.
+#![tactic(auto)]
+
+mod bounds;
+mod told;
+mod waits;
+
+pub use bounds::{Bound, Bounds, NoBound};
