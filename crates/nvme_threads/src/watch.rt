@@ -89,14 +89,23 @@ impl Watch {
         }
     }
 
-    // Wakes each host that could move anything.
-    fn ask_hosts(&self, flags: &Flags) {
+    // Wakes each feeder that could put anything.
+    fn ask_feeders(&self, flags: &Flags) {
         for (region, fetched) in self.fetched.iter().enumerate() {
             flags.bells().feeder(region).hurry(*fetched);
         }
+    }
+
+    // Wakes each drainer that could take anything.
+    fn ask_drainers(&self, flags: &Flags) {
         for (region, posted) in self.posted.iter().enumerate() {
             flags.bells().drainer(region).hurry(*posted);
         }
+    }
+
+    fn ask_hosts(&self, flags: &Flags) {
+        self.ask_feeders(flags);
+        self.ask_drainers(flags);
     }
 
     /// The front has nothing to do: wakes a worker where jobs wait, and otherwise the hosts.
