@@ -136,6 +136,9 @@ impl FrontState {
         ensures full { result ≡ Err LogFull → self.new.config.max_events < length self.new.log.items + 1 }
         ensures no_stray { IfErr result (λ e. (e ≡ LogFull) ⊎ (e ≡ NoMemory)) }
     {
+        if !self.engine.has_ready() {
+            return Ok(false);
+        }
         let mut posted = false;
         for cqid in 0..MAX_REGIONS as u16 {
             if self.post_queue(cqid)? {

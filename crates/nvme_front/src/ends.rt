@@ -86,7 +86,7 @@ impl FrontState {
 }
 
 impl Front {
-    ghost use Rattle.std.specs.Prelude.{◌≡◌, ℕ, ◌<◌, ◌≤◌, false, [], length, slice_index_or, IfOk, OnOk, IfErr};
+    ghost use Rattle.std.specs.Prelude.{◌≡◌, ◌↔◌, ℕ, ◌<◌, ◌≤◌, false, [], length, slice_index_or, None, IfSome, IfOk, OnOk, IfErr};
     ghost use Rattle.nvme_pool.specs.Pool.{IsPool};
     ghost use Rattle.nvme_jobs.specs.Answers.{AnswersHaveTickets};
     ghost use Rattle.nvme_jobs.specs.JobAccount.{AccountsForJobs};
@@ -118,6 +118,28 @@ impl Front {
         ensures few { length self.now.puts ≤ MAX_REGIONS }
     {
         self.state.cqs.len() as u8
+    }
+
+    /// The number of slots of a submission region's ring. None where the front has no region of this number.
+    pub fn sq_slots(&self, r: u8) -> Option<u16>
+        ensures slots { IfSome result (λ slots. (g : GetView Sqe) → slots ≡ (slice_index_or self.now.gets r g).slots) }
+        ensures there { (result ≡ None) ↔ (length self.now.gets ≤ r) }
+    {
+        if usize::from(r) >= self.state.sqs.len() {
+            return None;
+        }
+        Some(self.state.sqs[usize::from(r)].end.slots())
+    }
+
+    /// The number of slots of a completion region's ring. None where the front has no region of this number.
+    pub fn cq_slots(&self, c: u8) -> Option<u16>
+        ensures slots { IfSome result (λ slots. (p : PutView Cqe) → slots ≡ (slice_index_or self.now.puts c p).slots) }
+        ensures there { (result ≡ None) ↔ (length self.now.puts ≤ c) }
+    {
+        if usize::from(c) >= self.state.cqs.len() {
+            return None;
+        }
+        Some(self.state.cqs[usize::from(c)].slots())
     }
 
     /// The address of a submission region.

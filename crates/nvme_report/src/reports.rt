@@ -7,6 +7,7 @@ ghost use Rattle.nvme_report.specs.Report.{report_text};
 pub mod completions;
 mod counts;
 mod hints;
+mod line;
 mod lines;
 
 use completions::put_completions;

@@ -3,7 +3,7 @@ ghost use Rattle.std.specs.Prelude.{◌≡◌, IfOk, map, vec_len};
 ghost use Rattle.nvme_pool.specs.Runs.{Ran};
 
 use crate::flags::Flags;
-use crate::pauses::Pause;
+use crate::pauses::CrewPause;
 use crate::tasks::{Shared, Task};
 use nvme_pool::{Gate, Lanes, Worked, Worker};
 use std::alloc::{AllocError, Global};
@@ -41,10 +41,10 @@ fn work<G: Gate + Drop, R: Wait>(
 {
     let mut worker = worker;
     let mut gate = gate;
-    let mut pause = Pause::new();
+    let mut pause = CrewPause::new();
     for _ in rt.forever() {
         match worker.step(rt, lanes, &mut gate) {
-            Worked::Did => pause.reset(),
+            Worked::Did => pause.did_one(flags),
             Worked::Held | Worked::Nothing => {
                 if flags.is_over() {
                     break;

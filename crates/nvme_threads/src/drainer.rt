@@ -14,25 +14,26 @@ impl Task for Drainer<Cqe> {
 
     ghost ran = { IsSameDrainer };
 
-    fn run<R: Wait>(self, rt: &R, shared: &Shared, _place: usize) -> Drainer<Cqe> {
-        drain(rt, self, &shared.flags)
+    fn run<R: Wait>(self, rt: &R, shared: &Shared, place: usize) -> Drainer<Cqe> {
+        drain(rt, self, place, &shared.flags)
     }
 }
 
 // Collects what is posted until all is over, or memory is refused.
-fn drain<R: Wait>(rt: &R, drainer: Drainer<Cqe>, flags: &Flags) -> Drainer<Cqe>
+fn drain<R: Wait>(rt: &R, drainer: Drainer<Cqe>, region: usize, flags: &Flags) -> Drainer<Cqe>
     ensures { IsSameDrainer drainer result }
 {
     let mut drainer = drainer;
+    let bell = flags.bells().drainer(region);
     let mut pause = HostPause::new();
     for _ in rt.forever() {
         match drainer.take() {
-            Ok(true) => pause.moved_one(),
+            Ok(true) => pause.moved_one(bell),
             Ok(false) => {
                 if flags.is_over() {
                     break;
                 }
-                pause.rest(rt, flags);
+                pause.rest_empty(rt, flags, bell);
             }
             Err(_) => {
                 flags.tell_starved();

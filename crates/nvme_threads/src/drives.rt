@@ -9,6 +9,7 @@ ghost use Rattle.nvme_threads.specs.declared.drives.DriveError.TheVariants as dr
 ghost use Rattle.nvme_threads.specs.Hosts.{feeder_seen, drainer_seen};
 ghost use Rattle.nvme_threads.specs.Runs.{AllRan};
 
+use crate::bells::Bells;
 use crate::crew::{Crewman, apart, together};
 use crate::flags::Flags;
 use crate::hosts::{Hosts, finish, start};
@@ -120,6 +121,7 @@ pub(crate) fn in_threads<G: Gate + Send + Drop, R: Threads + Wait + Sync>(
 // The flags of a drive, and its crew.
 fn prepared<G: Gate + Drop>(
     alloc: Global,
+    front: &Front,
     feeders: usize,
     workers: Vec<Worker>,
     gates: Vec<G>,
@@ -128,7 +130,8 @@ fn prepared<G: Gate + Drop>(
     ensures workers { IfOk result (λ r. map (λ c. c.worker) r.1.items ≡ workers.items) }
     ensures gates { IfOk result (λ r. map (λ c. c.gate) r.1.items ≡ gates.items) }
 {
-    let flags = Flags::new(alloc, feeders)?;
+    let bells = Bells::of(alloc, front)?;
+    let flags = Flags::new(alloc, feeders, workers.len(), bells)?;
     let crew = together(alloc, workers, gates)?;
     Ok((flags, crew))
 }
@@ -149,7 +152,7 @@ pub(crate) fn taken_apart<G: Gate + Drop>(
         lanes,
         workers,
     } = parts;
-    let Ok((flags, crew)) = prepared(alloc, feeders.len(), workers, gates) else {
+    let Ok((flags, crew)) = prepared(alloc, &front, feeders.len(), workers, gates) else {
         drop(front);
         return Err(AllocError);
     };

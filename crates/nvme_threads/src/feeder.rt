@@ -24,16 +24,17 @@ pub fn feed<R: Wait>(rt: &R, feeder: Feeder<Sqe>, region: usize, flags: &Flags) 
     ensures { IsSameFeeder feeder result }
 {
     let mut feeder = feeder;
+    let bell = flags.bells().feeder(region);
     let mut pause = HostPause::new();
     for _ in rt.forever() {
         match feeder.step() {
             Feed::Done => break,
-            Feed::Put => pause.moved_one(),
+            Feed::Put => pause.moved_one(bell),
             Feed::Full => {
                 if flags.is_unfed(region) {
                     break;
                 }
-                pause.rest(rt, flags);
+                pause.rest_full(rt, flags, bell);
             }
         }
     }

@@ -1,4 +1,5 @@
 // What the threads tell one another. No contract rests on it.
+use crate::bells::Bells;
 use std::alloc::{AllocError, Global};
 use std::sync::atomic::{AtomicBool, AtomicU64, Ordering};
 
@@ -13,15 +14,25 @@ pub struct Flags {
     admin_fed: AtomicBool,
     // Each feeder is to end, though its script isn't sent.
     unfed: Vec<AtomicBool>,
-    // Every thread is to end. Threads sleep on this word.
-    over: AtomicU64,
+    // Every thread is to end.
+    over: AtomicBool,
     // A thread was refused memory.
     starved: AtomicBool,
+    // How many workers there are, and how many jobs they have told to be done.
+    workers: u64,
+    done: AtomicU64,
+    // What the threads sleep on.
+    bells: Bells,
 }
 
 impl Flags {
-    /// Flags for this number of feeders: none has ended, and nothing was told.
-    pub fn new(alloc: Global, feeders: usize) -> Result<Flags, AllocError> {
+    /// Flags for these numbers of feeders and workers: none has ended, and nothing was told. They sleep on these bells.
+    pub fn new(
+        alloc: Global,
+        feeders: usize,
+        workers: usize,
+        bells: Bells,
+    ) -> Result<Flags, AllocError> {
         let mut unfed = Vec::new(alloc);
         for _ in 0..feeders {
             unfed.push(AtomicBool::new(false))?;
@@ -31,8 +42,11 @@ impl Flags {
             fed: AtomicU64::new(0),
             admin_fed: AtomicBool::new(false),
             unfed,
-            over: AtomicU64::new(0),
+            over: AtomicBool::new(false),
             starved: AtomicBool::new(false),
+            workers: workers as u64,
+            done: AtomicU64::new(0),
+            bells,
         })
     }
 
@@ -42,6 +56,7 @@ impl Flags {
             self.admin_fed.store(true, Ordering::SeqCst);
         }
         self.fed.fetch_add(1, Ordering::SeqCst);
+        self.bells.front().ring();
     }
 
     /// The feeders of all regions had ended before.
@@ -64,6 +79,7 @@ impl Flags {
     pub fn stop_feeding(&self, region: usize) {
         if let Some(flag) = self.unfed.get(region) {
             flag.store(true, Ordering::SeqCst);
+            self.bells.feeder(region).ring();
         }
     }
 
@@ -78,23 +94,40 @@ impl Flags {
 
     /// Tells every thread to end.
     pub fn end(&self) {
-        self.over.store(1, Ordering::SeqCst);
-        self.over.wake_all();
+        self.over.store(true, Ordering::SeqCst);
+        self.bells.ring_all();
     }
 
     /// Whether every thread is to end.
     pub fn is_over(&self) -> bool {
-        self.over.load(Ordering::SeqCst) > 0
+        self.over.load(Ordering::SeqCst)
     }
 
-    /// What a thread sleeps on until all is over.
-    pub fn until_over(&self) -> &AtomicU64 {
-        &self.over
+    /// A worker did so many more jobs. The front may go on.
+    pub fn tell_done(&self, jobs: u64) {
+        self.done.fetch_add(jobs, Ordering::SeqCst);
+        self.bells.front().ring();
+    }
+
+    /// How many jobs the workers have told to be done.
+    pub fn done(&self) -> u64 {
+        self.done.load(Ordering::SeqCst)
+    }
+
+    /// Whether all workers sleep, or are about to.
+    pub fn is_no_worker_awake(&self) -> bool {
+        self.bells.workers().sleepers() >= self.workers
+    }
+
+    /// What the threads sleep on.
+    pub fn bells(&self) -> &Bells {
+        &self.bells
     }
 
     /// Tells that a thread was refused memory, or couldn't be started.
     pub fn tell_starved(&self) {
         self.starved.store(true, Ordering::SeqCst);
+        self.bells.front().ring();
     }
 
     /// Whether a thread was refused memory, or couldn't be started.

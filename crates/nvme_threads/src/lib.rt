@@ -1,6 +1,7 @@
 //! Drives a front with its hosts and its workers, each on a thread of its own, and the front on the calling thread.
 #![tactic(auto)]
 
+mod bells;
 mod crew;
 mod drainer;
 mod drives;
@@ -14,6 +15,7 @@ mod pauses;
 mod start;
 mod tasks;
 mod turns;
+mod watch;
 
 pub use drives::{DriveError, drive};
 pub use fed_drives::drive_fed;

@@ -4,6 +4,7 @@ ghost use Rattle.std.specs.List.{AllZip};
 ghost use Rattle.nvme_threads.specs.Hosts.{ends_seen};
 ghost use Rattle.nvme_threads.specs.inside.Drives.{CameBack};
 
+use crate::bells::Bells;
 use crate::feeder::feed;
 use crate::flags::Flags;
 use crate::join::{Joined, join_all};
@@ -83,7 +84,7 @@ pub fn load<R: Threads + Wait + Sync>(
     ensures lanes { IfOk result (λ r. r.0 ≡ lanes) }
     ensures rings { IfOk result (λ r. map ends_seen r.1.items ≡ map ends_seen rings.items) }
 {
-    let flags = Flags::new(alloc, rings.len())?;
+    let flags = Flags::new(alloc, rings.len(), 0, Bells::of_none(alloc))?;
     let shared = Shared { lanes, flags };
     let Joined { tasks, is_whole } = in_threads(rt, alloc, &shared, rings);
     if !is_whole {

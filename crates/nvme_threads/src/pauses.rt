@@ -1,126 +1,175 @@
-// Waiting of a thread that found nothing to do.
+// Waiting of a thread that found nothing to do. It rests a first time by telling that it is about to sleep, looks again,
+// and sleeps when it rests a second time. (bells.rt)
+use crate::bells::HostBell;
 use crate::flags::Flags;
+use crate::watch::Watch;
 use crossbeam_utils::Backoff;
 use std::sync::Wait;
-use std::time::Duration;
 
-// The longest sleep of the front and of a worker, in microseconds.
-const LONGEST: u64 = 1000;
-// How often a waiting thread spins before it sleeps, twice as long each time.
+// The longest sleeps of the front and of a worker, in milliseconds, where nobody rings.
+const FRONT_SLEEP: u64 = 1;
+
+const WORKER_SLEEP: u64 = 20;
+// How often the front spins before it sleeps, twice as long each time.
 const SPINS: u32 = 7;
-// The sleeps of a host, in microseconds. (A sleep takes about 50 microseconds more than was asked for.)
-const HOST_SLEEPS: [u64; 5] = [1, 50, 100, 200, 400];
-// How many commands or completions a host moves after a sleep that is long enough.
-const ENOUGH: u32 = 32;
+// A worker tells at once of so many jobs.
+const TOLD: u64 = 64;
 
-// Sleeps for this number of microseconds, or until all is over.
-fn sleep<R: Wait>(rt: &R, flags: &Flags, micros: u64) {
-    flags
-        .until_over()
-        .park_timeout(rt, 0, Duration::from_micros(micros));
-}
-
-/// How long the front or a worker has found nothing to do. It spins first, and then sleeps, longer each time and at
-/// most a millisecond, or until all is over.
+/// How long the front has found nothing to do. It spins first, and then sleeps until it is rung.
 #[derive(Drop)]
-pub struct Pause {
+pub struct FrontPause {
     backoff: Backoff,
-    // How often it has spun.
+    // How often it has spun, and then slept.
     spins: u32,
-    // The next sleep, in microseconds.
-    sleep: u64,
+    sleeps: u32,
+    // It is about to sleep.
+    heard: Option<u64>,
 }
 
-impl Pause {
+impl FrontPause {
     /// Something was done just now.
-    pub fn new() -> Pause {
-        Pause {
+    pub fn new() -> FrontPause {
+        FrontPause {
             backoff: Backoff::new(),
             spins: 0,
-            sleep: 1,
+            sleeps: 0,
+            heard: None,
         }
     }
 
     /// Something was done.
-    pub fn reset(&mut self) {
+    pub fn reset(&mut self, flags: &Flags) {
+        if self.heard.is_some() {
+            flags.bells().front().get_up();
+            self.heard = None;
+        }
         self.backoff.reset();
         self.spins = 0;
-        self.sleep = 1;
+        self.sleeps = 0;
     }
 
-    /// Spins, or sleeps.
-    pub fn rest<R: Wait>(&mut self, rt: &R, flags: &Flags) {
+    /// Wakes those that the front waits for, spins, and sleeps then.
+    pub fn rest<R: Wait>(&mut self, rt: &R, flags: &Flags, watch: &mut Watch) {
         if self.spins < SPINS {
+            if self.spins == 0 {
+                watch.ask(flags);
+            }
             self.spins += 1;
             self.backoff.spin();
             return;
         }
-        sleep(rt, flags, self.sleep);
-        self.sleep = self.sleep.saturating_mul(2).min(LONGEST);
+        let Some(heard) = self.heard else {
+            if self.sleeps > 0 {
+                watch.ask_all(flags);
+            }
+            self.heard = Some(flags.bells().front().lie_down());
+            return;
+        };
+        flags.bells().front().sleep(rt, heard, FRONT_SLEEP);
+        flags.bells().front().get_up();
+        self.heard = None;
+        self.sleeps = self.sleeps.saturating_add(1);
     }
 }
 
-/// How much a host moved since it slept. It sleeps longer while that lets it move more at once, so that hosts of large
-/// rings wake seldom and those of small rings often. It spins only after it moved much.
+/// What a worker did since it told of it, and whether it is about to sleep.
+#[derive(Drop)]
+pub struct CrewPause {
+    did: u64,
+    heard: Option<u64>,
+}
+
+impl CrewPause {
+    /// Nothing was done yet.
+    pub fn new() -> CrewPause {
+        CrewPause {
+            did: 0,
+            heard: None,
+        }
+    }
+
+    // Tells how many jobs were done.
+    fn tell(&mut self, flags: &Flags) {
+        flags.tell_done(self.did);
+        self.did = 0;
+    }
+
+    /// A job was done.
+    pub fn did_one(&mut self, flags: &Flags) {
+        if self.heard.is_some() {
+            flags.bells().workers().get_up();
+            self.heard = None;
+        }
+        self.did = self.did.saturating_add(1);
+        if self.did == TOLD {
+            self.tell(flags);
+        }
+    }
+
+    /// There is no job: tells what was done, and sleeps until it is rung.
+    pub fn rest<R: Wait>(&mut self, rt: &R, flags: &Flags) {
+        if self.did > 0 {
+            self.tell(flags);
+        }
+        let Some(heard) = self.heard else {
+            self.heard = Some(flags.bells().workers().lie_down());
+            return;
+        };
+        flags.bells().workers().sleep(rt, heard, WORKER_SLEEP);
+        flags.bells().workers().get_up();
+        self.heard = None;
+    }
+}
+
+/// How much a host moved, and whether it is about to sleep.
 #[derive(Drop)]
 pub struct HostPause {
-    backoff: Backoff,
-    // How often it has spun.
-    spins: u32,
-    // The place of the last sleep among the sleeps of a host.
-    length: usize,
-    // How many were moved since the last sleep, and between the two before.
-    moved: u32,
-    before: u32,
+    moved: u64,
+    heard: Option<u64>,
 }
 
 impl HostPause {
-    ghost use Rattle.std.specs.Prelude.{◌<◌};
-
     /// Nothing was moved yet.
     pub fn new() -> HostPause {
         HostPause {
-            backoff: Backoff::new(),
-            spins: 0,
-            length: 0,
             moved: 0,
-            before: 0,
+            heard: None,
         }
     }
 
     /// A command or a completion was moved.
-    pub fn moved_one(&mut self) {
+    pub fn moved_one(&mut self, bell: &HostBell) {
+        if self.heard.is_some() {
+            bell.get_up();
+            self.heard = None;
+        }
         self.moved = self.moved.saturating_add(1);
-        if self.moved == ENOUGH {
-            self.backoff.reset();
-            self.spins = 0;
-        }
     }
 
-    // The place of the next sleep: a longer one where nothing was moved or the last sleep let more be moved.
-    fn next_length(&self) -> usize
-        ensures { result < 5 }
-    {
-        let is_longer = self.moved == 0 || (self.moved < ENOUGH && self.moved > self.before);
-        let length = if is_longer {
-            self.length.saturating_add(1)
-        } else {
-            self.length.saturating_sub(1)
+    // Sleeps, if it was about to.
+    fn slept<R: Wait>(&mut self, rt: &R, bell: &HostBell) -> bool {
+        let Some(heard) = self.heard else {
+            return false;
         };
-        length.min(HOST_SLEEPS.len() - 1)
+        bell.sleep(rt, heard);
+        bell.get_up();
+        self.heard = None;
+        true
     }
 
-    /// Spins, or sleeps.
-    pub fn rest<R: Wait>(&mut self, rt: &R, flags: &Flags) {
-        if self.spins < SPINS {
-            self.spins += 1;
-            self.backoff.spin();
-            return;
+    /// The ring is full: the front may go on, and the feeder sleeps until a good part of the ring is free.
+    pub fn rest_full<R: Wait>(&mut self, rt: &R, flags: &Flags, bell: &HostBell) {
+        if !self.slept(rt, bell) {
+            flags.bells().front().ring();
+            self.heard = Some(bell.wait_for_room(self.moved));
         }
-        let length = self.next_length();
-        self.length = length;
-        self.before = self.moved;
-        self.moved = 0;
-        sleep(rt, flags, HOST_SLEEPS[length]);
+    }
+
+    /// The ring is empty: the front may go on, and the drainer sleeps until a good part of the ring is filled.
+    pub fn rest_empty<R: Wait>(&mut self, rt: &R, flags: &Flags, bell: &HostBell) {
+        if !self.slept(rt, bell) {
+            flags.bells().front().ring();
+            self.heard = Some(bell.wait_for_posts(self.moved));
+        }
     }
 }

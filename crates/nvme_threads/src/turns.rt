@@ -8,8 +8,9 @@ ghost use Rattle.nvme_threads.specs.declared.drives.DriveError.TheVariants as dr
 
 use crate::drives::DriveError;
 use crate::flags::Flags;
-use crate::pauses::Pause;
+use crate::pauses::FrontPause;
 use crate::tasks::Shared;
+use crate::watch::Watch;
 use nvme_admin::MAX_REGIONS;
 use nvme_front::{Front, Step};
 use std::sync::Wait;
@@ -26,16 +27,18 @@ struct Fed {
 struct Quiet {
     turns: u32,
     patience: u32,
-    pause: Pause,
+    pause: FrontPause,
+    watch: Watch,
 }
 
 impl Quiet {
     // No turn was made yet.
-    fn new(patience: u32) -> Quiet {
+    fn new(front: &Front, patience: u32) -> Quiet {
         Quiet {
             turns: 0,
             patience,
-            pause: Pause::new(),
+            pause: FrontPause::new(),
+            watch: Watch::new(front),
         }
     }
 
@@ -55,7 +58,7 @@ impl Quiet {
         if is_clear && fed.is_admin {
             stop_unserved(front, flags);
         }
-        self.pause.rest(rt, flags);
+        self.pause.rest(rt, flags, &mut self.watch);
         false
     }
 
@@ -68,9 +71,10 @@ impl Quiet {
         fed: Fed,
         flags: &Flags,
     ) -> bool {
+        self.watch.look(front, flags);
         if step == Step::Picked || step == Step::Moved {
             self.turns = 0;
-            self.pause.reset();
+            self.pause.reset(flags);
             return false;
         }
         let is_clear = step == Step::Idle && front.is_clear();
@@ -143,7 +147,7 @@ pub fn serve<R: Wait>(
     ensures fault_at { IfErr result (IsFaultAt front.old front.new) }
 {
     refuse_starved(&shared.flags)?;
-    let mut quiet = Quiet::new(patience);
+    let mut quiet = Quiet::new(front, patience);
     for _ in rt.forever() {
         match turn(rt, front, shared, &mut quiet) {
             Ok(false) => {}

@@ -10,9 +10,10 @@ ghost use Rattle.nvme_report.specs.inside.Tallies.{AreCounted, IsFirst};
 
 use crate::reports::counts::{Counts, counts_at};
 use crate::reports::hints::{Hints, PLACES};
+use crate::reports::line::Line;
 use nvme_entry::Cqe;
 use nvme_front::Event;
-use nvme_output::{Piece, WriteFault, put_line};
+use nvme_output::WriteFault;
 use std::io::Write;
 
 /// A completion and where in a log it was posted.
@@ -67,19 +68,18 @@ fn put_completion<W: Write>(
 ) -> Result<(), WriteFault>
     ensures { Writes (W.contents writer.old) (W.contents writer.new) result (cmd_line region index cqe.now) }
 {
-    let pieces = [
-        Piece::Words("cmd "),
-        Piece::Number(region as u128),
-        Piece::Words("."),
-        Piece::Number(index as u128),
-        Piece::Words(" "),
-        Piece::Number(u128::from(cqe.status.sct())),
-        Piece::Words("/"),
-        Piece::Byte(cqe.status.sc()),
-        Piece::Words(" "),
-        Piece::Dword(cqe.dw0),
-    ];
-    put_line(&pieces, writer)
+    let mut line = Line::new();
+    line.words("cmd ");
+    line.number(region as u64);
+    line.words(".");
+    line.number(index as u64);
+    line.words(" ");
+    line.number(u64::from(cqe.status.sct()));
+    line.words("/");
+    line.byte(cqe.status.sc());
+    line.words(" ");
+    line.dword(cqe.dw0);
+    line.write(writer)
 }
 
 // Writes the lines of a number of places of a region.

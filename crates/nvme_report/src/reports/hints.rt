@@ -6,7 +6,7 @@ use nvme_front::Event;
 pub const PLACES: usize = 65_536;
 
 // How many events in a row share a hint, so that 16 bits are enough for the longest log.
-const RUN: usize = 32;
+const RUN: usize = 16;
 
 /// For each place, region by region, the run of events in which a log likely posts its completion.
 #[derive(Drop)]

@@ -3,6 +3,7 @@ ghost use Rattle.std.specs.List.{flat_map};
 ghost use Rattle.nvme_output.specs.Written.{Writes};
 ghost use Rattle.nvme_report.specs.Report.{cq_line, cq_line_of, mode_line, numbered, pick_line};
 
+use crate::reports::line::Line;
 use nvme_entry::Cqe;
 use nvme_front::Event;
 use nvme_lane::Mode;
@@ -26,14 +27,13 @@ fn put_pick<W: Write>(event: &Event, writer: &mut W) -> Result<(), WriteFault>
     let Event::Pick { pick, .. } = event else {
         return Ok(());
     };
-    let pieces = [
-        Piece::Words("pick q"),
-        Piece::Number(u128::from(pick.qid)),
-        Piece::Words(" "),
-        Piece::Number(u128::from(pick.n)),
-        Piece::Words(if pick.fresh { " fresh" } else { "" }),
-    ];
-    put_line(&pieces, writer)
+    let mut line = Line::new();
+    line.words("pick q");
+    line.number(u64::from(pick.qid));
+    line.words(" ");
+    line.number(u64::from(pick.n));
+    line.words(if pick.fresh { " fresh" } else { "" });
+    line.write(writer)
 }
 
 /// Writes the lines of the picks of a log.

@@ -1,9 +1,10 @@
 -- A queue after another: as long as nothing is posted nothing changes, and the queues before stay drained.
 use Rattle.std.proofs.Common.{◌≡◌, ◌∙◌, ℕ, Some, true, false, Ok, refl, sym, ap, arith, below_more}
 use Rattle.nvme_log.specs.Queues.{open_cq}
+use Rattle.nvme_log.specs.Rules.{Past}
 use Rattle.nvme_front.specs.inside.Goes.{IsDrained}
-use Rattle.nvme_front.specs.inside.State.{past_of}
-use Rattle.nvme_front.proofs.Drained.{all_drained}
+use Rattle.nvme_front.specs.inside.State.{past_of, rules_of}
+use Rattle.nvme_front.proofs.Drained.{all_drained, all_posted_drains}
 use Rattle.nvme_front.proofs.States.{Goes-refl, Goes-trans, IsSame-refl, IsSame-trans, admin-goes}
 use Rattle.nvme_front.proofs.PostOne.{posts-over, goes-longer, open_stays}
 use Rattle.nvme_front.proofs.state.FrontState.post.Goals as goal
@@ -87,3 +88,10 @@ pub returns-clause-still : goal.returns-clause-still
 returns-clause-still c = λ r.
     let none : c.loop-cqid.posted ≡ false = cc r in
     c.loop-cqid.invariant.still none
+
+-- no completion is ready, so none can be posted
+pub returns-then-not-has_ready-clause-drained : goal.returns-then-not-has_ready-clause-drained
+returns-then-not-has_ready-clause-drained c =
+    let s = c.args.self.now in
+    let k = c.requires.consistent.running c.requires.admin in
+    all_drained s k (λ q x within is. all_posted_drains s k x (c.has_ready.ensures (rules_of s) s.late k.notes q x k.stands (ap (λ (p : Past). open_cq p q) k.past_is ∙ is) (search)))
