@@ -8,7 +8,6 @@ use Rattle.nvme_log.specs.declared.event.Event.TheVariants.{Post}
 use Rattle.nvme_log.specs.Rules.{Past}
 use Rattle.nvme_log.specs.Completions.{posts_of}
 use Rattle.nvme_report.specs.Report.{completions_of}
-use Rattle.nvme_report.specs.inside.Tallies.{IsFirst}
 use Rattle.nvme_report.proofs.Completions.{completions_are_posts, posts_append}
 
 -- an event before a log
