@@ -184,7 +184,7 @@ module _ (rules : FrontRules) (late : Bool) (notes : Notes) (c : Controller) (sl
       elim (none_is_out c slots q none) [
         | inl out ↦ empty (stands.numbers.readied q (omega (arith, few)) out)
         | inr within ↦ elim (not_postable c slots (cq_at c.cqs q) within) [
-            | inl full ↦ inl (full_ring q x life full)
-            | inr len ↦ empty len
-          ]
+          | inl full ↦ inl (full_ring q x life full)
+          | inr len ↦ empty len
+        ]
       ]
