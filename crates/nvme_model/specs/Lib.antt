@@ -1,3 +1,4 @@
+pub mod Arrivals
 pub mod Devices
 pub mod Laws
 pub mod Models

@@ -1,5 +1,6 @@
 // All that a simulation is a function of.
 ghost use Rattle.std.specs.Prelude.{◌≡◌, ◌≤◌, ◌<◌, IfErr, IfOk, length};
+ghost use Rattle.nvme_model.specs.Arrivals.{ArePut};
 ghost use Rattle.nvme_model.specs.Models.{TellsEndFault, TellsQueuesFault};
 ghost use Rattle.nvme_model.specs.declared.model.TheConstants.{MAX_COMMANDS, MAX_QUEUES};
 
@@ -127,10 +128,11 @@ impl Model {
         })
     }
 
-    /// Puts arrivals in the place of those of a queue, by its identifier. Nothing changes where there is no such queue.
+    /// Puts arrivals in the place of those of the queue of this identifier, from 1 on. All else of that queue stays, and so
+    /// do the other queues. Nothing changes where there is no such queue.
     pub fn put_arrivals(&mut self, number: usize, arrivals: Arrivals)
         ensures rest { self.new ≡ record self.old { queues = self.new.queues; some = self.new.some; at_most = self.new.at_most } }
-        ensures count { length self.new.queues.items ≡ length self.old.queues.items }
+        ensures queues { ArePut number arrivals self.old.queues.items self.new.queues.items }
     {
         let Some(place) = number.checked_sub(1) else {
             return;
