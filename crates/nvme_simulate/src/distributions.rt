@@ -109,6 +109,7 @@ fn curve_of(alloc: Global, group: &Group, ranked: &Ranked) -> Result<Drawn, Allo
     let tail = tail_of(alloc, ranked, &percentiles)?;
     let curve = Curve {
         style,
+        shift: 0,
         tip: group.name(alloc)?,
         points: points_of(alloc, &tail, commands)?,
         marks: marks_of(alloc, name.as_str(), &percentiles)?,

@@ -39,8 +39,9 @@ fn sweep_over<'a>(
         overrides,
         listings,
         text,
+        drawn: None,
     };
-    sweep.look(alloc)?;
+    let _ = sweep.look(alloc)?;
     Ok(sweep)
 }
 
@@ -144,6 +145,11 @@ fn bad_words_are_refused(rt: HostRuntime) -> Result<(), Fail> {
         refused(&rt, &["burst=1", "burst=2"])?.as_str(),
         "--sweep burst: the key is swept twice"
     );
+    assert_eq!(rt;
+        refused(&rt, &["burst=8,1,none,1"])?.as_str(),
+        "--sweep burst: the value 1 is there twice"
+    );
+    assert_eq!(rt; refused(&rt, &["load=0.5,0.50"])?.as_str(), "");
     assert_eq!(rt; refused(&rt, &["queue.2.class=low,urgent"])?.as_str(), "");
     Ok(())
 }
@@ -230,7 +236,7 @@ fn a_sweep_is_drawn(rt: HostRuntime) -> Result<(), Fail> {
     assert!(rt; done.is_ok());
     let text = std::str::from_utf8(svg.as_slice()).unwrap_or("");
     for part in [
-        ">Latency over device.channels</text>",
+        ">Latency of each class over device.channels</text>",
         "<title>device.channels=2 high: 100.000 us</title>",
         "<title>low</title>",
         ", digest ba7816bf8f01cfea414140de5dae2223b00361a396177a9cb410ff61f20015ad</text>",
