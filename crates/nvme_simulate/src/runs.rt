@@ -1,10 +1,10 @@
 // Runs a model to its end.
 ghost use Rattle.nvme_simulation.specs.Simulations.{IsSimulation};
 
-use crate::digest::Digest;
 use crate::distributions::Subject;
 use crate::fault::{SimulateFault, Stream};
 use crate::lengths::is_too_long;
+use crate::origin::Origin;
 use crate::progress::Progress;
 use crate::streams::Streams;
 use crate::watch::Watch;
@@ -142,23 +142,23 @@ fn put_chart<W: Write>(
     alloc: Global,
     subject: &Subject,
     numbers: &Numbers,
-    digest: &Digest,
+    origin: &Origin,
     chart: &mut W,
 ) -> Result<(), SimulateFault> {
-    let picture = subject.picture(alloc, numbers, digest)?;
+    let picture = subject.picture(alloc, numbers, origin)?;
     match picture.write_svg(chart) {
         Ok(()) => Ok(()),
         Err(_) => Err(SimulateFault::Write(Stream::Chart)),
     }
 }
 
-/// Runs a model to its end, and writes its answer, with the digest of its file. What happens is written to the streams
+/// Runs a model to its end, and writes its answer, which tells its origin. What happens is written to the streams
 /// meanwhile, and a picture of the latencies to `chart`, where there is one, before the answer. A model whose commands would
 /// come for longer than the clock goes, by their mean times, is refused before anything is written.
 pub fn simulate<L: Write, T: Write, P: Write, W: Write, C: Write>(
     alloc: Global,
     model: Model,
-    digest: &Digest,
+    origin: &Origin,
     form: Form,
     streams: &mut Streams<L, T, P>,
     output: &mut W,
@@ -172,10 +172,11 @@ pub fn simulate<L: Write, T: Write, P: Write, W: Write, C: Write>(
     } = played_to_end(alloc, model, streams)?;
     let about = About {
         version: VERSION,
-        digest: digest.as_str(),
+        digest: origin.digest.as_str(),
+        options: origin.options.as_str(),
     };
     if let Some(chart) = chart {
-        put_chart(alloc, &subject, &numbers, digest, chart)?;
+        put_chart(alloc, &subject, &numbers, origin, chart)?;
     }
     let answer = numbers.answer(end, simulation.channels(), about)?;
     form.put(&answer, output)
@@ -207,6 +208,7 @@ pub fn measure<P: Write + Drop>(
     let about = About {
         version: VERSION,
         digest: "",
+        options: "",
     };
     let Answer {
         queues,

@@ -5,6 +5,7 @@ use crate::positions::{Position, Positions};
 use crate::sweep::Sweep;
 use nvme_arbiter::Class;
 use nvme_plot::{Axis, Bar, Curve, Entry, Grouped, Legend, Mark, Micros, Panel, Picture, Point};
+use nvme_simulate::Origin;
 use nvme_version::VERSION;
 use std::alloc::{AllocError, Global};
 
@@ -206,7 +207,8 @@ fn legend_of(alloc: Global, lines: &[Line]) -> Result<Legend, AllocError> {
 }
 
 // The lines below the title: what is drawn, and which program simulated what.
-fn notes_of(alloc: Global, sweep: &Sweep, digest: &str) -> Result<Vec<String>, AllocError> {
+fn notes_of(alloc: Global, sweep: &Sweep, origin: &Origin) -> Result<Vec<String>, AllocError> {
+    let (digest, options) = (origin.digest.as_str(), origin.options.as_str());
     let seeds = Grouped(sweep.seeds);
     let mut notes = Vec::new(alloc);
     if sweep.seeds > 1 {
@@ -215,6 +217,9 @@ fn notes_of(alloc: Global, sweep: &Sweep, digest: &str) -> Result<Vec<String>, A
         notes.push(String::from_str(alloc, "One seed")?)?;
     }
     notes.push(format!(in alloc; "nvmearb {VERSION}, digest {digest}")?)?;
+    if !options.is_empty() {
+        notes.push(format!(in alloc; "In place of what the file says: {options}")?)?;
+    }
     Ok(notes)
 }
 
@@ -231,12 +236,12 @@ fn whose_of(sweep: &Sweep) -> &'static str {
     }
 }
 
-/// The picture of lines of a sweep, with the digest of its file.
+/// The picture of lines of a sweep, with their origin.
 pub(crate) fn picture_of(
     alloc: Global,
     sweep: &Sweep,
     lines: &[Line],
-    digest: &str,
+    origin: &Origin,
 ) -> Result<Picture, AllocError> {
     let mut panels = Vec::new(alloc);
     for figure in FIGURES {
@@ -252,7 +257,7 @@ pub(crate) fn picture_of(
     };
     Ok(Picture {
         title,
-        notes: notes_of(alloc, sweep, digest)?,
+        notes: notes_of(alloc, sweep, origin)?,
         panels,
         legend: legend_of(alloc, lines)?,
     })

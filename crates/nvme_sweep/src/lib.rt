@@ -26,7 +26,7 @@ pub use axis::{Axis, MAX_POINTS, axes_of};
 pub use commands::CommandWords;
 pub use estimates::{Estimate, estimate_of, half_width, mean};
 pub use fault::SweepFault;
-pub use lines::class_named;
+pub use lines::drawn_class;
 pub use points::{choices_at, points_of};
 pub use rows::{Scope, SweepRow};
 pub use sweep::{Overloads, Point, Sweep};

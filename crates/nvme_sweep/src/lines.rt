@@ -23,9 +23,16 @@ pub(crate) struct Spot {
     pub(crate) p99: Estimate,
 }
 
-/// The class of this name, of those that I/O queues have.
-pub fn class_named(name: &str) -> Option<Class> {
-    CLASSES.into_iter().find(|class| class_name(*class) == name)
+/// The class of a name, where there is one: one that I/O queues have.
+pub fn drawn_class<'a>(name: Option<&'a str>) -> Result<Option<Class>, SweepFault<'a>> {
+    let Some(name) = name else {
+        return Ok(None);
+    };
+    let class = CLASSES.into_iter().find(|class| class_name(*class) == name);
+    match class {
+        Some(class) => Ok(Some(class)),
+        None => Err(SweepFault::NotAClass(name)),
+    }
 }
 
 /// A line: a class, or values of the keys before the last one.

@@ -427,12 +427,14 @@ fn swept_command<'a>(alloc: Global) -> Result<Command<'a>, AllocError>
         .long("no-head")
         .help("Leave the line of names of a sweep out")
         .action(ArgAction::SetTrue);
+    let class = "The class whose latencies the picture of a sweep shows";
     bounded_command(alloc)?
         .arg(sweep_arg(alloc))?
         .arg(seeds_arg(alloc))?
         .arg(jobs_arg(alloc))?
         .arg(points)?
-        .arg(no_head)
+        .arg(no_head)?
+        .arg(text_arg(alloc, "class", "CLASS", class))
 }
 
 // The subcommand that simulates.

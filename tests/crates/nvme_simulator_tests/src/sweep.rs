@@ -1,5 +1,5 @@
 // Means and widths are worked out by hand, with quantiles of a printed table of Student's t.
-use nvme_simulate::{Digest, Form, Listings, Overrides, Source, sources_in};
+use nvme_simulate::{Digest, Form, Listings, Origin, Overrides, Source, sources_in};
 use nvme_sweep::{CommandWords, Estimate, Style, Sweep, SweepFault, axes_of, estimate_of};
 use std::alloc::Global;
 use std::process::Abort;
@@ -22,6 +22,14 @@ arrivals = { every = "150us" }
 class = "low"
 arrivals = { every = "1ms" }
 "#;
+
+// The origin of an answer whose file is this text.
+fn origin(alloc: Global, text: &[u8]) -> Origin {
+    Origin {
+        digest: Digest::of(text),
+        options: String::new(alloc),
+    }
+}
 
 // The sweep of words over a text, whose queues replay these files.
 fn sweep_over<'a>(
@@ -164,7 +172,7 @@ fn answer_on<R: AllocGlobal + Threads + Sync + Abort>(
     let style = Style {
         form,
         has_head: true,
-        digest: Digest::of(b""),
+        origin: origin(rt.alloc(), b""),
         jobs,
     };
     let (mut answer, mut svg) = (Vec::new(rt.alloc()), Vec::new(rt.alloc()));
@@ -226,7 +234,7 @@ fn a_sweep_is_drawn(rt: HostRuntime) -> Result<(), Fail> {
     let style = Style {
         form: Form::Csv,
         has_head: true,
-        digest: Digest::of(b"abc"),
+        origin: origin(rt.alloc(), b"abc"),
         jobs: 1,
     };
     let (mut output, mut svg) = (Vec::new(rt.alloc()), Vec::new(rt.alloc()));
@@ -325,7 +333,7 @@ fn runs_are_counted_on_a_terminal(rt: HostRuntime) -> Result<(), Fail> {
     let style = Style {
         form: Form::Csv,
         has_head: true,
-        digest: Digest::of(b""),
+        origin: origin(rt.alloc(), b""),
         jobs: 2,
     };
     let (mut terminal, mut answer) = (Vec::new(rt.alloc()), Vec::new(rt.alloc()));

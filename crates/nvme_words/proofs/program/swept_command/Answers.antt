@@ -13,4 +13,5 @@ returns c =
     let two = rule_added _ _ _ _ _ c.in_ok-arg-2.ensures one c.seeds_arg.ensures in
     let three = rule_added _ _ _ _ _ c.in_ok-arg-3.ensures two c.jobs_arg.ensures in
     let four = rule_added _ _ _ _ _ c.in_ok-arg-4.ensures three third in
-    IfOk-weaker c.arg-5.result _ _ (λ new added. rule_added _ new _ _ _ added four fourth) c.arg-5.ensures
+    let five = rule_added _ _ _ _ _ c.in_ok-arg-5.ensures four fourth in
+    IfOk-weaker c.arg-6.result _ _ (λ new added. rule_added _ new _ _ _ added five c.text_arg.ensures) c.arg-6.ensures
