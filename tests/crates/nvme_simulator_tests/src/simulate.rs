@@ -306,6 +306,33 @@ fn progress_is_a_line(rt: HostRuntime) -> Result<(), Fail> {
     Ok(())
 }
 
+// Of three commands in a list beside a closed host.
+#[test]
+fn replays_are_cut(rt: HostRuntime) -> Result<(), Fail> {
+    let mut requests = Vec::new(rt.alloc());
+    for at in [0, 5, 9] {
+        requests.push(Request {
+            at,
+            operation: Operation::Read,
+            block: 0,
+            blocks: 8,
+        })?;
+    }
+    let list = Replay::new(1_024, requests)?;
+    let model = model(&rt, Arrivals::Replay(list), None)?;
+    assert!(rt; cut_of(&model, None).is_none());
+    assert!(rt; cut_of(&model, Some(End::after(3)?)).is_none());
+    assert!(rt; cut_of(&model, Some(End::at(7))).is_none());
+    let Some(cut) = cut_of(&model, Some(End::after(2)?)) else {
+        return Err(Fail::new("not cut"));
+    };
+    assert_eq!(rt;
+        format!(in rt.alloc(); "{cut}")?.as_str(),
+        "the simulation ends after 2 commands: at least 1 of the 3 in the replayed files are left out"
+    );
+    Ok(())
+}
+
 // The options of a line that change a model whose seed is 7, and which ends after 10 commands.
 #[test]
 fn options_that_change_a_file_are_told(rt: HostRuntime) -> Result<(), Fail> {
