@@ -11,6 +11,9 @@ pub const MAX_LOAD: u64 = 4_000_000;
 // The millionths of a load of 1.
 const MILLION: u64 = 1_000_000;
 
+// The millionths of a tenth.
+const TENTH: u64 = 100_000;
+
 // How many digits may stand behind the point.
 const DIGITS: usize = 6;
 
@@ -90,9 +93,9 @@ impl fmt::Display for Load {
             if part == 0 {
                 break;
             }
-            let digit = part / (MILLION / 10);
+            let digit = part / TENTH;
             write!(f, "{before}{digit}")?;
-            part = part % (MILLION / 10) * 10;
+            part = (part % TENTH).saturating_mul(10);
             before = "";
         }
         Ok(())

@@ -156,7 +156,10 @@ impl<'a> Sweep<'a> {
             let style = lines.len();
             add(lines, Line::new(alloc, name, style))?;
         }
-        let scope = self.drawn.map_or(Scope::All, Scope::Class);
+        let scope = match self.drawn {
+            Some(class) => Scope::Class(class),
+            None => Scope::All,
+        };
         if let Some(numbers) = numbers_of(&point.rows, scope)
             && let Some(line) = lines.last_mut()
         {

@@ -76,6 +76,11 @@ fn numbers_of<'a>(
     Ok(Some(numbers))
 }
 
+// A number with a sign, where the greatest stands for those above it.
+fn signed(number: u64) -> i64 {
+    i64::try_from(number).unwrap_or(i64::MAX)
+}
+
 impl Positions {
     // Of texts, at equal distances.
     fn of_names(
@@ -156,8 +161,9 @@ impl Positions {
     /// values, and take half of the distance of two values at most.
     pub(crate) fn shift_of(&self, line: usize, lines: usize, panels: u64) -> i64 {
         let room = self.least_distance(panels) / (lines as u64).max(1) / 2;
-        let apart = room.min(APART) as i64;
-        let steps = (line as i64).saturating_mul(2) - (lines as i64).saturating_sub(1);
+        let apart = signed(room.min(APART));
+        let before = signed(lines as u64).saturating_sub(1);
+        let steps = signed(line as u64).saturating_mul(2).saturating_sub(before);
         steps.saturating_mul(apart) / 2
     }
 }
