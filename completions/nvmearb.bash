@@ -17,13 +17,14 @@ _nvmearb() {
                 esac
                 ;;
             -o | --output | --log | --trace | --chart) files=any ;;
+            --class) words="urgent high medium low" ;;
             --burst) words="1 2 4 8 16 32 64 none" ;;
             --blocks | --from | --to | --weights | --window | --seed | --commands | --time | --warm-up | --load | --sweep | --seeds | --jobs) return ;;
             *)
                 case ${COMP_WORDS[1]} in
                     run) words="--live --workers --summary --format --help" files=toml ;;
                     trace) words="--live --workers --output --help" files=toml ;;
-                    simulate) words="--seed --commands --time --warm-up --load --sweep --seeds --jobs --points --no-head --format --bounds --log --trace --chart --output --help" files=toml ;;
+                    simulate) words="--seed --commands --time --warm-up --load --sweep --seeds --jobs --points --no-head --class --format --bounds --log --trace --chart --output --help" files=toml ;;
                     lint | expand) words="--help" files=toml ;;
                     check) words="--spec --all --quiet --format --help" files=any ;;
                     chart) words="--from --to --no-admin --output --help" files=any ;;

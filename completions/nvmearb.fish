@@ -40,6 +40,7 @@ complete -c nvmearb -n '__fish_seen_subcommand_from simulate' -l seeds -x -d 'Ho
 complete -c nvmearb -n '__fish_seen_subcommand_from simulate' -l jobs -x -d 'On how many threads a sweep runs'
 complete -c nvmearb -n '__fish_seen_subcommand_from simulate' -l points -d 'Print a command for each point of a sweep'
 complete -c nvmearb -n '__fish_seen_subcommand_from simulate' -l no-head -d 'Leave the line of names of a sweep out'
+complete -c nvmearb -n '__fish_seen_subcommand_from simulate' -l class -x -a 'urgent high medium low' -d 'Class whose latencies the picture of a sweep shows'
 complete -c nvmearb -n '__fish_seen_subcommand_from simulate' -l bounds -d 'Tell the longest waits and their bounds'
 complete -c nvmearb -n '__fish_seen_subcommand_from simulate' -l log -r -F -d 'File that gets the finished commands'
 complete -c nvmearb -n '__fish_seen_subcommand_from simulate' -l trace -r -F -d 'File that gets the trace of the picks'

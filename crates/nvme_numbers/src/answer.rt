@@ -36,13 +36,15 @@ const CLASSES: [Class; 5] = [
 // Utilization is told in thousandths of a percent.
 const THOUSANDTHS: u128 = 100_000;
 
-/// Which program simulated what. Both texts are written as they are, so they have no quote, backslash, comma or line end.
+/// Which program simulated what. The texts are written as they are, so they have no quote, backslash, comma or line end.
 #[derive(Clone, Copy, Debug)]
 pub struct About<'a> {
     /// The version of the program.
     pub version: &'a str,
     /// The digest of the file that tells the model.
     pub digest: &'a str,
+    /// The options that stand in place of what the file says. Empty where it says all.
+    pub options: &'a str,
 }
 
 /// A queue or a class, and its numbers.

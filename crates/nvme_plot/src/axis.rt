@@ -1,5 +1,5 @@
 // Axes and their ticks.
-use crate::pixels::CHARACTER;
+use crate::pixels::{CHARACTER, HUNDREDTHS};
 use crate::rounds::{round_above, round_below, stride_of};
 use crate::scale::{Range, Scale};
 use crate::words::{Grouped, Time, unit_of};
@@ -19,12 +19,25 @@ const NARROW: u64 = 1_000;
 // The most ticks of a linear axis behind the one at 0.
 const STEPS: u64 = 5;
 
+// Where the greatest of given values is so many times the least, and more, their axis is logarithmic.
+const FAR: u64 = 10;
+
+// The part of a linear range that lies before its least value, and behind the greatest one.
+const ROOM: u64 = 16;
+
 /// A mark of an axis.
 #[derive(Debug, Drop)]
 pub struct Tick {
     pub at: u64,
     /// What stands at it. A tick without a label is short.
     pub label: Option<String>,
+}
+
+/// A value, and how it is written.
+#[derive(Clone, Copy, Debug, PartialEq, Eq)]
+pub struct Written<'a> {
+    pub at: u64,
+    pub text: &'a str,
 }
 
 /// An axis.
@@ -89,6 +102,23 @@ fn percentage(alloc: Global, power: u32) -> Result<String, AllocError> {
     }
     text.push_str(" %")?;
     Ok(text)
+}
+
+// A range with some room before the least of its values and behind the greatest one.
+fn range_around(least: u64, greatest: u64) -> Range {
+    if least > 0 && greatest / least >= FAR {
+        return Range {
+            scale: Scale::Logarithmic,
+            low: least.saturating_sub(least / 8),
+            high: greatest.saturating_add(greatest / 8),
+        };
+    }
+    let room = (greatest.saturating_sub(least) / ROOM).max(1);
+    Range {
+        scale: Scale::Linear,
+        low: least.saturating_sub(room),
+        high: greatest.saturating_add(room),
+    }
 }
 
 impl Axis {
@@ -192,6 +222,40 @@ impl Axis {
                 low: 0,
                 high: count.max(1).saturating_mul(2),
             },
+            ticks,
+        })
+    }
+
+    /// Of values that are given from the least to the greatest, on an axis of so many pixels, each where it lies between these
+    /// two: by logarithms where the greatest is ten times the least or more, and else linearly. A label that would touch the one
+    /// before is left out.
+    pub fn of_values(
+        alloc: Global,
+        title: &str,
+        values: &[Written],
+        width: u64,
+    ) -> Result<Axis, AllocError> {
+        let least = values.first().map_or(0, |value| value.at);
+        let range = range_around(least, values.last().map_or(0, |value| value.at));
+        let length = width.saturating_mul(HUNDREDTHS);
+        let mut ticks = Vec::new(alloc);
+        let mut free = 0u64;
+        for value in values {
+            let wide = (value.text.len() as u64).saturating_add(1);
+            let half = wide.saturating_mul(CHARACTER).saturating_mul(HUNDREDTHS) / 2;
+            let middle = range.place(value.at, length).saturating_add(length);
+            let label = if middle.saturating_sub(half) >= free {
+                free = middle.saturating_add(half);
+                Some(String::from_str(alloc, value.text)?)
+            } else {
+                None
+            };
+            let at = value.at;
+            ticks.push(Tick { at, label })?;
+        }
+        Ok(Axis {
+            title: String::from_str(alloc, title)?,
+            range,
             ticks,
         })
     }

@@ -9,7 +9,7 @@ pub const LINES: usize = 8;
 
 // Colours of Okabe and Ito, which colour-blind readers tell apart. Grey is in place of their yellow, which is pale on white.
 const COLOURS: [&str; LINES] = [
-    "#d55e00", "#e69f00", "#009e73", "#0072b2", "#cc79a7", "#56b4e9", "#000000", "#7f7f7f",
+    "#0072b2", "#d55e00", "#009e73", "#000000", "#cc79a7", "#56b4e9", "#e69f00", "#7f7f7f",
 ];
 
 // Dashes, by which curves differ without colours.
@@ -67,6 +67,8 @@ pub struct Mark {
 pub struct Curve {
     /// Its colour and dashes, below `LINES`.
     pub style: usize,
+    /// How far it is moved to the right, in hundredths of a pixel, so that equal curves are told apart.
+    pub shift: i64,
     /// What it tells of itself where a pointer rests on it.
     pub tip: String,
     pub points: Vec<Point>,
@@ -82,7 +84,7 @@ fn put_line<W: Write>(curve: &Curve, place: &Place, writer: &mut W) -> io::Resul
     )?;
     for point in &curve.points {
         let step = if point.joined { "L" } else { "M" };
-        let (x, y) = (place.x(point.x), place.y(point.y));
+        let (x, y) = (place.x(point.x).moved(curve.shift), place.y(point.y));
         write!(writer, "{step}{x} {y}")?;
     }
     writer.write_all(b"\"><title>")?;
@@ -111,7 +113,7 @@ fn put_bar<W: Write>(
 fn put_marks<W: Write>(curve: &Curve, place: &Place, writer: &mut W) -> io::Result<()> {
     let fill = colour(curve.style);
     for mark in &curve.marks {
-        let (x, y) = (place.x(mark.x), place.y(mark.y));
+        let (x, y) = (place.x(mark.x).moved(curve.shift), place.y(mark.y));
         if let Some(bar) = &mark.bar {
             put_bar(bar, x, fill, place, writer)?;
         }

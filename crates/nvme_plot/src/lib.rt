@@ -14,13 +14,13 @@ mod rounds;
 mod scale;
 mod words;
 
-pub use axis::{Axis, Tick, WHOLE};
+pub use axis::{Axis, Tick, WHOLE, Written};
 pub use curve::{Bar, Curve, LINES, Mark, Point};
 pub use legend::{Entry, Legend};
 pub use logarithm::log2;
 pub use nvme_output::WriteFault;
 pub use panel::{Guide, Panel};
 pub use picture::Picture;
-pub use pixels::{SPAN, span_of};
+pub use pixels::{HUNDREDTHS, SPAN, span_of};
 pub use scale::{Range, Scale};
 pub use words::{Grouped, Micros};

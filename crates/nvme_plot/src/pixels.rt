@@ -8,6 +8,13 @@ pub struct Pixels(pub u64);
 /// How many hundredths a pixel has.
 pub const HUNDREDTHS: u64 = 100;
 
+impl Pixels {
+    /// So many hundredths further to the right, and to the left below 0.
+    pub fn moved(self, shift: i64) -> Pixels {
+        Pixels(self.0.saturating_add_signed(shift))
+    }
+}
+
 impl fmt::Display for Pixels {
     fn fmt<W: fmt::Write>(&self, f: &mut fmt::Formatter<W>) -> fmt::Result {
         let (whole, part) = (self.0 / HUNDREDTHS, self.0 % HUNDREDTHS);

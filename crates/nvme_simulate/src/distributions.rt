@@ -1,6 +1,6 @@
 // The picture of a simulation: of each class, or queue, which share of the commands took longer than each latency.
-use crate::digest::Digest;
 use crate::groups::{Group, groups_of};
+use crate::origin::Origin;
 use crate::tails::{LEVELS, Level, Percentile, Reached, percentiles_of, tail_of};
 use nvme_latency::{PARTS, Ranked};
 use nvme_model::Model;
@@ -109,6 +109,7 @@ fn curve_of(alloc: Global, group: &Group, ranked: &Ranked) -> Result<Drawn, Allo
     let tail = tail_of(alloc, ranked, &percentiles)?;
     let curve = Curve {
         style,
+        shift: 0,
         tip: group.name(alloc)?,
         points: points_of(alloc, &tail, commands)?,
         marks: marks_of(alloc, name.as_str(), &percentiles)?,
@@ -173,11 +174,15 @@ fn legend_of(alloc: Global) -> Result<Legend, AllocError> {
 }
 
 // The lines below the title: how commands were picked, and which program simulated what.
-fn notes_of(alloc: Global, subject: &Subject, digest: &str) -> Result<Vec<String>, AllocError> {
+fn notes_of(alloc: Global, subject: &Subject, origin: &Origin) -> Result<Vec<String>, AllocError> {
     let (picking, seed) = (subject.picking, subject.seed);
+    let (digest, options) = (origin.digest.as_str(), origin.options.as_str());
     let mut notes = Vec::new(alloc);
     notes.push(format!(in alloc; "{picking}")?)?;
     notes.push(format!(in alloc; "nvmearb {VERSION}, seed {seed}, digest {digest}")?)?;
+    if !options.is_empty() {
+        notes.push(format!(in alloc; "In place of what the file says: {options}")?)?;
+    }
     Ok(notes)
 }
 
@@ -206,12 +211,12 @@ impl Subject {
         })
     }
 
-    /// The picture of the numbers of a run of that model, with the digest of its file.
+    /// The picture of the numbers of a run of that model, with their origin.
     pub(crate) fn picture(
         &self,
         alloc: Global,
         numbers: &Numbers,
-        digest: &Digest,
+        origin: &Origin,
     ) -> Result<Picture, AllocError> {
         let (mut curves, mut legend) = (Vec::new(alloc), legend_of(alloc)?);
         let (mut most, mut all) = (0usize, 0usize);
@@ -232,7 +237,7 @@ impl Subject {
         panels.push(panel_of(alloc, curves, most)?)?;
         Ok(Picture {
             title: format!(in alloc; "Latency of {commands} command{plural}")?,
-            notes: notes_of(alloc, self, digest.as_str())?,
+            notes: notes_of(alloc, self, origin)?,
             panels,
             legend,
         })

@@ -3,12 +3,14 @@
 //! scales it to a load. Files that queues replay are read from their bytes.
 #![tactic(auto)]
 
+mod cuts;
 mod digest;
 mod distributions;
 mod fault;
 mod groups;
 mod lengths;
 mod loads;
+mod origin;
 mod overrides;
 mod progress;
 mod replays;
@@ -20,6 +22,7 @@ mod target;
 mod trace;
 mod watch;
 
+pub use cuts::{Cut, cut_of};
 pub use digest::Digest;
 pub use fault::{SimulateFault, Stream};
 pub use groups::style_of;
@@ -27,6 +30,7 @@ pub use loads::{Overload, overload_of};
 pub use nvme_model::Model;
 pub use nvme_model_file::{ModelFault, Source, Told, model_in, simulation_in, sources_in};
 pub use nvme_replay::{FileFault, ReplayError};
+pub use origin::Origin;
 pub use overrides::{OverrideFault, Overrides};
 pub use progress::Progress;
 pub use replays::Listings;

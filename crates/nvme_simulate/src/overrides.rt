@@ -6,6 +6,7 @@ use crate::scaling::scaled;
 use crate::target::{Load, LoadFault};
 use nvme_clock::{DurationFault, duration_in};
 use nvme_model::{End, EndFault, Model};
+use std::alloc::{AllocError, Global};
 use thiserror::Error;
 
 /// Why options are refused.
@@ -65,7 +66,44 @@ fn load_of(load: Option<&str>) -> Result<Option<Load>, OverrideFault> {
     }
 }
 
+// Adds an option to a text of options, with a blank between them.
+fn add_option(options: &mut String, option: String) -> Result<(), AllocError> {
+    if !options.is_empty() {
+        options.push_str(" ")?;
+    }
+    options.push_str(option.as_str())
+}
+
+// The end that stands in place of a model's, as an option.
+fn end_option(alloc: Global, end: &End) -> Result<String, AllocError> {
+    match end.time {
+        Some(time) => format!(in alloc; "--time {time}ps"),
+        None => {
+            let commands = end.commands;
+            format!(in alloc; "--commands {commands}")
+        }
+    }
+}
+
 impl Overrides {
+    /// The options that change what a model's file says, as they may be written. A load always does.
+    pub fn changes(&self, alloc: Global, model: &Model) -> Result<String, AllocError> {
+        let mut options = String::new(alloc);
+        if let Some(seed) = self.seed.filter(|seed| *seed != model.seed) {
+            add_option(&mut options, format!(in alloc; "--seed {seed}")?)?;
+        }
+        if let Some(end) = self.end.filter(|end| *end != model.end) {
+            add_option(&mut options, end_option(alloc, &end)?)?;
+        }
+        if let Some(warm_up) = self.warm_up.filter(|it| *it != model.warm_up) {
+            add_option(&mut options, format!(in alloc; "--warm-up {warm_up}")?)?;
+        }
+        if let Some(load) = self.load {
+            add_option(&mut options, format!(in alloc; "--load {load}")?)?;
+        }
+        Ok(options)
+    }
+
     /// What these options say, of which each may be left out. The time is a duration, as `30s`, and the load a decimal, as
     /// `0.7`.
     pub fn new(

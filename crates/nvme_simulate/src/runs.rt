@@ -1,10 +1,10 @@
 // Runs a model to its end.
 ghost use Rattle.nvme_simulation.specs.Simulations.{IsSimulation};
 
-use crate::digest::Digest;
 use crate::distributions::Subject;
 use crate::fault::{SimulateFault, Stream};
 use crate::lengths::is_too_long;
+use crate::origin::Origin;
 use crate::progress::Progress;
 use crate::streams::Streams;
 use crate::watch::Watch;
@@ -163,10 +163,10 @@ fn put_chart<W: Write>(
     alloc: Global,
     subject: &Subject,
     numbers: &Numbers,
-    digest: &Digest,
+    origin: &Origin,
     chart: &mut W,
 ) -> Result<(), SimulateFault> {
-    let picture = subject.picture(alloc, numbers, digest)?;
+    let picture = subject.picture(alloc, numbers, origin)?;
     match picture.write_svg(chart) {
         Ok(()) => Ok(()),
         Err(_) => Err(SimulateFault::Write(Stream::Chart)),
@@ -176,7 +176,7 @@ fn put_chart<W: Write>(
 // What is written behind a run.
 #[derive(Drop)]
 struct Behind<'a, W, C> {
-    digest: &'a Digest,
+    origin: &'a Origin,
     form: Form,
     output: &'a mut W,
     chart: &'a mut Option<C>,
@@ -198,29 +198,30 @@ fn simulated<L: Write, T: Write, P: Write, W: Write, C: Write>(
     } = played_to_end(alloc, model, &mut bounds, streams)?;
     let about = About {
         version: VERSION,
-        digest: behind.digest.as_str(),
+        digest: behind.origin.digest.as_str(),
+        options: behind.origin.options.as_str(),
     };
     if let Some(chart) = behind.chart {
-        put_chart(alloc, &subject, &numbers, behind.digest, chart)?;
+        put_chart(alloc, &subject, &numbers, behind.origin, chart)?;
     }
     let answer = numbers.answer(end, simulation.channels(), about)?;
     behind.form.put(&answer, bounds.as_ref(), behind.output)
 }
 
-/// Runs a model to its end, and writes its answer, with the digest of its file. What happens is written to the streams
+/// Runs a model to its end, and writes its answer, which tells its origin. What happens is written to the streams
 /// meanwhile, and a picture of the latencies to `chart`, where there is one, before the answer. A model whose commands would
 /// come for longer than the clock goes, by their mean times, is refused before anything is written.
 pub fn simulate<L: Write, T: Write, P: Write, W: Write, C: Write>(
     alloc: Global,
     model: Model,
-    digest: &Digest,
+    origin: &Origin,
     form: Form,
     streams: &mut Streams<L, T, P>,
     output: &mut W,
     chart: &mut Option<C>,
 ) -> Result<(), SimulateFault> {
     let behind = Behind {
-        digest,
+        origin,
         form,
         output,
         chart,
@@ -232,7 +233,7 @@ pub fn simulate<L: Write, T: Write, P: Write, W: Write, C: Write>(
 pub fn simulate_bounded<L: Write, T: Write, P: Write, W: Write, C: Write>(
     alloc: Global,
     model: Model,
-    digest: &Digest,
+    origin: &Origin,
     form: Form,
     streams: &mut Streams<L, T, P>,
     output: &mut W,
@@ -240,7 +241,7 @@ pub fn simulate_bounded<L: Write, T: Write, P: Write, W: Write, C: Write>(
 ) -> Result<(), SimulateFault> {
     let bounds = Bounds::of(alloc, &model)?;
     let behind = Behind {
-        digest,
+        origin,
         form,
         output,
         chart,
@@ -274,6 +275,7 @@ pub fn measure<P: Write + Drop>(
     let about = About {
         version: VERSION,
         digest: "",
+        options: "",
     };
     let Answer {
         queues,

@@ -2,6 +2,7 @@
 ghost use Rattle.std.specs.Prelude.{◌≤◌, ◌<◌};
 ghost use Rattle.nvme_simulate.specs.declared.target.TheConstants.{MAX_LOAD};
 
+use std::fmt;
 use thiserror::Error;
 
 /// The greatest load, in millionths.
@@ -9,6 +10,9 @@ pub const MAX_LOAD: u64 = 4_000_000;
 
 // The millionths of a load of 1.
 const MILLION: u64 = 1_000_000;
+
+// The millionths of a tenth.
+const TENTH: u64 = 100_000;
 
 // How many digits may stand behind the point.
 const DIGITS: usize = 6;
@@ -78,6 +82,24 @@ fn millionths_in(text: &str) -> Option<u64> {
     };
     let whole = number_in(whole.as_bytes())?.saturating_mul(MILLION);
     Some(whole.saturating_add(part_in(part.as_bytes())?))
+}
+
+impl fmt::Display for Load {
+    fn fmt<W: fmt::Write>(&self, f: &mut fmt::Formatter<W>) -> fmt::Result {
+        let (whole, mut part) = (self.millionths / MILLION, self.millionths % MILLION);
+        write!(f, "{whole}")?;
+        let mut before = ".";
+        for _ in 0..DIGITS {
+            if part == 0 {
+                break;
+            }
+            let digit = part / TENTH;
+            write!(f, "{before}{digit}")?;
+            part = (part % TENTH).saturating_mul(10);
+            before = "";
+        }
+        Ok(())
+    }
 }
 
 impl Load {

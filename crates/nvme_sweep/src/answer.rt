@@ -9,7 +9,7 @@ use crate::sheet::{put_names, put_point as put_lines};
 use crate::sweep::{Point, Sweep};
 use crate::table::{put_rows, put_titles};
 use crate::tally::Tally;
-use nvme_simulate::{Digest, Form};
+use nvme_simulate::{Form, Origin};
 use std::alloc::Global;
 use std::io::{self, Write};
 use std::thread::Threads;
@@ -19,13 +19,13 @@ use std::thread::Threads;
 const RUNS_FOR_EACH: usize = 64;
 
 /// How a sweep is run, and how its answer is written.
-#[derive(Clone, Copy, Debug, PartialEq, Eq)]
+#[derive(Debug, Drop)]
 pub struct Style {
     pub form: Form,
     /// Whether the line of names is written.
     pub has_head: bool,
-    /// The digest of the file.
-    pub digest: Digest,
+    /// The file, and the options that hold at each point.
+    pub origin: Origin,
     /// On how many threads it runs at most. The answer is the same on any number.
     pub jobs: usize,
 }
@@ -33,7 +33,7 @@ pub struct Style {
 // Writes what stands before the points.
 fn put_head<W: Write>(sweep: &Sweep, style: &Style, writer: &mut W) -> io::Result<()> {
     match style.form {
-        Form::Json => put_start(sweep, style.digest.as_str(), writer),
+        Form::Json => put_start(sweep, &style.origin, writer),
         Form::Text if style.has_head => put_titles(sweep, writer),
         Form::Csv if style.has_head => put_names(sweep, writer),
         _ => Ok(()),
@@ -51,7 +51,7 @@ fn put_one<W: Write>(
     match style.form {
         Form::Text => put_rows(sweep, point, writer),
         Form::Json => put_object(sweep, number, point, writer),
-        Form::Csv => put_lines(sweep, point, style.digest.as_str(), writer),
+        Form::Csv => put_lines(sweep, point, style.origin.digest.as_str(), writer),
     }
 }
 
@@ -60,10 +60,10 @@ fn put_chart<'a, W: Write>(
     alloc: Global,
     sweep: &Sweep<'a>,
     lines: &[Line],
-    digest: &Digest,
+    origin: &Origin,
     chart: &mut W,
 ) -> Result<(), SweepFault<'a>> {
-    let picture = picture_of(alloc, sweep, lines, digest.as_str())?;
+    let picture = picture_of(alloc, sweep, lines, origin)?;
     match picture.write_svg(chart) {
         Ok(()) => Ok(()),
         Err(_) => Err(SweepFault::Write),
@@ -238,7 +238,7 @@ impl<'a> Sweep<'a> {
         if let Some(chart) = chart
             && let Some(lines) = &lines
         {
-            put_chart(alloc, self, lines, &style.digest, chart)?;
+            put_chart(alloc, self, lines, &style.origin, chart)?;
         }
         Ok(())
     }

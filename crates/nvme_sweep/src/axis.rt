@@ -25,6 +25,21 @@ fn is_fit(text: &str) -> bool {
     !text.is_empty() && text.as_bytes().iter().all(|byte| is_plain(*byte))
 }
 
+// A value that is there twice.
+fn repeated<'a>(alloc: Global, values: &[&'a str]) -> Result<Option<&'a str>, AllocError> {
+    let mut sorted = Vec::new(alloc);
+    sorted.extend_from_slice(values)?;
+    sorted.sort()?;
+    let mut before: Option<&'a str> = None;
+    for value in sorted {
+        if before == Some(value) {
+            return Ok(before);
+        }
+        before = Some(value);
+    }
+    Ok(None)
+}
+
 // What `KEY=A,B,..` says.
 fn axis_of<'a>(alloc: Global, words: &'a str) -> Result<Axis<'a>, SweepFault<'a>> {
     let Some((key, list)) = words.split_once('=') else {
@@ -40,7 +55,10 @@ fn axis_of<'a>(alloc: Global, words: &'a str) -> Result<Axis<'a>, SweepFault<'a>
         }
         add(&mut values, value)?;
     }
-    Ok(Axis { key, values })
+    match repeated(alloc, &values)? {
+        Some(value) => Err(SweepFault::SameValue(key, value)),
+        None => Ok(Axis { key, values }),
+    }
 }
 
 /// How many values the keys have, that of the last one first: it is the fastest.

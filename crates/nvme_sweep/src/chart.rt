@@ -1,10 +1,11 @@
 // The picture of a sweep: latencies over the values of its last key.
 use crate::estimates::Estimate;
 use crate::lines::{Line, Spot};
+use crate::positions::{Position, Positions};
 use crate::sweep::Sweep;
-use nvme_plot::{
-    Axis, Bar, Curve, Entry, Grouped, Legend, Mark, Micros, Panel, Picture, Point, span_of,
-};
+use nvme_arbiter::Class;
+use nvme_plot::{Axis, Bar, Curve, Entry, Grouped, Legend, Mark, Micros, Panel, Picture, Point};
+use nvme_simulate::Origin;
 use nvme_version::VERSION;
 use std::alloc::{AllocError, Global};
 
@@ -19,6 +20,9 @@ enum Figure {
 }
 
 const FIGURES: [Figure; 2] = [Figure::Mean, Figure::P99];
+
+// How many they are.
+const PANELS: u64 = FIGURES.len() as u64;
 
 impl Figure {
     // What the vertical axis has.
@@ -52,11 +56,6 @@ fn bar_of(mean: u64, estimate: &Estimate) -> Option<Bar> {
     })
 }
 
-// Where an index of the last key's values stands on their axis.
-fn x_of(place: u64) -> u64 {
-    place.saturating_mul(2).saturating_add(1)
-}
-
 // What a spot tells of itself.
 fn tip_of(
     alloc: Global,
@@ -86,31 +85,50 @@ fn tip_of(
     Ok(tip)
 }
 
-// The curve of a line. It has gaps where a point has no such number.
+// The spots of a line, from the left to the right.
+fn ordered(
+    alloc: Global,
+    line: &Line,
+    positions: &Positions,
+) -> Result<Vec<(Position, Spot)>, AllocError> {
+    let mut spots = Vec::new(alloc);
+    for spot in &line.spots {
+        if let Some(position) = positions.at(spot.place) {
+            spots.push((position, *spot))?;
+        }
+    }
+    spots.sort_by_key(|(position, _)| position.rank)?;
+    Ok(spots)
+}
+
+// The curve of a line, which is moved so far to the right. It has gaps where a point has no such number.
 fn curve_of(
     alloc: Global,
     sweep: &Sweep,
     figure: Figure,
+    positions: &Positions,
     line: &Line,
+    shift: i64,
 ) -> Result<Curve, AllocError> {
     let name = line.name.as_str();
     let mut curve = Curve {
         style: line.style,
+        shift,
         tip: String::from_str(alloc, name)?,
         points: Vec::new(alloc),
         marks: Vec::new(alloc),
     };
     let mut next = None;
-    for spot in &line.spots {
-        let estimate = figure.of(spot);
+    for (Position { x, rank }, spot) in ordered(alloc, line, positions)? {
+        let estimate = figure.of(&spot);
         if let Some(mean) = estimate.mean {
-            let (x, y) = (x_of(spot.place), capped(mean));
-            let joined = next == Some(x);
+            let y = capped(mean);
+            let joined = next == Some(rank);
             curve.points.push(Point { x, y, joined })?;
             let tip = tip_of(alloc, sweep, name, spot.place, &estimate)?;
             let bar = bar_of(y, &estimate);
             curve.marks.push(Mark { x, y, bar, tip })?;
-            next = Some(x.saturating_add(2));
+            next = Some(rank.saturating_add(1));
         }
     }
     Ok(curve)
@@ -150,15 +168,6 @@ fn latency_axis(
     }
 }
 
-// The axis of the values of the last key.
-fn value_axis(alloc: Global, sweep: &Sweep) -> Result<Axis, AllocError> {
-    let width = span_of(FIGURES.len() as u64);
-    match sweep.axes.last() {
-        Some(axis) => Axis::of_names(alloc, axis.key, &axis.values, width),
-        None => Axis::of_names(alloc, "", &["the file as it is"], width),
-    }
-}
-
 // A panel.
 fn panel_of(
     alloc: Global,
@@ -166,13 +175,15 @@ fn panel_of(
     figure: Figure,
     lines: &[Line],
 ) -> Result<Panel, AllocError> {
+    let positions = Positions::of(alloc, sweep.axes.last(), PANELS)?;
     let mut curves = Vec::new(alloc);
-    for line in lines {
-        curves.push(curve_of(alloc, sweep, figure, line)?)?;
+    for (number, line) in lines.iter().enumerate() {
+        let shift = positions.shift_of(number, lines.len(), PANELS);
+        curves.push(curve_of(alloc, sweep, figure, &positions, line, shift)?)?;
     }
     let (shortest, longest) = ends_of(&curves);
     Ok(Panel {
-        x: value_axis(alloc, sweep)?,
+        x: positions.axis,
         y: latency_axis(alloc, figure.title(), shortest, longest)?,
         guides: Vec::new(alloc),
         curves,
@@ -196,7 +207,8 @@ fn legend_of(alloc: Global, lines: &[Line]) -> Result<Legend, AllocError> {
 }
 
 // The lines below the title: what is drawn, and which program simulated what.
-fn notes_of(alloc: Global, sweep: &Sweep, digest: &str) -> Result<Vec<String>, AllocError> {
+fn notes_of(alloc: Global, sweep: &Sweep, origin: &Origin) -> Result<Vec<String>, AllocError> {
+    let (digest, options) = (origin.digest.as_str(), origin.options.as_str());
     let seeds = Grouped(sweep.seeds);
     let mut notes = Vec::new(alloc);
     if sweep.seeds > 1 {
@@ -205,30 +217,47 @@ fn notes_of(alloc: Global, sweep: &Sweep, digest: &str) -> Result<Vec<String>, A
         notes.push(String::from_str(alloc, "One seed")?)?;
     }
     notes.push(format!(in alloc; "nvmearb {VERSION}, digest {digest}")?)?;
+    if !options.is_empty() {
+        notes.push(format!(in alloc; "In place of what the file says: {options}")?)?;
+    }
     Ok(notes)
 }
 
-/// The picture of lines of a sweep, with the digest of its file.
+// Whose commands the lines of a picture show.
+fn whose_of(sweep: &Sweep) -> &'static str {
+    match sweep.drawn {
+        Some(Class::Admin) => "the class admin",
+        Some(Class::Urgent) => "the class urgent",
+        Some(Class::High) => "the class high",
+        Some(Class::Medium) => "the class medium",
+        Some(Class::Low) => "the class low",
+        None if sweep.has_lines_of_classes() => "each class",
+        None => "all queues together",
+    }
+}
+
+/// The picture of lines of a sweep, with their origin.
 pub(crate) fn picture_of(
     alloc: Global,
     sweep: &Sweep,
     lines: &[Line],
-    digest: &str,
+    origin: &Origin,
 ) -> Result<Picture, AllocError> {
     let mut panels = Vec::new(alloc);
     for figure in FIGURES {
         panels.push(panel_of(alloc, sweep, figure, lines)?)?;
     }
+    let whose = whose_of(sweep);
     let title = match sweep.axes.last() {
         Some(axis) => {
             let key = axis.key;
-            format!(in alloc; "Latency over {key}")?
+            format!(in alloc; "Latency of {whose} over {key}")?
         }
-        None => String::from_str(alloc, "Latency")?,
+        None => format!(in alloc; "Latency of {whose}")?,
     };
     Ok(Picture {
         title,
-        notes: notes_of(alloc, sweep, digest)?,
+        notes: notes_of(alloc, sweep, origin)?,
         panels,
         legend: legend_of(alloc, lines)?,
     })

@@ -1,5 +1,7 @@
 // Why there is no sweep.
+use nvme_arbiter::Class;
 use nvme_model_file::ModelFault;
+use nvme_numbers::class_name;
 use nvme_plot::LINES;
 use nvme_simulate::{FileFault, LoadFault, ReplayError, SimulateFault};
 use std::alloc::AllocError;
@@ -14,10 +16,16 @@ pub enum SweepFault<'a> {
     BadValue(&'a str),
     /// This key is there twice.
     Twice(&'a str),
+    /// This key has this value twice.
+    SameValue(&'a str, &'a str),
     /// There are more than `MAX_POINTS` combinations.
     TooManyPoints,
     /// A picture would have so many lines, which are more than it tells apart.
     TooManyLines(usize),
+    /// A picture is to be of this class, and there is none of this name.
+    NotAClass(&'a str),
+    /// A picture is to be of this class, and at no point a queue has it.
+    NoClass(Class),
     /// The tables of the file have no such key.
     NoKey(&'a str),
     /// The value of a key isn't one that it takes, as three weights.
@@ -68,6 +76,9 @@ impl fmt::Display for SweepFault<'_> {
                 )
             }
             SweepFault::Twice(key) => write!(f, "--sweep {key}: the key is swept twice"),
+            SweepFault::SameValue(key, value) => {
+                write!(f, "--sweep {key}: the value {value} is there twice")
+            }
             SweepFault::TooManyPoints => f.write_str("--sweep: expected at most 100000 points"),
             SweepFault::TooManyLines(lines) => {
                 let (lines, most) = (*lines, LINES);
@@ -75,6 +86,13 @@ impl fmt::Display for SweepFault<'_> {
                     f,
                     "--chart: expected at most {most} combinations of the keys before the last one, found {lines}"
                 )
+            }
+            SweepFault::NotAClass(name) => {
+                write!(f, "--class {name:?}: expected urgent, high, medium or low")
+            }
+            SweepFault::NoClass(class) => {
+                let name = class_name(*class);
+                write!(f, "--class {name}: no queue is of this class")
             }
             SweepFault::NoKey(key) => {
                 write!(f, "--sweep {key}: the file has no table for such a key")

@@ -9,6 +9,9 @@ use nvme_plot::LINES;
 use nvme_simulate::style_of;
 use std::alloc::{AllocError, Global};
 
+// The classes of I/O queues.
+const CLASSES: [Class; 4] = [Class::Urgent, Class::High, Class::Medium, Class::Low];
+
 /// What a line has at a value of the last key.
 #[derive(Clone, Copy, Debug, PartialEq, Eq)]
 pub(crate) struct Spot {
@@ -18,6 +21,18 @@ pub(crate) struct Spot {
     pub(crate) mean: Estimate,
     /// Their 99th percentile, in picoseconds.
     pub(crate) p99: Estimate,
+}
+
+/// The class of a name, where there is one: one that I/O queues have.
+pub fn drawn_class<'a>(name: Option<&'a str>) -> Result<Option<Class>, SweepFault<'a>> {
+    let Some(name) = name else {
+        return Ok(None);
+    };
+    let class = CLASSES.into_iter().find(|class| class_name(*class) == name);
+    match class {
+        Some(class) => Ok(Some(class)),
+        None => Err(SweepFault::NotAClass(name)),
+    }
 }
 
 /// A line: a class, or values of the keys before the last one.
@@ -69,10 +84,10 @@ fn note_class(
     add(lines, line)
 }
 
-// The numbers of all queues in the rows of a point.
-fn numbers_of_all(rows: &[SweepRow]) -> Option<&[Estimate; COUNT]> {
+// The numbers of a scope in the rows of a point.
+fn numbers_of(rows: &[SweepRow], scope: Scope) -> Option<&[Estimate; COUNT]> {
     for row in rows {
-        if row.scope == Scope::All {
+        if row.scope == scope {
             return Some(&row.numbers);
         }
     }
@@ -113,8 +128,21 @@ impl<'a> Sweep<'a> {
         Ok(())
     }
 
+    /// Whether a picture has a line for each class, and not one for each combination of the keys before the last one.
+    pub(crate) fn has_lines_of_classes(&self) -> bool {
+        self.axes.len() < 2 && self.drawn.is_none()
+    }
+
+    // The name of a line for these values of the keys before the last one. Without such a key it is the class that is drawn.
+    fn line_name(&self, alloc: Global, before: &[&str]) -> Result<String, AllocError> {
+        match self.drawn {
+            Some(class) if before.is_empty() => String::from_str(alloc, class_name(class)),
+            _ => self.name_of(alloc, before),
+        }
+    }
+
     // Adds a point to the line of its combination, which begins with the first value of the last key.
-    fn note_all(
+    fn note_combination(
         &self,
         alloc: Global,
         lines: &mut Vec<Line>,
@@ -124,11 +152,15 @@ impl<'a> Sweep<'a> {
         if place == 0 {
             let keys = point.values.len().saturating_sub(1);
             let before = point.values.get(..keys).unwrap_or(&[]);
-            let name = self.name_of(alloc, before)?;
+            let name = self.line_name(alloc, before)?;
             let style = lines.len();
             add(lines, Line::new(alloc, name, style))?;
         }
-        if let Some(numbers) = numbers_of_all(&point.rows)
+        let scope = match self.drawn {
+            Some(class) => Scope::Class(class),
+            None => Scope::All,
+        };
+        if let Some(numbers) = numbers_of(&point.rows, scope)
             && let Some(line) = lines.last_mut()
         {
             line.note(place, numbers)?;
@@ -145,10 +177,10 @@ impl<'a> Sweep<'a> {
         point: &Point,
     ) -> Result<(), AllocError> {
         let place = number % self.last_values().max(1);
-        if self.axes.len() > 1 {
-            self.note_all(alloc, lines, place, point)
-        } else {
+        if self.has_lines_of_classes() {
             self.note_classes(alloc, lines, place, point)
+        } else {
+            self.note_combination(alloc, lines, place, point)
         }
     }
 }

@@ -2,6 +2,7 @@
 use crate::rows::{NAMES, Scope, SweepRow};
 use crate::sweep::{Point, Sweep};
 use nvme_numbers::class_name;
+use nvme_simulate::Origin;
 use nvme_version::VERSION;
 use std::io::{self, Write};
 
@@ -9,11 +10,12 @@ use std::io::{self, Write};
 const FORM: u32 = 1;
 
 /// Writes what stands before the points.
-pub fn put_start<W: Write>(sweep: &Sweep, digest: &str, writer: &mut W) -> io::Result<()> {
+pub fn put_start<W: Write>(sweep: &Sweep, origin: &Origin, writer: &mut W) -> io::Result<()> {
+    let (digest, options) = (origin.digest.as_str(), origin.options.as_str());
     let seeds = sweep.seeds;
     write!(
         writer,
-        "{{\"form\":{FORM},\"version\":\"{VERSION}\",\"digest\":\"{digest}\",\"seeds\":{seeds},\"points\":["
+        "{{\"form\":{FORM},\"version\":\"{VERSION}\",\"digest\":\"{digest}\",\"options\":\"{options}\",\"seeds\":{seeds},\"points\":["
     )
 }
 

@@ -6,9 +6,11 @@ use crate::fault::SweepFault;
 use crate::place::{LOAD, put};
 use crate::points::{choices_at, points_of};
 use crate::rows::{Run, SweepRow, rows_of};
+use nvme_arbiter::Class;
 use nvme_model_file::{ModelFault, model_in, sources_in};
 use nvme_simulate::{
     Listings, Load, LoadFault, Model, Overrides, Progress, ReplayError, SimulateFault, measure,
+    overload_of,
 };
 use nvme_workload::{DocumentError, document};
 use std::alloc::{AllocError, Global};
@@ -27,6 +29,35 @@ pub struct Sweep<'a> {
     pub listings: Listings,
     /// The file's text.
     pub text: &'a str,
+    /// The class whose commands a picture shows. `None`: with several keys those of all queues, else those of each class.
+    pub drawn: Option<Class>,
+}
+
+/// At which points more commands come than the device can run.
+#[derive(Drop)]
+pub struct Overloads {
+    /// At how many.
+    pub points: usize,
+    /// The values of the first of them, empty where there is none, or no key.
+    pub first: String,
+}
+
+impl Overloads {
+    // At none.
+    fn new(alloc: Global) -> Overloads {
+        Overloads {
+            points: 0,
+            first: String::new(alloc),
+        }
+    }
+
+    // At one more, whose values are told.
+    fn add(&mut self, values: String) {
+        if self.points == 0 {
+            self.first = values;
+        }
+        self.points = self.points.saturating_add(1);
+    }
 }
 
 /// What is told of a point.
@@ -171,17 +202,35 @@ impl<'a> Sweep<'a> {
         self.axes.iter().any(|axis| axis.key == LOAD)
     }
 
-    /// Reads the file at each point, and runs nothing. The error is the first fault.
-    pub fn look(&self, alloc: Global) -> Result<(), SweepFault<'a>> {
+    // Whether a picture shows a queue of this model.
+    fn is_drawn(&self, model: &Model) -> bool {
+        let mut queues = model.queues.iter();
+        match self.drawn {
+            Some(class) => queues.any(|queue| queue.class == class),
+            None => true,
+        }
+    }
+
+    /// Reads the file at each point, and runs nothing. The error is the first fault. The answer is at which points more
+    /// commands come than the device can run.
+    pub fn look(&self, alloc: Global) -> Result<Overloads, SweepFault<'a>> {
         if self.overrides.load.is_some() && self.is_load_swept() {
             return Err(SweepFault::TwoLoads);
         }
+        let (mut overloads, mut is_drawn) = (Overloads::new(alloc), false);
         for point in 0..self.points(alloc)? {
             let values = self.values_at(alloc, point)?;
             let text = self.text_at(alloc, &values)?;
-            let _ = self.model_at(alloc, &values, &text)?;
+            let model = self.model_at(alloc, &values, &text)?;
+            is_drawn |= self.is_drawn(&model);
+            if overload_of(&model).is_some() {
+                overloads.add(self.name_of(alloc, &values)?);
+            }
         }
-        Ok(())
+        match self.drawn {
+            Some(class) if !is_drawn => Err(SweepFault::NoClass(class)),
+            _ => Ok(overloads),
+        }
     }
 
     // Runs a point with the seed of this number, from 0 on. A terminal is told how far the run is.

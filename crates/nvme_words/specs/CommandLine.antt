@@ -173,7 +173,7 @@ no_head = record (new_rule (codes "no-head")) { long = Some (codes "no-head"); a
 
 -- the subcommand that simulates, with the options of a sweep
 abbrev pub swept : App
-swept = with_rule (with_rule (with_rule (with_rule (with_rule bounded sweep) seeds) jobs) points) no_head
+swept = with_rule (with_rule (with_rule (with_rule (with_rule (with_rule bounded sweep) seeds) jobs) points) no_head) (text_option (codes "class"))
 
 -- what is proved about waits is told
 abbrev pub bounds : Rule

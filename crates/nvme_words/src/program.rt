@@ -1,7 +1,7 @@
 // The command line of the program, by `clap`.
 ghost use Rattle.std.specs.Prelude.{◌≡◌, IfOk, codes};
 ghost use Rattle.clap.specs.Words.{App, app_of};
-ghost use Rattle.nvme_words.specs.CommandLine.{OnCommandLine, all, backlogged, blocks, bounded, bounds, chart, check, dword, expand, file, first, format, jobs, last, lint, mode, no_admin, number, once, option, ranged, reported, run, output, quiet, settings, simulate, stats, text_option, trace, traced, window, with_file, with_input, with_run, with_trace, workers, seeds, sweep, swept};
+ghost use Rattle.nvme_words.specs.CommandLine.{OnCommandLine, all, backlogged, blocks, bounded, bounds, chart, check, dword, expand, file, first, format, jobs, last, lint, mode, no_admin, no_head, number, once, points, option, ranged, reported, run, output, quiet, settings, simulate, stats, text_option, trace, traced, window, with_file, with_input, with_run, with_trace, workers, seeds, sweep, swept};
 ghost use Rattle.nvme_words.specs.inside.Built.{AddsIfMade, HasApp, HasRule};
 
 use clap::builder::ValueParser;
@@ -415,24 +415,38 @@ fn jobs_arg<'a>(alloc: Global) -> Arg<'a>
     option_arg(alloc, "jobs", "N", help, range)
 }
 
+// Whether the points of a sweep are printed, and not simulated.
+fn points_arg<'a>(alloc: Global) -> Arg<'a>
+    ensures { HasRule points result }
+{
+    Arg::new(alloc, "points")
+        .long("points")
+        .help("Print a command for each point of a sweep, and simulate none")
+        .action(ArgAction::SetTrue)
+}
+
+// Whether the line of names is left out.
+fn no_head_arg<'a>(alloc: Global) -> Arg<'a>
+    ensures { HasRule no_head result }
+{
+    Arg::new(alloc, "no-head")
+        .long("no-head")
+        .help("Leave the line of names of a sweep out")
+        .action(ArgAction::SetTrue)
+}
+
 // The subcommand that simulates, with the options of a sweep.
 fn swept_command<'a>(alloc: Global) -> Result<Command<'a>, AllocError>
     ensures { IfOk result (HasApp swept) }
 {
-    let points = Arg::new(alloc, "points")
-        .long("points")
-        .help("Print a command for each point of a sweep, and simulate none")
-        .action(ArgAction::SetTrue);
-    let no_head = Arg::new(alloc, "no-head")
-        .long("no-head")
-        .help("Leave the line of names of a sweep out")
-        .action(ArgAction::SetTrue);
+    let class = "The class whose latencies the picture of a sweep shows";
     bounded_command(alloc)?
         .arg(sweep_arg(alloc))?
         .arg(seeds_arg(alloc))?
         .arg(jobs_arg(alloc))?
-        .arg(points)?
-        .arg(no_head)
+        .arg(points_arg(alloc))?
+        .arg(no_head_arg(alloc))?
+        .arg(text_arg(alloc, "class", "CLASS", class))
 }
 
 // What is proved about waits is told beside the longest ones.

@@ -28,6 +28,8 @@ pub struct SimulationWords<'a> {
     pub points: bool,
     /// The line of names is left out.
     pub no_head: bool,
+    /// The name of the class that the picture of a sweep shows.
+    pub class: Option<&'a str>,
     /// How the answer is written.
     pub format: Format,
     /// What is proved about waits is told.
@@ -60,6 +62,9 @@ impl SimulationWords<'_> {
 
     /// What of them doesn't go with a sweep, or without one.
     pub fn unfit_for_sweep(&self) -> Option<&'static str> {
+        if self.class.is_some() && !(self.is_sweep() && self.chart.is_some()) {
+            return Some("--class goes with --chart beside --sweep or --seeds");
+        }
         if !self.is_sweep() {
             return match self.has_sweep_option() {
                 true => Some("--jobs, --points and --no-head go with --sweep or --seeds"),
@@ -109,6 +114,7 @@ fn words_of<'a>(
         jobs: matches.get_one::<u64>("jobs"),
         points: matches.get_flag("points"),
         no_head: matches.get_flag("no-head"),
+        class: matches.get_str("class"),
         format: format_of(matches),
         bounds: matches.get_flag("bounds"),
         log: matches.get_str("log"),

@@ -12,6 +12,9 @@ use std::rt::Files;
 // The exit status of a fault of the input.
 const INPUT: u8 = 1;
 
+// The exit status of a fault of the command line.
+const BAD_LINE: u8 = 2;
+
 /// Where a simulation or a sweep writes its answer, and its picture where one is wanted.
 pub(crate) struct Answers<'a, W> {
     pub(crate) output: &'a mut W,
@@ -68,6 +71,22 @@ pub(crate) fn whole<R: AllocGlobal + Files, E: Write>(
         return Err(INPUT);
     }
     Ok(bytes)
+}
+
+/// Whether a name is that of an SVG file.
+pub(crate) fn is_svg(name: &str) -> bool {
+    name.ends_with(".svg")
+}
+
+/// Writes that a file of this name gets no picture. The answer is the exit status.
+pub(crate) fn not_svg<E: Write>(option: &str, name: &str, errors: &mut E) -> u8
+    ensures { result ≤ 4 }
+{
+    let _ = writeln!(
+        errors,
+        "nvmearb: {option} {name:?}: a picture is an SVG file: expected a name that ends with .svg"
+    );
+    BAD_LINE
 }
 
 // Writes a whole answer to a file. A file of this name is replaced.

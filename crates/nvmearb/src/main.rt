@@ -18,7 +18,7 @@ mod topics;
 mod watched;
 
 use checks::{Checks, Form, Judged, asked, put_json, put_junit, put_named};
-use files::put_away;
+use files::{is_svg, not_svg, put_away};
 use kept::Kept;
 use linting::linted;
 use noted::{Noted, Notes};
@@ -131,6 +131,9 @@ where
             "nvmearb: --output {name:?} is the file that is read"
         );
         return BAD_LINE;
+    }
+    if subcommand(words) == "chart" && !is_svg(name) {
+        return not_svg("--output", name, errors);
     }
     let mut kept = Kept::new(rt.alloc());
     let status = served(rt, words, terminal, notes, &mut kept, errors);

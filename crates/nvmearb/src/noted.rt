@@ -13,6 +13,8 @@ pub(crate) enum Look {
     Workload,
     /// It does, and a table `simulation` or `device` too.
     Simulation,
+    /// The names of the columns of a simulation's log begin.
+    Log,
     Other,
 }
 
@@ -27,6 +29,7 @@ impl Look {
         match text {
             [] => Look::Blank,
             [b'{', ..] => Look::Trace,
+            [b'q', b'u', b'e', b'u', b'e', b',', ..] => Look::Log,
             [b'#' | b'a'..=b'z' | b'A'..=b'Z', ..] => Look::Workload,
             [b'[', b'[' | b'a'..=b'z', ..] => Look::Workload,
             _ => Look::Other,

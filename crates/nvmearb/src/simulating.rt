@@ -1,15 +1,16 @@
 // `nvmearb simulate`: the files that it reads and writes, and what is told of them.
 ghost use Rattle.std.specs.Prelude.{◌≤◌, IfErr};
 
-use crate::files::{Answers, put_away, taken, whole};
+use crate::files::{Answers, is_svg, not_svg, put_away, taken, whole};
 use crate::kept::Kept;
 use crate::noted::{Noted, Notes};
 use crate::sweeping::{File, swept};
 use crate::telling::{failed, no_memory, unwritten};
 use nvme_program::{Format, SimulationWords};
 use nvme_simulate::{
-    Digest, FileFault, Form, Listings, Model, ModelFault, Overrides, Progress, ReplayError,
-    SimulateFault, Source, Stream, Streams, Told, model_in, simulate, simulate_bounded, sources_in,
+    Digest, FileFault, Form, Listings, Model, ModelFault, Origin, Overrides, Progress, ReplayError,
+    SimulateFault, Source, Stream, Streams, Told, cut_of, model_in, overload_of, simulate,
+    simulate_bounded, sources_in,
 };
 use std::fs;
 use std::io::{self, BufWriter, Write};
@@ -93,6 +94,11 @@ fn overrides_of<E: Write>(line: &SimulationWords, errors: &mut E) -> Result<Over
             "nvmearb: --log, --trace and --chart want the name of a file, not -"
         );
         return Err(BAD_LINE);
+    }
+    if let Some(name) = line.chart
+        && !is_svg(name)
+    {
+        return Err(not_svg("--chart", name, errors));
     }
     match Overrides::new(line.seed, line.commands, line.time, line.warm_up, line.load) {
         Ok(overrides) => Ok(overrides),
@@ -235,7 +241,7 @@ fn ran<R: AllocGlobal + Files, P: Write + Drop, W: Write, E: Write>(
     rt: &R,
     line: &SimulationWords,
     model: Model,
-    digest: &Digest,
+    origin: &Origin,
     terminal: Option<P>,
     answers: Answers<'_, W>,
     errors: &mut E,
@@ -260,9 +266,9 @@ fn ran<R: AllocGlobal + Files, P: Write + Drop, W: Write, E: Write>(
     };
     let (alloc, form) = (rt.alloc(), form_of(line.format));
     let run = if line.bounds {
-        simulate_bounded(alloc, model, digest, form, &mut streams, output, chart)
+        simulate_bounded(alloc, model, origin, form, &mut streams, output, chart)
     } else {
-        simulate(alloc, model, digest, form, &mut streams, output, chart)
+        simulate(alloc, model, origin, form, &mut streams, output, chart)
     };
     match run {
         Ok(()) => 0,
@@ -273,7 +279,7 @@ fn ran<R: AllocGlobal + Files, P: Write + Drop, W: Write, E: Write>(
 // What is simulated.
 #[derive(Drop)]
 enum Task<'a> {
-    Run(Model, Digest),
+    Run(Model, Origin),
     Sweep(Overrides, File<'a>),
 }
 
@@ -289,6 +295,20 @@ fn note_warm_up<E: Write>(overrides: &Overrides, model: &Model, errors: &mut E) 
     }
 }
 
+// Notes that a replay ends before its files do.
+fn note_cut<E: Write>(overrides: &Overrides, model: &Model, errors: &mut E) {
+    if let Some(cut) = cut_of(model, overrides.end) {
+        let _ = writeln!(errors, "nvmearb: note: {cut}");
+    }
+}
+
+// Notes that more commands come than the device can run.
+fn note_overload<E: Write>(model: &Model, errors: &mut E) {
+    if let Some(overload) = overload_of(model) {
+        let _ = writeln!(errors, "nvmearb: note: {overload}");
+    }
+}
+
 // What a line asks for, with what stands in place of what its file says. A load to which the model can't be scaled is told,
 // and the error is the exit status.
 fn task_of<'a, E: Write>(
@@ -301,11 +321,15 @@ fn task_of<'a, E: Write>(
     ensures { IfErr result (λ status. status ≤ 4) }
 {
     note_warm_up(&overrides, &model, errors);
+    note_cut(&overrides, &model, errors);
     if line.is_sweep() {
         return Ok(Task::Sweep(overrides, file));
     }
     match overrides.applied(model) {
-        Ok(model) => Ok(Task::Run(model, file.digest)),
+        Ok(model) => {
+            note_overload(&model, errors);
+            Ok(Task::Run(model, file.origin))
+        }
         Err(fault) => {
             let _ = writeln!(errors, "nvmearb: --load: {fault}");
             Err(BAD_LINE)
@@ -327,7 +351,7 @@ where
     ensures { result ≤ 4 }
 {
     match task {
-        Task::Run(model, digest) => ran(rt, line, model, &digest, terminal, answers, errors),
+        Task::Run(model, origin) => ran(rt, line, model, &origin, terminal, answers, errors),
         Task::Sweep(overrides, file) => swept(rt, line, overrides, file, terminal, answers, errors),
     }
 }
@@ -455,9 +479,15 @@ where
         Ok(read) => read,
         Err(status) => return status,
     };
+    let Ok(options) = overrides.changes(rt.alloc(), &model) else {
+        return no_memory(errors);
+    };
     let file = File {
         text: text.as_slice(),
-        digest: Digest::of(text.as_slice()),
+        origin: Origin {
+            digest: Digest::of(text.as_slice()),
+            options,
+        },
         listings,
     };
     match task_of(line, overrides, model, file, errors) {

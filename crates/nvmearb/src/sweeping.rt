@@ -6,8 +6,8 @@ use crate::kept::Kept;
 use crate::simulating::form_of;
 use crate::telling::{no_memory, unwritten};
 use nvme_program::{MAX_JOBS, SimulationWords};
-use nvme_simulate::{Digest, Listings, Overrides};
-use nvme_sweep::{CommandWords, Style, Sweep, SweepFault, axes_of};
+use nvme_simulate::{Listings, Origin, Overrides};
+use nvme_sweep::{CommandWords, Overloads, Style, Sweep, SweepFault, axes_of, drawn_class};
 use std::io::Write;
 use std::thread::{Threads, available_parallelism};
 
@@ -22,7 +22,7 @@ const RUN: u8 = 3;
 #[derive(Drop)]
 pub(crate) struct File<'a> {
     pub(crate) text: &'a [u8],
-    pub(crate) digest: Digest,
+    pub(crate) origin: Origin,
     pub(crate) listings: Listings,
 }
 
@@ -75,7 +75,7 @@ fn ran<'a, R: AllocGlobal + Threads + Sync, P: Write + Drop + Send, W: Write>(
     rt: &R,
     line: &SimulationWords,
     sweep: &Sweep<'a>,
-    digest: Digest,
+    origin: Origin,
     terminal: Option<P>,
     output: &mut W,
     chart: &mut Option<Kept>,
@@ -86,20 +86,40 @@ fn ran<'a, R: AllocGlobal + Threads + Sync, P: Write + Drop + Send, W: Write>(
     let style = Style {
         form: form_of(line.format),
         has_head: !line.no_head,
-        digest,
+        origin,
         jobs: jobs_of(rt, line.jobs),
     };
     sweep.answer(rt, rt.alloc(), &style, terminal, output, chart)
 }
 
-// The sweep of a line over a file, at each of whose points the file has no fault.
+// Notes at which points more commands come than the device can run.
+fn note_overloads<E: Write>(overloads: &Overloads, errors: &mut E) {
+    let (points, first) = (overloads.points, overloads.first.as_str());
+    let _ = match points {
+        0 => Ok(()),
+        _ if first.is_empty() => writeln!(
+            errors,
+            "nvmearb: note: more commands come than the device can run: ever more wait"
+        ),
+        1 => writeln!(
+            errors,
+            "nvmearb: note: at {first} more commands come than the device can run: ever more wait"
+        ),
+        _ => writeln!(
+            errors,
+            "nvmearb: note: at {points} points, first {first}, more commands come than the device can run: ever more wait"
+        ),
+    };
+}
+
+// The sweep of a line over a file, at each of whose points the file has no fault, and where the device is overloaded.
 fn sweep_of<'a, R: AllocGlobal>(
     rt: &R,
     line: &SimulationWords<'a>,
     overrides: Overrides,
     listings: Listings,
     text: &'a [u8],
-) -> Result<Sweep<'a>, SweepFault<'a>> {
+) -> Result<(Sweep<'a>, Overloads), SweepFault<'a>> {
     let Ok(text) = std::str::from_utf8(text) else {
         return Err(SweepFault::NotToml);
     };
@@ -109,12 +129,13 @@ fn sweep_of<'a, R: AllocGlobal>(
         overrides,
         listings,
         text,
+        drawn: drawn_class(line.class)?,
     };
     if line.chart.is_some() {
         sweep.look_at_lines(rt.alloc())?;
     }
-    sweep.look(rt.alloc())?;
-    Ok(sweep)
+    let overloads = sweep.look(rt.alloc())?;
+    Ok((sweep, overloads))
 }
 
 /// Does what a line of `simulate` says of a sweep. A terminal is told how far it is. The answer is the exit status.
@@ -134,14 +155,17 @@ where
     let Answers { output, chart } = answers;
     let File {
         text,
-        digest,
+        origin,
         listings,
     } = file;
-    let sweep = match sweep_of(rt, line, overrides, listings, text) {
-        Ok(sweep) => sweep,
+    let (sweep, overloads) = match sweep_of(rt, line, overrides, listings, text) {
+        Ok(found) => found,
         Err(fault) => return told(&fault, errors),
     };
-    match ran(rt, line, &sweep, digest, terminal, output, chart) {
+    if !line.points {
+        note_overloads(&overloads, errors);
+    }
+    match ran(rt, line, &sweep, origin, terminal, output, chart) {
         Ok(()) => 0,
         Err(fault) => told(&fault, errors),
     }

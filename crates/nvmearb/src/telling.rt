@@ -110,6 +110,12 @@ fn mistaken(words: &[String], look: Look) -> Option<&'static str> {
         ("check" | "stats" | "chart", Look::Workload) => {
             Some("this looks like a workload (TOML): take trace FILE | stats, or check or chart")
         }
+        (
+            "run" | "trace" | "simulate" | "lint" | "expand" | "check" | "stats" | "chart",
+            Look::Log,
+        ) => Some(
+            "this looks like the log of a simulation (CSV): take simulate FILE, where a queue of FILE replays it with form = \"csv\"",
+        ),
         _ => None,
     }
 }

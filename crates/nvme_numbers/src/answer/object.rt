@@ -157,10 +157,11 @@ fn put_channels<W: Write>(answer: &Answer, writer: &mut W) -> io::Result<()> {
 // Writes which program simulated what.
 fn put_about<W: Write>(answer: &Answer, writer: &mut W) -> io::Result<()> {
     let (version, digest) = (answer.about.version, answer.about.digest);
+    let options = answer.about.options;
     let (seed, warm_up, end) = (answer.asked.seed, answer.asked.warm_up, answer.end);
     write!(
         writer,
-        "{{\"form\":{FORM},\"version\":\"{version}\",\"seed\":{seed},\"digest\":\"{digest}\",\"warm_up\":{warm_up},\"began_ps\":"
+        "{{\"form\":{FORM},\"version\":\"{version}\",\"seed\":{seed},\"digest\":\"{digest}\",\"options\":\"{options}\",\"warm_up\":{warm_up},\"began_ps\":"
     )?;
     put_number(answer.began.map(u128::from), NULL, writer)?;
     write!(writer, ",\"end_ps\":{end}")

@@ -30,6 +30,10 @@ fn put_about<W: Write>(answer: &Answer, writer: &mut W) -> io::Result<()> {
     let (version, digest) = (answer.about.version, answer.about.digest);
     let (seed, commands) = (answer.asked.seed, answer.all.commands);
     writeln!(writer, "nvmearb {version}, seed {seed}, digest {digest}")?;
+    let options = answer.about.options;
+    if !options.is_empty() {
+        writeln!(writer, "in place of what the file says: {options}")?;
+    }
     let of_commands = plural(commands as u128);
     write!(writer, "{commands} command{of_commands}")?;
     if let Some(began) = answer.began {

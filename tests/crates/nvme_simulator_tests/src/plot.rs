@@ -1,7 +1,7 @@
 // Logarithms and places are those of Python, worked out with 60 digits; labels are written by hand.
 use nvme_plot::{
     Axis, Bar, Curve, Entry, Grouped, Guide, Legend, Mark, Micros, Panel, Picture, Point, Range,
-    Scale, WHOLE, log2, span_of,
+    Scale, WHOLE, Written, log2, span_of,
 };
 use std::alloc::{AllocError, Global};
 use std::test::Fail;
@@ -141,11 +141,55 @@ fn ticks_are_round(rt: HostRuntime) -> Result<(), Fail> {
     Ok(())
 }
 
+// Values as they are written, in hundredths.
+const LOADS: [Written; 5] = [
+    Written {
+        at: 50,
+        text: "0.5",
+    },
+    Written {
+        at: 70,
+        text: "0.7",
+    },
+    Written {
+        at: 80,
+        text: "0.8",
+    },
+    Written {
+        at: 90,
+        text: "0.90",
+    },
+    Written {
+        at: 95,
+        text: "0.95",
+    },
+];
+
+// A range of 45 has 2 more on each side. On 98 pixels the values stand at 4, 44, 64, 84 and 94, and half a label has 14 pixels, or
+// 17.5: that of 0.8 would touch that of 0.7, which ends at 58, and so would that of 0.95.
+#[test]
+fn values_stand_where_they_are(rt: HostRuntime) -> Result<(), Fail> {
+    let alloc = rt.alloc();
+    let loads = Axis::of_values(alloc, "load", &LOADS, 355)?;
+    assert_eq!(rt; labels(alloc, &loads)?.as_str(), "0.5, 0.7, 0.8, 0.90, 0.95");
+    assert_eq!(rt; (loads.range.scale, loads.range.low, loads.range.high), (Scale::Linear, 48, 97));
+    let loads = Axis::of_values(alloc, "load", &LOADS, 98)?;
+    assert_eq!(rt; labels(alloc, &loads)?.as_str(), "0.5, 0.7, 0.90");
+    assert_eq!(rt; loads.ticks.len(), 5);
+    let depths = [(8, "8"), (64, "64"), (80, "80")].map(|(at, text)| Written { at, text });
+    let depths = Axis::of_values(alloc, "depth", &depths, 355)?;
+    assert_eq!(rt; (depths.range.scale, depths.range.low, depths.range.high), (Scale::Logarithmic, 7, 90));
+    let one = Axis::of_values(alloc, "depth", &LOADS[..1], 355)?;
+    assert_eq!(rt; (one.range.scale, one.range.low, one.range.high), (Scale::Linear, 49, 51));
+    Ok(())
+}
+
 // A curve of two points and a gap, whose second point has an error bar.
 fn curve(alloc: Global) -> Result<Curve, AllocError> {
     let points = [(1, 10, false), (3, 40, true), (5, 30, false)];
     let mut curve = Curve {
         style: 1,
+        shift: -350,
         tip: String::from_str(alloc, "a < b")?,
         points: Vec::new(alloc),
         marks: Vec::new(alloc),
@@ -199,8 +243,8 @@ fn picture(alloc: Global) -> Result<Picture, AllocError> {
     })
 }
 
-// The panel begins at 80 and is 800 wide, so that the names stand at a sixth, a half and five sixths of it. It ends 400 below
-// 62, which are 8 for each picosecond.
+// The panel begins at 80 and is 800 wide, so that the names stand at a sixth, a half and five sixths of it, from where the curve
+// is moved 3.5 to the left. It ends 400 below 62, which are 8 for each picosecond.
 #[test]
 fn a_picture_is_drawn(rt: HostRuntime) -> Result<(), Fail> {
     let mut svg = Vec::new(rt.alloc());
@@ -210,9 +254,9 @@ fn a_picture_is_drawn(rt: HostRuntime) -> Result<(), Fail> {
         "<svg xmlns=\"http://www.w3.org/2000/svg\" width=\"930\" ",
         ">R &amp; D</text>",
         ">digest 0a1b</text>",
-        "stroke=\"#e69f00\" stroke-width=\"2\" stroke-dasharray=\"9 4\" stroke-linejoin=\"round\" d=\"M213.33 382.00L480.00 142.00M746.67 222.00\"><title>a &lt; b</title></path>\n",
-        "d=\"M480.00 302.00V62.00M476.00 302.00h8.00M476.00 62.00h8.00\"/>\n",
-        "<circle cx=\"480.00\" cy=\"142.00\" r=\"3.5\" fill=\"#e69f00\"><title>40 +- 10</title></circle>\n",
+        "stroke=\"#d55e00\" stroke-width=\"2\" stroke-dasharray=\"9 4\" stroke-linejoin=\"round\" d=\"M209.83 382.00L476.50 142.00M743.17 222.00\"><title>a &lt; b</title></path>\n",
+        "d=\"M476.50 302.00V62.00M472.50 302.00h8.00M472.50 62.00h8.00\"/>\n",
+        "<circle cx=\"476.50\" cy=\"142.00\" r=\"3.5\" fill=\"#d55e00\"><title>40 +- 10</title></circle>\n",
         "<path d=\"M80 262.00H880\" stroke=\"#777777\" stroke-dasharray=\"1 3\"/><text x=\"886\" y=\"266.00\" fill=\"#555555\">half</text>\n",
         ">mean in ps</text>",
         ">burst</text>",

@@ -7,8 +7,8 @@ use nvme_load::{
 };
 use nvme_model::{Device, End, Model, Pauses, Queue};
 use nvme_simulate::{
-    Digest, Form, Listings, Load, LoadFault, OverrideFault, Overrides, Progress, ReplayError,
-    SimulateFault, Source, Stream, Streams, model_in, overload_of, put_pick, put_trace_head,
+    Digest, Form, Listings, Load, LoadFault, Origin, OverrideFault, Overrides, Progress,
+    ReplayError, SimulateFault, Source, Stream, Streams, cut_of, model_in, overload_of, put_pick, put_trace_head,
     simulate, sources_in,
 };
 use nvme_simulation::Picked;
@@ -306,6 +306,63 @@ fn progress_is_a_line(rt: HostRuntime) -> Result<(), Fail> {
     Ok(())
 }
 
+// Of three commands in a list beside a closed host.
+#[test]
+fn replays_are_cut(rt: HostRuntime) -> Result<(), Fail> {
+    let mut requests = Vec::new(rt.alloc());
+    for at in [0, 5, 9] {
+        requests.push(Request {
+            at,
+            operation: Operation::Read,
+            block: 0,
+            blocks: 8,
+        })?;
+    }
+    let list = Replay::new(1_024, requests)?;
+    let model = model(&rt, Arrivals::Replay(list), None)?;
+    assert!(rt; cut_of(&model, None).is_none());
+    assert!(rt; cut_of(&model, Some(End::after(3)?)).is_none());
+    assert!(rt; cut_of(&model, Some(End::at(7))).is_none());
+    let Some(cut) = cut_of(&model, Some(End::after(2)?)) else {
+        return Err(Fail::new("not cut"));
+    };
+    assert_eq!(rt;
+        format!(in rt.alloc(); "{cut}")?.as_str(),
+        "the simulation ends after 2 commands: at least 1 of the 3 in the replayed files are left out"
+    );
+    Ok(())
+}
+
+// The options of a line that change a model whose seed is 7, and which ends after 10 commands.
+#[test]
+fn options_that_change_a_file_are_told(rt: HostRuntime) -> Result<(), Fail> {
+    let alloc = rt.alloc();
+    let model = model(&rt, Arrivals::Regular(Gap::new(MICROSECOND)?), None)?;
+    let rows = [
+        (Overrides::new(Some(7), Some(10), None, Some(0), None)?, ""),
+        (
+            Overrides::new(Some(8), Some(9), None, Some(1), Some("0.70"))?,
+            "--seed 8 --commands 9 --warm-up 1 --load 0.7",
+        ),
+        (
+            Overrides::new(None, None, Some("1.5us"), None, Some("1"))?,
+            "--time 1500000ps --load 1",
+        ),
+        (
+            Overrides::new(None, None, None, None, Some("0.000001"))?,
+            "--load 0.000001",
+        ),
+        (
+            Overrides::new(None, None, None, None, Some("2.05"))?,
+            "--load 2.05",
+        ),
+    ];
+    for (overrides, told) in rows {
+        assert_eq!(rt; overrides.changes(alloc, &model)?.as_str(), told);
+    }
+    Ok(())
+}
+
 #[test]
 fn a_digest_is_that_of_its_text(rt: HostRuntime) -> Result<(), Fail> {
     assert_eq!(rt;
@@ -328,12 +385,15 @@ fn a_model_is_simulated(rt: HostRuntime) -> Result<(), Fail> {
         progress: Progress::new(None::<&mut [u8]>, end),
     };
     let model = model(&rt, arrivals, None)?;
-    let digest = Digest::of(b"");
+    let origin = Origin {
+        digest: Digest::of(b""),
+        options: String::new(rt.alloc()),
+    };
     let mut picture = Some(&mut chart);
     let done = simulate(
         rt.alloc(),
         model,
-        &digest,
+        &origin,
         Form::Csv,
         &mut streams,
         &mut output,
@@ -390,11 +450,14 @@ fn a_file_is_replayed(rt: HostRuntime) -> Result<(), Fail> {
         trace: None::<Vec<u8>>,
         progress: Progress::new(None::<Vec<u8>>, model.end),
     };
-    let digest = Digest::of(b"");
+    let origin = Origin {
+        digest: Digest::of(b""),
+        options: String::new(rt.alloc()),
+    };
     let done = simulate(
         rt.alloc(),
         model,
-        &digest,
+        &origin,
         Form::Text,
         &mut streams,
         &mut output,
@@ -422,11 +485,14 @@ fn a_log_that_fails_is_told(rt: HostRuntime) -> Result<(), Fail> {
         progress: Progress::new(None::<Vec<u8>>, end),
     };
     let model = model(&rt, arrivals, None)?;
-    let digest = Digest::of(b"");
+    let origin = Origin {
+        digest: Digest::of(b""),
+        options: String::new(rt.alloc()),
+    };
     let done = simulate(
         rt.alloc(),
         model,
-        &digest,
+        &origin,
         Form::Text,
         &mut streams,
         &mut output,

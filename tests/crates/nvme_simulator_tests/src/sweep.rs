@@ -1,5 +1,5 @@
 // Means and widths are worked out by hand, with quantiles of a printed table of Student's t.
-use nvme_simulate::{Digest, Form, Listings, Overrides, Source, sources_in};
+use nvme_simulate::{Digest, Form, Listings, Origin, Overrides, Source, sources_in};
 use nvme_sweep::{CommandWords, Estimate, Style, Sweep, SweepFault, axes_of, estimate_of};
 use std::alloc::Global;
 use std::process::Abort;
@@ -23,6 +23,14 @@ class = "low"
 arrivals = { every = "1ms" }
 "#;
 
+// The origin of an answer whose file is this text.
+fn origin(alloc: Global, text: &[u8]) -> Origin {
+    Origin {
+        digest: Digest::of(text),
+        options: String::new(alloc),
+    }
+}
+
 // The sweep of words over a text, whose queues replay these files.
 fn sweep_over<'a>(
     alloc: Global,
@@ -39,8 +47,9 @@ fn sweep_over<'a>(
         overrides,
         listings,
         text,
+        drawn: None,
     };
-    sweep.look(alloc)?;
+    let _ = sweep.look(alloc)?;
     Ok(sweep)
 }
 
@@ -144,6 +153,11 @@ fn bad_words_are_refused(rt: HostRuntime) -> Result<(), Fail> {
         refused(&rt, &["burst=1", "burst=2"])?.as_str(),
         "--sweep burst: the key is swept twice"
     );
+    assert_eq!(rt;
+        refused(&rt, &["burst=8,1,none,1"])?.as_str(),
+        "--sweep burst: the value 1 is there twice"
+    );
+    assert_eq!(rt; refused(&rt, &["load=0.5,0.50"])?.as_str(), "");
     assert_eq!(rt; refused(&rt, &["queue.2.class=low,urgent"])?.as_str(), "");
     Ok(())
 }
@@ -158,7 +172,7 @@ fn answer_on<R: AllocGlobal + Threads + Sync + Abort>(
     let style = Style {
         form,
         has_head: true,
-        digest: Digest::of(b""),
+        origin: origin(rt.alloc(), b""),
         jobs,
     };
     let (mut answer, mut svg) = (Vec::new(rt.alloc()), Vec::new(rt.alloc()));
@@ -220,7 +234,7 @@ fn a_sweep_is_drawn(rt: HostRuntime) -> Result<(), Fail> {
     let style = Style {
         form: Form::Csv,
         has_head: true,
-        digest: Digest::of(b"abc"),
+        origin: origin(rt.alloc(), b"abc"),
         jobs: 1,
     };
     let (mut output, mut svg) = (Vec::new(rt.alloc()), Vec::new(rt.alloc()));
@@ -230,7 +244,7 @@ fn a_sweep_is_drawn(rt: HostRuntime) -> Result<(), Fail> {
     assert!(rt; done.is_ok());
     let text = std::str::from_utf8(svg.as_slice()).unwrap_or("");
     for part in [
-        ">Latency over device.channels</text>",
+        ">Latency of each class over device.channels</text>",
         "<title>device.channels=2 high: 100.000 us</title>",
         "<title>low</title>",
         ", digest ba7816bf8f01cfea414140de5dae2223b00361a396177a9cb410ff61f20015ad</text>",
@@ -319,7 +333,7 @@ fn runs_are_counted_on_a_terminal(rt: HostRuntime) -> Result<(), Fail> {
     let style = Style {
         form: Form::Csv,
         has_head: true,
-        digest: Digest::of(b""),
+        origin: origin(rt.alloc(), b""),
         jobs: 2,
     };
     let (mut terminal, mut answer) = (Vec::new(rt.alloc()), Vec::new(rt.alloc()));
