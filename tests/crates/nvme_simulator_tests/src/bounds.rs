@@ -3,7 +3,7 @@ use nvme_arbiter::{ByClass, Class, Mechanism, Settings};
 use nvme_bounds::{Queues, draw_service, draw_time, longest_service, longest_time, time_behind};
 use nvme_clock::{Purpose, Quantiles, TwoPoints, stream};
 use nvme_load::{Distribution, Mean, Service};
-use nvme_simulate::{Digest, Form, Progress, Streams, model_in, simulate_bounded};
+use nvme_simulate::{Digest, Form, Origin, Progress, Streams, model_in, simulate_bounded};
 use std::process::Abort;
 use std::test::Fail;
 
@@ -129,10 +129,14 @@ fn told(rt: &HostRuntime, form: Form) -> Result<Vec<u8>, Fail> {
         trace: None::<Vec<u8>>,
         progress: Progress::new(None::<Vec<u8>>, model.end),
     };
+    let origin = Origin {
+        digest: Digest::of(TURNS),
+        options: String::new(rt.alloc()),
+    };
     let done = simulate_bounded(
         rt.alloc(),
         model,
-        &Digest::of(TURNS),
+        &origin,
         form,
         &mut streams,
         &mut output,
