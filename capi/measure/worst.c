@@ -31,7 +31,7 @@ static nvmearb_arbiter arbiter;
 static nvmearb_board board;
 static nvmearb_ctrl ctrl;
 static nvmearb_slot slots[NVMEARB_MAX_SLOTS];
-static uint16_t tails[QUEUES + 1];
+static uint16_t tails[QUEUES + 1], cq_slots = RING;
 
 /* What the counted calls take and write. */
 static nvmearb_seen seen[QUEUES + 1];
@@ -167,7 +167,7 @@ static void post_admin(void)
 
 static void put_create_cq(uint16_t of)
 {
-    put(NVMEARB_OPC_CREATE_CQ, 1, CQS + BETWEEN * of, (RING - 1) << 16 | of, 1);
+    put(NVMEARB_OPC_CREATE_CQ, 1, CQS + BETWEEN * of, (uint32_t)(cq_slots - 1) << 16 | of, 1);
 }
 
 /* The queues have the four classes in turn: 61 has high, 62 medium, 63 low, and 64 urgent. */
@@ -323,9 +323,9 @@ static void count_way(void)
     COUNT(ctrl_sq_tail, "", "");
     tails[qid] = n;
     COUNT(ctrl_fetch, "", "");
-    COUNT(ctrl_next_fetch, "the last turn", "turns up to the queue's");
+    COUNT(ctrl_next_fetch, "the only queue", "queues before it whose work has to wait");
     COUNT(ctrl_fetched, "", "");
-    NONE(ctrl_next_fetch, "no queue", "turns up to the queue's");
+    NONE(ctrl_next_fetch, "no queue", "queues before it whose work has to wait");
     COUNT(ctrl_waiting, "", "");
     COUNT(ctrl_seen, "", "");
     check(nvmearb_ctrl_pick(&ctrl, slots, pool, NVMEARB_NO_LIMIT, &step));
@@ -339,13 +339,13 @@ static void count_way(void)
     check(nvmearb_ctrl_complete(&ctrl, slots, pool, second, &success, 0));
     tag = first;
     COUNT(ctrl_complete, "", "");
-    COUNT(ctrl_next_to_post, "the last turn", "turns up to the queue's");
+    COUNT(ctrl_next_to_post, "the only queue", "queues before it whose work has to wait");
     COUNT(ctrl_post, "", "");
     n = (post.slot + 1) % RING;
     COUNT(ctrl_cq_head, "", "");
     COUNT(ctrl_post, "", "");
     COUNT(ctrl_post, "", "");
-    NONE(ctrl_next_to_post, "no queue", "turns up to the queue's");
+    NONE(ctrl_next_to_post, "no queue", "queues before it whose work has to wait");
     COUNT(ctrl_sq, "", "");
     COUNT(ctrl_cq, "", "");
 }
@@ -360,7 +360,27 @@ static void count_depths(void)
         ring(of);
     }
     qid = QUEUES;
-    NONE(ctrl_next_fetch, "no queue, each at its depth", "turns up to the queue's");
+    NONE(ctrl_next_fetch, "no queue, each at its depth", "queues before it whose work has to wait");
+}
+
+/* With a completion ready for each I/O queue, none of which may be posted yet: their rings have two slots. */
+static void count_full(void)
+{
+    cq_slots = 2;
+    anywhere(POOL);
+    cq_slots = RING;
+    for (uint16_t of = 1; of <= QUEUES; of++) {
+        fill(of, 2);
+    }
+    while (nvmearb_ctrl_pick(&ctrl, slots, pool, 1, &step) == NVMEARB_OK) {
+        take();
+        check(nvmearb_ctrl_complete(&ctrl, slots, pool, tag, &success, 0));
+    }
+    for (uint16_t of = 1; of <= QUEUES; of++) {
+        check(nvmearb_ctrl_post(&ctrl, slots, pool, of, &post));
+    }
+    qid = QUEUES;
+    NONE(ctrl_next_to_post, "no queue, each ring full", "queues before it whose work has to wait");
 }
 
 /* With all queues full: holding, classes, and picks of I/O queues. */
@@ -492,6 +512,7 @@ int main(void)
     count_making();
     count_way();
     count_depths();
+    count_full();
     count_features();
     count_creates(0);
     count_creates(1);

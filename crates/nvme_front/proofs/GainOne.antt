@@ -136,6 +136,13 @@ module _ (s : FrontState) (few : s.config.max_events ≤ most_events) (jobs : Jo
     | inr not_so ↦ ap (λ (j : JobsView). in_hand j.hands) (none not_so)
   ]
 
+  -- in the same lanes
+  pub hand-ends : jobs.hands.seat.ends ≡ s.jobs.hands.seat.ends
+  hand-ends = elim (cases_Bool handed) [
+    | inl was ↦ ap (λ (j : JobsView). j.hands.seat.ends) (one was).are ∙ (one was).can.ends
+    | inr not_so ↦ ap (λ (j : JobsView). j.hands.seat.ends) (none not_so)
+  ]
+
   -- and is kept
   pub hand-kept : IsConsistent s → HasAdmin s → IsConsistent (with_jobs s few jobs)
   hand-kept k admin = elim (cases_Bool handed) [

@@ -1,5 +1,5 @@
 -- What a job that is handed leaves; where none was handed nothing changed.
-use Rattle.nvme_front.proofs.GainOne.{same_jobs, hand-goes, hand-balanced, hand-in_hand, hand-kept, handed-fewer, handed-more, jobs_have_room}
+use Rattle.nvme_front.proofs.GainOne.{same_jobs, hand-goes, hand-balanced, hand-ends, hand-in_hand, hand-kept, handed-fewer, handed-more, jobs_have_room}
 use Rattle.nvme_front.proofs.state.FrontState.hand_one.Goals as goal
 
 pub returns-clause-consistent : goal.returns-clause-consistent
@@ -25,3 +25,6 @@ returns-clause-fewer g c = λ was. handed-fewer c.args.self.now.config.spaces c.
 
 pub returns-clause-more : goal.returns-clause-more
 returns-clause-more g c = λ was. handed-more c.args.self.now.config.spaces c.args.self.now.jobs c.hand.new.self (c.hand.ensures.one was)
+
+pub returns-clause-ends : goal.returns-clause-ends
+returns-clause-ends g c = hand-ends c.args.self.now c.args.self.now.config.few_events c.hand.new.self c.hand.result c.hand.ensures.none c.hand.ensures.one
