@@ -5,3 +5,4 @@ pub mod Levels
 pub mod Totals
 pub mod Composed
 pub mod Pools
+pub mod Refills

@@ -1,6 +1,7 @@
 pub mod Before
 pub mod Longest
 pub mod Pools
+pub mod Refills
 pub mod Runs
 pub mod Stretches
 pub mod Laws

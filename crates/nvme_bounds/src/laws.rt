@@ -2,6 +2,7 @@
 ghost use Rattle.nvme_bounds.specs.Examples.{BoundExamples};
 ghost use Rattle.nvme_bounds.specs.Laws.{EndsComeInTime, FewComeBefore, WaitsAreShort};
 ghost use Rattle.nvme_bounds.specs.Pools.{FullPoolsRun};
+ghost use Rattle.nvme_bounds.specs.Refills.{EndsMakeRoom};
 
 /// While a queue has commands to be picked and none is, no more commands of others are picked than `Queues::most_before` says: in each stretch of a lawful
 /// run, with limits or without, in which the settings stay and only queues that were counted are ready.
@@ -23,6 +24,11 @@ pub fn waits_are_short()
 /// A pool that doesn't pause and has no room runs as many commands as it has channels, or as its depth, where that is less.
 pub fn full_pools_run()
     ensures { FullPoolsRun }
+{}
+
+/// Where a device has no room before some calls and none after them, as many commands ended between as it took.
+pub fn ends_make_room()
+    ensures { EndsMakeRoom }
 {}
 
 /// Bounds at 8:4:2, worked by hand.

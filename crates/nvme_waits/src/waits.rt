@@ -62,13 +62,22 @@ impl Waits {
         Ok(())
     }
 
+    // Takes a command out of those that the device has.
+    fn take(&mut self, command: &Finished) -> Option<Taken> {
+        let place = self.taken.iter().position(|it| it.queue == command.queue
+            && it.number == command.number)?;
+        if place < self.taken.len() {
+            Some(self.taken.swap_remove(place))
+        } else {
+            None
+        }
+    }
+
     // A command is done. The numbers may count it.
     pub(crate) fn finish(&mut self, command: &Finished, counts: bool) {
-        let is_it = |it: &Taken| it.queue == command.queue && it.number == command.number;
-        let Some(place) = self.taken.iter().position(is_it) else {
+        let Some(taken) = self.take(command) else {
             return;
         };
-        let taken = self.taken.swap_remove(place);
         let Some(place) = usize::from(command.queue).checked_sub(1) else {
             return;
         };
