@@ -173,22 +173,16 @@ fn put_chart<W: Write>(
     }
 }
 
-// What is written behind a run.
-#[derive(Drop)]
-struct Behind<'a, W, C> {
-    origin: &'a Origin,
-    form: Form,
-    output: &'a mut W,
-    chart: &'a mut Option<C>,
-}
-
 // Runs a model to its end, and writes its picture, where one is wanted, and its answer, with its bounds where there are any.
 fn simulated<L: Write, T: Write, P: Write, W: Write, C: Write>(
     alloc: Global,
     model: Model,
     mut bounds: Option<Bounds>,
+    origin: &Origin,
+    form: Form,
     streams: &mut Streams<L, T, P>,
-    behind: Behind<W, C>,
+    output: &mut W,
+    chart: &mut Option<C>,
 ) -> Result<(), SimulateFault> {
     let subject = Subject::of(alloc, &model)?;
     let Played {
@@ -198,14 +192,14 @@ fn simulated<L: Write, T: Write, P: Write, W: Write, C: Write>(
     } = played_to_end(alloc, model, &mut bounds, streams)?;
     let about = About {
         version: VERSION,
-        digest: behind.origin.digest.as_str(),
-        options: behind.origin.options.as_str(),
+        digest: origin.digest.as_str(),
+        options: origin.options.as_str(),
     };
-    if let Some(chart) = behind.chart {
-        put_chart(alloc, &subject, &numbers, behind.origin, chart)?;
+    if let Some(chart) = chart {
+        put_chart(alloc, &subject, &numbers, origin, chart)?;
     }
     let answer = numbers.answer(end, simulation.channels(), about)?;
-    behind.form.put(&answer, bounds.as_ref(), behind.output)
+    form.put(&answer, bounds.as_ref(), output)
 }
 
 /// Runs a model to its end, and writes its answer, which tells its origin. What happens is written to the streams
@@ -220,13 +214,7 @@ pub fn simulate<L: Write, T: Write, P: Write, W: Write, C: Write>(
     output: &mut W,
     chart: &mut Option<C>,
 ) -> Result<(), SimulateFault> {
-    let behind = Behind {
-        origin,
-        form,
-        output,
-        chart,
-    };
-    simulated(alloc, model, None, streams, behind)
+    simulated(alloc, model, None, origin, form, streams, output, chart)
 }
 
 /// Does the same, and tells beside the longest waits for arbitration what is proved about them, but in comma-separated values.
@@ -240,13 +228,8 @@ pub fn simulate_bounded<L: Write, T: Write, P: Write, W: Write, C: Write>(
     chart: &mut Option<C>,
 ) -> Result<(), SimulateFault> {
     let bounds = Bounds::of(alloc, &model)?;
-    let behind = Behind {
-        origin,
-        form,
-        output,
-        chart,
-    };
-    simulated(alloc, model, Some(bounds), streams, behind)
+    let bounds = Some(bounds);
+    simulated(alloc, model, bounds, origin, form, streams, output, chart)
 }
 
 /// The numbers of a run.
