@@ -171,16 +171,28 @@ const LOADS: [Written; 5] = [
 fn values_stand_where_they_are(rt: HostRuntime) -> Result<(), Fail> {
     let alloc = rt.alloc();
     let loads = Axis::of_values(alloc, "load", &LOADS, 355)?;
-    assert_eq!(rt; labels(alloc, &loads)?.as_str(), "0.5, 0.7, 0.8, 0.90, 0.95");
-    assert_eq!(rt; (loads.range.scale, loads.range.low, loads.range.high), (Scale::Linear, 48, 97));
+    assert_eq!(rt;
+        labels(alloc, &loads)?.as_str(),
+        "0.5, 0.7, 0.8, 0.90, 0.95"
+    );
+    assert_eq!(rt;
+        (loads.range.scale, loads.range.low, loads.range.high),
+        (Scale::Linear, 48, 97)
+    );
     let loads = Axis::of_values(alloc, "load", &LOADS, 98)?;
     assert_eq!(rt; labels(alloc, &loads)?.as_str(), "0.5, 0.7, 0.90");
     assert_eq!(rt; loads.ticks.len(), 5);
     let depths = [(8, "8"), (64, "64"), (80, "80")].map(|(at, text)| Written { at, text });
     let depths = Axis::of_values(alloc, "depth", &depths, 355)?;
-    assert_eq!(rt; (depths.range.scale, depths.range.low, depths.range.high), (Scale::Logarithmic, 7, 90));
+    assert_eq!(rt;
+        (depths.range.scale, depths.range.low, depths.range.high),
+        (Scale::Logarithmic, 7, 90)
+    );
     let one = Axis::of_values(alloc, "depth", &LOADS[..1], 355)?;
-    assert_eq!(rt; (one.range.scale, one.range.low, one.range.high), (Scale::Linear, 49, 51));
+    assert_eq!(rt;
+        (one.range.scale, one.range.low, one.range.high),
+        (Scale::Linear, 49, 51)
+    );
     Ok(())
 }
 

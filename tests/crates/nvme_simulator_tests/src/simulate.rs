@@ -8,8 +8,8 @@ use nvme_load::{
 use nvme_model::{Device, End, Model, Pauses, Queue};
 use nvme_simulate::{
     Digest, Form, Listings, Load, LoadFault, Origin, OverrideFault, Overrides, Progress,
-    ReplayError, SimulateFault, Source, Stream, Streams, cut_of, model_in, overload_of, put_pick, put_trace_head,
-    simulate, sources_in,
+    ReplayError, SimulateFault, Source, Stream, Streams, cut_of, model_in, overload_of, put_pick,
+    put_trace_head, simulate, sources_in,
 };
 use nvme_simulation::Picked;
 use std::process::Abort;
