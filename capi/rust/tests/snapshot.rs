@@ -102,7 +102,7 @@ fn snapshots_of_something_else_are_refused_with_their_names() {
     assert_eq!(refused(&with(0, b'N'), SLOTS), SnapshotError::Letters);
     assert_eq!(refused(&with(VERSION + 1, 1), SLOTS), SnapshotError::Version(0x100));
     assert_eq!(SnapshotError::Version(0x100).to_string(), "a snapshot of version 0.1.0, and not 0.2.0");
-    assert_eq!(refused(&with(STATE_BYTES, bytes[STATE_BYTES] - 16), SLOTS), SnapshotError::Size);
+    assert_eq!(refused(&with(STATE_BYTES, bytes[STATE_BYTES] ^ 16), SLOTS), SnapshotError::Size);
     assert_eq!(refused(&bytes, SLOTS + 1), SnapshotError::Slots(SLOTS));
     assert_eq!(refused(&bytes[..bytes.len() - 1], SLOTS), SnapshotError::Length(bytes.len()));
 }
