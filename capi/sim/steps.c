@@ -251,22 +251,22 @@ uint32_t nvmearb_sim_serve(nvmearb_sim *sim, uint64_t service)
     return NVMEARB_OK;
 }
 
-uint32_t nvmearb_sim_end(nvmearb_sim *sim, uint32_t at, uint64_t time)
+uint32_t nvmearb_sim_end(nvmearb_sim *sim, uint32_t number, uint64_t at)
 {
     if (sim->mark != MARK)
         return NVMEARB_ESTATE;
-    if (at >= sim->config.channels || channel_of(sim, at)->runs == NO_COMMAND || !channel_of(sim, at)->put_off)
+    if (number >= sim->config.channels || channel_of(sim, number)->runs == NO_COMMAND || !channel_of(sim, number)->put_off)
         return NVMEARB_NONE;
-    if (time < sim->now)
+    if (at < sim->now)
         return NVMEARB_EARG;
-    channel *it = channel_of(sim, at);
+    channel *it = channel_of(sim, number);
     command *ending = command_of(sim, it->runs);
     it->put_off = 0;
-    if (sim->starting == at)
+    if (sim->starting == number)
         sim->starting = NO_CHANNEL;
-    ending->told.service = time - ending->told.started;
+    ending->told.service = at - ending->told.started;
     it->busy += ending->told.service;
-    return sim_plan(sim, time, END, at);
+    return sim_plan(sim, at, END, number);
 }
 
 static int is_within(const nvmearb_sim *sim, const nvmearb_sim_command *it)
