@@ -1,5 +1,4 @@
 pub mod Before
-pub mod Longest
 pub mod Pools
 pub mod Refills
 pub mod Runs

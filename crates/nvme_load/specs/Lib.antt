@@ -1,6 +1,7 @@
 pub mod Arrivals
 pub mod Counts
 pub mod Examples
+pub mod Longest
 pub mod Means
 pub mod Mixes
 pub mod Phases

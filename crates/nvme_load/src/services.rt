@@ -1,5 +1,5 @@
 // How long a device takes for a command.
-ghost use Rattle.std.specs.Prelude.{◌≡◌};
+ghost use Rattle.std.specs.Prelude.{◌≡◌, ◌≤◌, IfSome};
 
 use crate::mean::Mean;
 use crate::mix::Operation;
@@ -17,11 +17,28 @@ pub enum Distribution {
 }
 
 impl Distribution {
+    ghost use Rattle.nvme_load.specs.Longest.{longest_time};
     ghost use Rattle.nvme_load.specs.Services.{time_of};
+
+    /// The longest time that is drawn, in picoseconds: an exponential one is at most 64 means.
+    pub fn longest(&self) -> u64
+        ensures { result ≡ longest_time self.now }
+    {
+        match self {
+            Distribution::Fixed(time) => *time,
+            Distribution::Exponential(mean) => 64 * mean.picoseconds,
+            Distribution::TwoPoints(points) => points.usual.max(points.rare),
+            Distribution::Quantiles(table) => {
+                let values = table.values();
+                values[values.len() - 1]
+            }
+        }
+    }
 
     /// A time. `Fixed` reads nothing of the stream.
     pub fn draw<R: Rng>(&self, rng: &mut R) -> u64
-        ensures { (result, R.stream rng.new) ≡ time_of self.now (R.stream rng.old) }
+        ensures value { (result, R.stream rng.new) ≡ time_of self.now (R.stream rng.old) }
+        ensures within { result ≤ longest_time self.now }
     {
         match self {
             Distribution::Fixed(time) => *time,
@@ -40,11 +57,21 @@ pub struct Service {
 }
 
 impl Service {
+    ghost use Rattle.nvme_load.specs.Longest.{longest_service};
     ghost use Rattle.nvme_load.specs.Services.{service_of};
+
+    /// The longest service time of a command with so many blocks, in picoseconds, and 2^64 - 1 where that is longer.
+    pub fn longest(&self, blocks: u32) -> u64
+        ensures { result ≡ longest_service self.now blocks }
+    {
+        let of_blocks = self.per_block.saturating_mul(u64::from(blocks));
+        self.time.longest().saturating_add(of_blocks)
+    }
 
     /// The service time of a command with so many blocks, or None where it is 2^64 picoseconds or longer.
     pub fn draw<R: Rng>(&self, rng: &mut R, blocks: u32) -> Option<u64>
-        ensures { (result, R.stream rng.new) ≡ service_of self.now blocks (R.stream rng.old) }
+        ensures value { (result, R.stream rng.new) ≡ service_of self.now blocks (R.stream rng.old) }
+        ensures within { IfSome result (λ time. time ≤ longest_service self.now blocks) }
     {
         let time = self.time.draw(rng);
         let Some(of_blocks) = self.per_block.checked_mul(u64::from(blocks)) else {
@@ -63,11 +90,24 @@ pub struct Services {
 }
 
 impl Services {
+    ghost use Rattle.nvme_load.specs.Longest.{longest_by};
     ghost use Rattle.nvme_load.specs.Services.{service_by};
+
+    /// The longest service time of a command with so many blocks, in picoseconds, and 2^64 - 1 where that is longer.
+    pub fn longest(&self, operation: Operation, blocks: u32) -> u64
+        ensures { result ≡ longest_by self.now operation blocks }
+    {
+        match operation {
+            Operation::Read => self.read.longest(blocks),
+            Operation::Write => self.write.longest(blocks),
+            Operation::Flush => self.flush.longest(),
+        }
+    }
 
     /// The service time of a command with so many blocks, or None where it is 2^64 picoseconds or longer.
     pub fn draw<R: Rng>(&self, rng: &mut R, operation: Operation, blocks: u32) -> Option<u64>
-        ensures { (result, R.stream rng.new) ≡ service_by self.now operation blocks (R.stream rng.old) }
+        ensures value { (result, R.stream rng.new) ≡ service_by self.now operation blocks (R.stream rng.old) }
+        ensures within { IfSome result (λ time. time ≤ longest_by self.now operation blocks) }
     {
         match operation {
             Operation::Read => self.read.draw(rng, blocks),

@@ -1,10 +1,10 @@
-// What is proved about how long commands of a model wait for arbitration.
+// How long commands of a model may wait for arbitration.
 use crate::told::{put_key, put_table};
 use crate::waits::Waits;
 use nvme_arbiter::{ByClass, Class, Pick};
-use nvme_bounds::{Queues, longest_service, longest_time, time_behind};
+use nvme_bounds::{Queues, time_behind};
 use nvme_channels::Placement;
-use nvme_load::{Arrivals, Operation, Services};
+use nvme_load::{Arrivals, Operation};
 use nvme_model::{Finished, Model, Queue};
 use nvme_numbers::WriteFault;
 use std::alloc::{AllocError, Global};
@@ -44,17 +44,17 @@ impl NoBound {
     }
 }
 
-/// What is proved of a queue. Times are in picoseconds.
+/// How long the commands of a queue may wait. Times are in picoseconds.
 #[derive(Clone, Copy, Debug, PartialEq, Eq)]
 pub struct Bound {
     pub class: Class,
     /// How many commands of others come before one at most. `None` where there is no bound.
     pub before: Option<u64>,
-    /// The longest that a command waits.
+    /// The longest that a command may wait.
     pub time: Result<u128, NoBound>,
 }
 
-/// What is proved of the queues of a model, and what is seen of them.
+/// How long commands of the queues of a model may wait, and what is seen of them.
 #[derive(Drop)]
 pub struct Bounds {
     /// Those of the queues, of the identifiers 1, 2 and so on.
@@ -62,15 +62,6 @@ pub struct Bounds {
     /// The longest service of any command, in picoseconds.
     pub service: u64,
     pub(crate) waits: Waits,
-}
-
-// The longest service of an operation with so many blocks.
-fn longest_of(services: &Services, operation: Operation, blocks: u32) -> u64 {
-    match operation {
-        Operation::Read => longest_service(&services.read, blocks),
-        Operation::Write => longest_service(&services.write, blocks),
-        Operation::Flush => longest_time(&services.flush),
-    }
 }
 
 // The longest service of the commands of a queue that are drawn, whose operations have a share.
@@ -84,7 +75,7 @@ fn longest_drawn(queue: &Queue) -> u64 {
     let mut longest = 0;
     for (share, operation) in operations {
         if share > 0 {
-            longest = longest_of(&queue.services, operation, blocks).max(longest);
+            longest = queue.services.longest(operation, blocks).max(longest);
         }
     }
     longest
@@ -97,7 +88,8 @@ fn longest_in(queue: &Queue) -> u64 {
     };
     let mut longest = 0;
     for request in &list.requests {
-        longest = longest_of(&queue.services, request.operation, request.blocks).max(longest);
+        let service = queue.services.longest(request.operation, request.blocks);
+        longest = service.max(longest);
     }
     longest
 }

@@ -1,4 +1,4 @@
-//! The waits of a simulation's commands for arbitration: the longest that were seen, and what is proved about how long they may be.
+//! The waits of a simulation's commands for arbitration: the longest that were seen, and how long they may be.
 #![tactic(auto)]
 
 mod bounds;

@@ -1,8 +1,6 @@
 // Bounds on waits for arbitration, worked out by hand.
 use nvme_arbiter::{ByClass, Class, Mechanism, Settings};
-use nvme_bounds::{Queues, draw_service, draw_time, longest_service, longest_time, time_behind};
-use nvme_clock::{Purpose, Quantiles, TwoPoints, stream};
-use nvme_load::{Distribution, Mean, Service};
+use nvme_bounds::{Queues, time_behind};
 use nvme_simulate::{Digest, Form, Origin, Progress, Streams, model_in, simulate_bounded};
 use std::process::Abort;
 use std::test::Fail;
@@ -55,55 +53,6 @@ fn ends_come_four_at_a_time(rt: HostRuntime) {
     assert_eq!(rt; time_behind(23, 4, 80), 480);
     assert_eq!(rt; time_behind(0, 4, 80), 80);
     assert_eq!(rt; time_behind(0, 1, 0), 0);
-}
-
-// A service of this distribution, with 5 for each block.
-fn with_blocks(time: Distribution) -> Service {
-    Service { time, per_block: 5 }
-}
-
-#[test]
-fn services_have_a_longest_time(rt: HostRuntime) -> Result<(), Fail> {
-    let mean = Distribution::Exponential(Mean::new(10)?);
-    assert_eq!(rt; longest_time(&mean), 640);
-    let points = TwoPoints {
-        usual: 7,
-        rare: 90,
-        times: 1,
-        out_of: 20,
-    };
-    assert_eq!(rt; longest_time(&Distribution::TwoPoints(points)), 90);
-    let mut values = Vec::new(rt.alloc());
-    values.push(3)?;
-    values.push(4)?;
-    values.push(11)?;
-    assert_eq!(rt;
-        longest_time(&Distribution::Quantiles(Quantiles::new(values)?)),
-        11
-    );
-    assert_eq!(rt;
-        longest_service(&with_blocks(Distribution::Fixed(60)), 8),
-        100
-    );
-    assert_eq!(rt;
-        longest_service(&with_blocks(Distribution::Fixed(u64::MAX)), 8),
-        u64::MAX
-    );
-    Ok(())
-}
-
-#[test]
-fn draws_are_no_longer(rt: HostRuntime) -> Result<(), Fail> {
-    let mut words = stream(7, 1, Purpose::Services);
-    let mean = Distribution::Exponential(Mean::new(10)?);
-    for _turn in 0..1_000u32 {
-        assert!(rt; draw_time(&mean, &mut words) <= 640);
-    }
-    let fixed = with_blocks(Distribution::Fixed(60));
-    assert_eq!(rt; draw_service(&fixed, &mut words, 8), Some(100));
-    let endless = with_blocks(Distribution::Fixed(u64::MAX));
-    assert_eq!(rt; draw_service(&endless, &mut words, 8), None);
-    Ok(())
 }
 
 // Two hosts that always have two commands out, over a device of one command at a time.

@@ -86,6 +86,35 @@ fn times_that_do_not_fit(rt: HostRuntime) {
     assert_eq!(rt; service.draw(&mut rng, 2), None);
 }
 
+// A service of this distribution, with 5 for each block.
+fn with_blocks(time: Distribution) -> Service {
+    Service { time, per_block: 5 }
+}
+
+#[test]
+fn services_have_a_longest_time(rt: HostRuntime) -> Result<(), Fail> {
+    let mean = Distribution::Exponential(Mean::new(10)?);
+    assert_eq!(rt; mean.longest(), 640);
+    let points = Distribution::TwoPoints(TwoPoints {
+        usual: 7,
+        rare: 90,
+        times: 1,
+        out_of: 20,
+    });
+    assert_eq!(rt; points.longest(), 90);
+    let table = Quantiles::new(vec![in rt.alloc(); 3, 4, 11]?)?;
+    let services = Services {
+        read: with_blocks(Distribution::Fixed(60)),
+        write: with_blocks(Distribution::Fixed(u64::MAX)),
+        flush: Distribution::Quantiles(table),
+    };
+    assert_eq!(rt; services.read.longest(8), 100);
+    assert_eq!(rt; services.longest(Operation::Read, 8), 100);
+    assert_eq!(rt; services.longest(Operation::Write, 8), u64::MAX);
+    assert_eq!(rt; services.longest(Operation::Flush, 8), 11);
+    Ok(())
+}
+
 // When the last of 10,000 commands comes, and how many come behind the first 1,000,000 picoseconds of a cycle of 5,000,000.
 fn last_of(arrivals: &Arrivals) -> Option<(u64, u64)> {
     let mut rng = stream(7, 0, Purpose::Arrivals);
