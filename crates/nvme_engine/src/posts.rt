@@ -4,7 +4,7 @@ use nvme_entry::Cqe;
 use nvme_log::Place;
 
 impl Engine {
-    ghost use Rattle.std.specs.Prelude.{◌≡◌, ℕ, ◌<◌, Bool, false, Some, None, IfSome, IsSome};
+    ghost use Rattle.std.specs.Prelude.{◌≡◌, ◌≢◌, ℕ, ◌<◌, Bool, true, false, Some, None, IfSome, IsSome};
     ghost use Rattle.nvme_entry.specs.declared.completion.Cqe.{Cqe};
     ghost use Rattle.nvme_log.specs.Rules.{FrontRules, cq_regions_of, slots_at};
     ghost use Rattle.nvme_log.specs.Queues.{open_cq};
@@ -15,7 +15,8 @@ impl Engine {
 
     /// Whether a completion is ready in any completion queue.
     pub fn has_ready(&self) -> bool
-        ensures { (rules : FrontRules) (late : Bool) (notes : Notes) (cqid x : ℕ) → StandsAt rules late notes self.now → open_cq (logged notes) cqid ≡ Some x → result ≡ false → AllPosted notes x }
+        ensures some { result ≡ true → (cqid : ℕ) × (next_cqe self.now cqid ≢ None) }
+        ensures none { (rules : FrontRules) (late : Bool) (notes : Notes) (cqid x : ℕ) → StandsAt rules late notes self.now → open_cq (logged notes) cqid ≡ Some x → result ≡ false → AllPosted notes x }
     {
         self.controller
             .next_to_post(self.slots.as_slice(), 0)

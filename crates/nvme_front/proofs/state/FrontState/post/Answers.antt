@@ -94,4 +94,4 @@ pub returns-then-not-has_ready-clause-drained : goal.returns-then-not-has_ready-
 returns-then-not-has_ready-clause-drained c =
     let s = c.args.self.now in
     let k = c.requires.consistent.running c.requires.admin in
-    all_drained s k (λ q x within is. all_posted_drains s k x (c.has_ready.ensures (rules_of s) s.late k.notes q x k.stands (ap (λ (p : Past). open_cq p q) k.past_is ∙ is) (search)))
+    all_drained s k (λ q x within is. all_posted_drains s k x (c.has_ready.ensures.none (rules_of s) s.late k.notes q x k.stands (ap (λ (p : Past). open_cq p q) k.past_is ∙ is) (search)))
