@@ -8,7 +8,7 @@ TO = $(DESTDIR)$(abspath $(PREFIX))
 PROGRAM =
 LIBRARY =
 # What lies below share/nvmearb in the order of this repository, so that most links of the documents hold.
-SHARED = README.md CHANGELOG.md SECURITY.md LICENSE docs examples capi/examples capi/rust capi/python
+SHARED = README.md CHANGELOG.md SECURITY.md LICENSE docs examples capi/nvmearb.h capi/examples capi/sim capi/rust capi/python
 
 all: ## prove and build the program, crates/nvmearb/out/nvmearb
 	$(if $(PROGRAM),,tools/build nvmearb)

@@ -4,7 +4,7 @@
  * at a time. A read takes 60 us of its die, a program 600 us. The device takes each command at once, so its channels are
  * as many as its depth, and how long a command runs is the time until its die has done it.
  *
- *   cc dies.c -lnvmearb_sim -lnvmearb && ./a.out
+ *   cc dies.c $(pkg-config --cflags --libs nvmearb_sim) && ./a.out
  */
 #include <inttypes.h>
 #include <stdio.h>

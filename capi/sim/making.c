@@ -1,5 +1,7 @@
 /* SPDX-License-Identifier: MIT */
 /* The making of a simulation. */
+#include <string.h>
+
 #include "sim.h"
 
 static int is_mean(uint64_t time)
@@ -99,10 +101,12 @@ static size_t behind(size_t *end, size_t bytes)
     return at;
 }
 
-/* Says where everything lies. Returns the bytes of all of it. */
-static size_t lay_out(nvmearb_sim *sim, const nvmearb_sim_config *config, const nvmearb_sim_queue *queues)
+/* Says where everything lies. Returns 0 where a field is out of its range. */
+int sim_lay_out(nvmearb_sim *sim, const nvmearb_sim_config *config, const nvmearb_sim_queue *queues)
 {
     size_t end = sizeof *sim;
+    if (!is_config(config, queues))
+        return 0;
     sim->slot_count = slot_count(config);
     sim->most_events = most_events(config, queues);
     sim->queues = behind(&end, config->queues * sizeof(queue));
@@ -111,7 +115,7 @@ static size_t lay_out(nvmearb_sim *sim, const nvmearb_sim_config *config, const 
     sim->events = behind(&end, sim->most_events * sizeof(event));
     sim->slots = behind(&end, sim->slot_count * sizeof(nvmearb_slot));
     sim->bytes = end;
-    return end;
+    return 1;
 }
 
 uint32_t nvmearb_sim_version(void)
@@ -121,8 +125,8 @@ uint32_t nvmearb_sim_version(void)
 
 size_t nvmearb_sim_bytes(const nvmearb_sim_config *config, const nvmearb_sim_queue *queues)
 {
-    nvmearb_sim laid_out;
-    return is_config(config, queues) ? lay_out(&laid_out, config, queues) : 0;
+    nvmearb_sim made;
+    return sim_lay_out(&made, config, queues) ? made.bytes : 0;
 }
 
 static uint32_t make_controller(nvmearb_sim *sim)
@@ -166,34 +170,35 @@ static uint32_t plan_pauses(nvmearb_sim *sim)
     return fault;
 }
 
+/* What is as the configuration says. */
+static void make_parts(nvmearb_sim *sim, const nvmearb_sim_config *config, const nvmearb_sim_queue *queues)
+{
+    memset(sim, 0, sim->bytes);
+    *sim = (nvmearb_sim){.mark = MARK, .config = *config, .free = NO_COMMAND, .starting = NO_CHANNEL};
+    sim->waiting = (list){NO_COMMAND, NO_COMMAND};
+    sim_lay_out(sim, config, queues);
+    for (uint32_t index = config->outstanding; index-- > 0;)
+        sim_release(sim, index);
+    for (uint32_t at = 0; at < config->channels; at++)
+        channel_of(sim, at)->runs = NO_COMMAND;
+    for (uint32_t qid = 1; qid <= config->queues; qid++)
+        make_queue(sim, &queues[qid - 1], qid);
+}
+
 uint32_t nvmearb_sim_init(nvmearb_sim *sim, size_t bytes, const nvmearb_sim_config *config,
                           const nvmearb_sim_queue *queues)
 {
     size_t needed = nvmearb_sim_bytes(config, queues);
-    if (needed == 0)
+    if (needed == 0 || (uintptr_t)sim % 16 != 0)
         return NVMEARB_EARG;
     if (bytes < needed)
         return NVMEARB_NOROOM;
-    *sim = (nvmearb_sim){.mark = MARK, .config = *config, .free = NO_COMMAND, .starting = NO_CHANNEL};
-    sim->waiting = (list){NO_COMMAND, NO_COMMAND};
-    lay_out(sim, config, queues);
-    for (uint32_t index = config->outstanding; index-- > 0;)
-        sim_release(sim, index);
-    for (uint32_t at = 0; at < config->channels; at++)
-        *channel_of(sim, at) = (channel){.runs = NO_COMMAND};
-    for (uint32_t qid = 1; qid <= config->queues; qid++)
-        make_queue(sim, &queues[qid - 1], qid);
+    sim->bytes = needed;
+    make_parts(sim, config, queues);
     uint32_t fault = make_controller(sim);
     if (fault == NVMEARB_OK)
         fault = sim_create_queues(sim);
     for (uint32_t qid = 1; qid <= config->queues && fault == NVMEARB_OK; qid++)
         fault = plan_queue(sim, qid);
     return fault == NVMEARB_OK ? plan_pauses(sim) : fault;
-}
-
-uint32_t nvmearb_sim_verify(const nvmearb_sim *sim, size_t bytes)
-{
-    if (bytes < sizeof *sim || sim->mark != MARK || sim->bytes != bytes)
-        return NVMEARB_ESTATE;
-    return nvmearb_ctrl_verify(&sim->ctrl, slots_of(sim), sim->slot_count);
 }

@@ -17,11 +17,11 @@
  *
  * Times are whole picoseconds. Everything is a function of the configuration, the queues, and what the calls say. No
  * call allocates, reads a clock or keeps a pointer. The caller sees to what the head of nvmearb.h says of pointers and
- * threads. A call returns NVMEARB_OK except where its comment says otherwise, and then has written nothing. It returns
- * NVMEARB_ESTATE first if `sim` isn't what nvmearb_sim_init of this version wrote.
+ * threads. A call returns NVMEARB_OK except where its comment says otherwise, and but for a step has written nothing
+ * then. It returns NVMEARB_ESTATE first if `sim` isn't what nvmearb_sim_init of this version wrote.
  *
- * A simulation holds no pointer. A copy of its bytes, at any multiple of 16, goes on with the same steps, also in
- * another process with a library of the same version.
+ * A simulation holds no pointer. A copy of its nvmearb_sim_bytes, at any multiple of 16, goes on with the same steps,
+ * also in another process with a library of the same version (nvmearb_sim_verify).
  */
 #ifndef NVMEARB_SIM_H
 #define NVMEARB_SIM_H
@@ -32,7 +32,7 @@
 extern "C" {
 #endif
 
-/* Results of a step beside those of nvmearb.h. After one of them the simulation is of no use. */
+/* Results of a step beside those of nvmearb.h. Each step after one of them returns the same. */
 #define NVMEARB_SIM_ELONG 16u   /* a time would be 2^64 picoseconds or more, which are 213 days */
 #define NVMEARB_SIM_EMANY 17u   /* more commands came and aren't done than `outstanding` allows */
 #define NVMEARB_SIM_EBROKEN 18u /* something happened that never does */
@@ -45,7 +45,7 @@ extern "C" {
 /* The greatest mean of exponential times: 3.3 days. */
 #define NVMEARB_SIM_MAX_MEAN 288230376151711743u
 
-/* How long a command runs. */
+/* How long a command runs: zeros are no time at all. */
 typedef struct nvmearb_sim_service {
     uint64_t time;
     uint64_t rare, one_in; /* of NVMEARB_SIM_TWO_POINTS */
@@ -60,7 +60,10 @@ typedef struct nvmearb_sim_service {
 #define NVMEARB_SIM_CLOSED 3u  /* `closed` at the start, 1 to 4096, and one by `gap` behind each completion */
 #define NVMEARB_SIM_GIVEN 4u   /* as nvmearb_sim_come says: nothing of them is drawn */
 
-/* A submission queue with a completion queue of its own, and its host. Fields that its arrivals don't need are ignored. */
+/*
+ * A submission queue with a completion queue of its own, and its host. NVMEARB_SIM_GIVEN needs `priority` and `slots` alone;
+ * else a service is looked at where its operation has a share.
+ */
 typedef struct nvmearb_sim_queue {
     uint64_t gap;
     uint64_t on, off;                  /* the phases of NVMEARB_SIM_BURSTS, on first: `on` above 0, both below 2^64 */
@@ -81,11 +84,11 @@ typedef struct nvmearb_sim_config {
     uint64_t pause_every;  /* in each such time a channel starts no command for `pause_length`, which is shorter; */
     uint64_t pause_length; /* both 0: never */
     uint64_t seed;         /* of all that is drawn */
-    uint64_t commands;     /* the most that come in all, 1 or more */
+    uint64_t commands;     /* the most that come in all, 1 or more: UINT64_MAX where it is for you to say */
     uint64_t until;        /* none comes at this time and later; 0: no such time */
     uint64_t warm_up;      /* how many of those that come first don't count */
     uint32_t mechanism;    /* NVMEARB_ROUND_ROBIN, NVMEARB_WEIGHTED */
-    uint32_t cdw11;        /* the Arbitration feature */
+    uint32_t cdw11;        /* Arbitration: burst 2^n in bits 2:0, weights less 1: low 15:8, medium 23:16, high 31:24 */
     uint32_t queues;       /* how many there are, 1 to NVMEARB_MAX_IO_QUEUES: queues 1, 2 and so on */
     uint32_t channels;     /* 1 to 4096, each of which runs a command at a time */
     uint32_t depth;        /* the most commands of the device, 1 to 256, those that run included */
@@ -99,7 +102,7 @@ typedef struct nvmearb_sim nvmearb_sim;
 typedef struct nvmearb_sim_command {
     uint64_t number;    /* how many commands of its queue came before it */
     uint64_t block;     /* its first block */
-    uint64_t service;   /* how long it runs, as drawn, given or set; 0 where its end was put off */
+    uint64_t service;   /* how long it runs, as drawn, given or set; where its end was put off 0 until that is known */
     uint64_t came, submitted, picked, started, done;
     uint32_t blocks;    /* 0 of a flush */
     uint32_t channel;   /* that on which it runs */
@@ -140,48 +143,63 @@ uint32_t nvmearb_sim_version(void);
 size_t nvmearb_sim_bytes(const nvmearb_sim_config *config, const nvmearb_sim_queue *queues);
 
 /*
- * Makes a simulation at time 0, whose queues are created and to which no command came. `sim` lies at a multiple of 16.
- * NVMEARB_EARG if a field is out of its range; otherwise NVMEARB_NOROOM if `bytes` is less than nvmearb_sim_bytes.
+ * Makes a simulation at time 0, whose queues are created and to which no command came.
+ * NVMEARB_EARG if a field is out of its range or `sim` isn't a multiple of 16; otherwise NVMEARB_NOROOM if `bytes` is
+ * less than nvmearb_sim_bytes.
  */
 uint32_t nvmearb_sim_init(nvmearb_sim *sim, size_t bytes, const nvmearb_sim_config *config,
                           const nvmearb_sim_queue *queues);
 
 /*
- * Tests what was restored: whether the `bytes` at `sim` are as many as the simulation takes, and its controller is one
- * (nvmearb_ctrl_verify). Not each mistake is found.
- * NVMEARB_ESTATE if they aren't.
+ * Tests what was restored: whether the `bytes` at `sim` are nvmearb_sim_bytes of its configuration, each number is in
+ * its range, each list ends, and the controller is one (nvmearb_ctrl_verify). What passes touches nothing else. But
+ * changed times and counts aren't found: restore what you saved, and keep a checksum with it.
+ * NVMEARB_ESTATE if not.
  */
 uint32_t nvmearb_sim_verify(const nvmearb_sim *sim, size_t bytes);
 
 /*
  * Goes on until something happens, and writes it. At one time things happen in the order in which they were planned.
- * For a loop with events of its own `until` is the time of the next one of these, and else UINT64_MAX.
- * NVMEARB_NONE if nothing happens up to `until`; otherwise NVMEARB_SIM_ELONG, NVMEARB_SIM_EMANY, NVMEARB_SIM_EBROKEN.
+ * For a loop with events of its own `until` is the time of the next one of these, included, and else UINT64_MAX. So at
+ * one time the simulation goes first.
+ * NVMEARB_NONE if nothing more happens up to `until`; otherwise NVMEARB_SIM_ELONG, NVMEARB_SIM_EMANY,
+ * NVMEARB_SIM_EBROKEN. `happening` isn't written then. Each of these is a step too: it ends the time for
+ * nvmearb_sim_serve.
  */
 uint32_t nvmearb_sim_step(nvmearb_sim *sim, uint64_t until, nvmearb_sim_happening *happening);
+
+/*
+ * Writes a time before which nothing happens, for a loop that has to know when to step next: that of the last happening
+ * where more may happen at it, else that of what comes next.
+ * NVMEARB_NONE if nothing is to come but what nvmearb_sim_come and nvmearb_sim_end will say.
+ */
+uint32_t nvmearb_sim_next(const nvmearb_sim *sim, uint64_t *time);
 
 /* What nvmearb_sim_serve sets where the end of a command isn't known when it starts. */
 #define NVMEARB_SIM_LATER UINT64_MAX
 
 /*
- * Sets how long the command runs that the last step started. With NVMEARB_SIM_LATER it runs until nvmearb_sim_end. A
- * device that takes each command at once has as many channels as its depth, and no stripe.
+ * Sets how long the command runs that the last step started. With NVMEARB_SIM_LATER it runs until nvmearb_sim_end, which
+ * is planned when that is called: set here what is known here, since of what happens at one time the order may matter.
+ * A device that takes each command at once has as many channels as its depth, and no stripe.
  * NVMEARB_NONE if the last step started none.
  */
 uint32_t nvmearb_sim_serve(nvmearb_sim *sim, uint64_t service);
 
 /*
  * The command on a channel, whose end was put off, ends at a time.
- * NVMEARB_NONE if there is no such command; otherwise NVMEARB_EARG if `at` is before the time of the last step.
+ * NVMEARB_NONE if there is no such command; otherwise NVMEARB_EARG if `at` is before the time of the last happening.
  */
 uint32_t nvmearb_sim_end(nvmearb_sim *sim, uint32_t channel, uint64_t at);
 
 /*
- * A command comes to a queue of NVMEARB_SIM_GIVEN at the time `came`, but beyond `commands` and `until`. Its `queue`,
- * `operation`, `block`, `blocks` and `service` are taken as well, and no other field.
- * NVMEARB_EARG if the queue is none of these, `came` is before the time of the last step or of the queue's last such
+ * A command comes to a queue of NVMEARB_SIM_GIVEN at the time `came`. Its `queue`, `operation`, `block`, `blocks` and
+ * `service` are taken as well, and no other field: NVMEARB_SIM_LATER is for nvmearb_sim_serve.
+ * NVMEARB_EARG if the queue is none of these, `came` is before the time of the last happening or of the queue's last such
  * command, the operation is none, or a read or write hasn't 1 to 65536 blocks within the namespace; otherwise
- * NVMEARB_NOROOM if `outstanding` commands came, or are to come by this call, and aren't done.
+ * NVMEARB_NONE if none may come at that time, or any more (`until`, `commands`); otherwise NVMEARB_NOROOM if
+ * `outstanding` commands came, or are to come by this call, and aren't done. Where `commands` have come before it, a
+ * command that was taken doesn't come.
  */
 uint32_t nvmearb_sim_come(nvmearb_sim *sim, const nvmearb_sim_command *command);
 
@@ -199,7 +217,8 @@ uint32_t nvmearb_sim_run(nvmearb_sim *sim, nvmearb_sim_command *commands, size_t
 uint32_t nvmearb_sim_numbers_of(const nvmearb_sim *sim, uint16_t qid, nvmearb_sim_numbers *numbers);
 
 /*
- * Writes how long a channel ran commands, those that run until their end.
+ * Writes how long a channel ran commands. That of one that runs counts whole, once it is known and the step behind its
+ * start was made.
  * NVMEARB_EARG if there is no such channel.
  */
 uint32_t nvmearb_sim_busy(const nvmearb_sim *sim, uint32_t channel, uint64_t *busy);

@@ -55,8 +55,10 @@ typedef struct queue {
 
 typedef struct channel {
     uint64_t busy;
-    uint32_t runs; /* the command that runs there */
+    uint64_t resumed; /* when its last pause ended */
+    uint32_t runs;    /* the command that runs there */
     uint16_t paused, put_off;
+    uint32_t rests;   /* whether no pause is planned, since nothing was to come */
 } channel;
 
 enum what { ARRIVAL, END, PAUSE, RESUME };
@@ -91,10 +93,14 @@ struct nvmearb_sim {
     uint32_t of;        /* TAKES: their queue; ENDS, RESUMES: the channel */
     uint32_t ended;     /* ENDS: the command */
     uint32_t starting;  /* the channel on which the last step started a command, whose end isn't planned */
+    uint32_t fault;     /* that of the last step, if it had one */
     uint16_t admin;     /* the slot of the admin queue that comes next */
     tally tally;
     nvmearb_ctrl ctrl;
 };
+
+/* Where the queues lie, before all else. */
+#define QUEUES ((sizeof(nvmearb_sim) + 15) & ~(size_t)15)
 
 static inline queue *queue_of(const nvmearb_sim *sim, uint32_t qid)
 {
@@ -135,6 +141,9 @@ uint32_t sim_take_first(nvmearb_sim *sim, list *of);
 uint32_t sim_take_behind(nvmearb_sim *sim, list *of, uint32_t before); /* the one behind this, or the first */
 uint32_t sim_plan(nvmearb_sim *sim, uint64_t at, enum what what, uint32_t of);
 event sim_pop(nvmearb_sim *sim);
+
+/* making.c */
+int sim_lay_out(nvmearb_sim *sim, const nvmearb_sim_config *config, const nvmearb_sim_queue *queues);
 
 /* hosts.c */
 uint32_t sim_create_queues(nvmearb_sim *sim);

@@ -59,6 +59,8 @@ static uint32_t arrive(nvmearb_sim *sim, uint16_t qid, nvmearb_sim_happening *to
     queue *it = queue_of(sim, qid);
     uint32_t index, fault;
     sim->phase = PICKS;
+    if (it->of.arrivals == NVMEARB_SIM_GIVEN && it->given.first == NO_COMMAND)
+        return NVMEARB_SIM_EBROKEN;
     if (!may_come(sim)) {
         if (it->of.arrivals == NVMEARB_SIM_GIVEN)
             sim_release(sim, sim_take_first(sim, &it->given));
@@ -82,6 +84,8 @@ static uint32_t arrive(nvmearb_sim *sim, uint16_t qid, nvmearb_sim_happening *to
 static uint32_t end(nvmearb_sim *sim, uint32_t at)
 {
     channel *it = channel_of(sim, at);
+    if (it->runs == NO_COMMAND)
+        return NVMEARB_SIM_EBROKEN;
     sim->ended = it->runs;
     it->runs = NO_COMMAND;
     it->put_off = 0;
@@ -134,9 +138,12 @@ static uint32_t go_on(nvmearb_sim *sim, uint32_t at)
 /* The next pause of the channel that goes on is planned, unless all is over. */
 static uint32_t resume(nvmearb_sim *sim, nvmearb_sim_happening *told)
 {
+    channel *it = channel_of(sim, sim->of);
     uint64_t next;
     sim->phase = PICKS;
-    if (sim->came != sim->done || (may_come(sim) && !is_at_end(sim))) {
+    it->resumed = sim->now;
+    it->rests = sim->came == sim->done && (!may_come(sim) || is_at_end(sim));
+    if (!it->rests) {
         if (__builtin_add_overflow(sim->now, sim->config.pause_every - sim->config.pause_length, &next))
             return NVMEARB_SIM_ELONG;
         uint32_t fault = sim_plan(sim, next, PAUSE, sim->of);
@@ -144,6 +151,21 @@ static uint32_t resume(nvmearb_sim *sim, nvmearb_sim_happening *told)
             return fault;
     }
     return tell(sim, told, NVMEARB_SIM_RESUMED, sim->of);
+}
+
+/* The pauses of a channel go on as if they had never ended. */
+static uint32_t plan_pause_again(nvmearb_sim *sim, uint32_t at)
+{
+    channel *it = channel_of(sim, at);
+    uint64_t next, until;
+    if (!it->rests)
+        return NVMEARB_OK;
+    it->rests = 0;
+    if (__builtin_add_overflow(it->resumed, sim->config.pause_every, &until))
+        return NVMEARB_SIM_ELONG;
+    next = until - sim->config.pause_length;
+    it->paused = next < sim->now;
+    return it->paused ? sim_plan(sim, until, RESUME, at) : sim_plan(sim, next, PAUSE, at);
 }
 
 /* The next event comes, if it comes up to this time. */
@@ -224,10 +246,9 @@ static uint32_t go(nvmearb_sim *sim, uint64_t until, nvmearb_sim_happening *told
     }
 }
 
-uint32_t nvmearb_sim_step(nvmearb_sim *sim, uint64_t until, nvmearb_sim_happening *told)
+/* Goes on until something is to be told, or nothing more happens. */
+static uint32_t step(nvmearb_sim *sim, uint64_t until, nvmearb_sim_happening *told)
 {
-    if (sim->mark != MARK)
-        return NVMEARB_ESTATE;
     uint32_t result = sim->starting == NO_CHANNEL ? NVMEARB_OK : sim_plan_end(sim);
     if (result != NVMEARB_OK)
         return result;
@@ -237,6 +258,37 @@ uint32_t nvmearb_sim_step(nvmearb_sim *sim, uint64_t until, nvmearb_sim_happenin
             return tell_command(sim, told, NVMEARB_SIM_STARTED, channel_of(sim, sim->starting)->runs);
     } while (result == GO_ON);
     return result;
+}
+
+uint32_t nvmearb_sim_step(nvmearb_sim *sim, uint64_t until, nvmearb_sim_happening *happening)
+{
+    nvmearb_sim_happening told;
+    if (sim->mark != MARK)
+        return NVMEARB_ESTATE;
+    if (sim->fault != NVMEARB_OK)
+        return sim->fault;
+    if (until < sim->now)
+        return NVMEARB_NONE;
+    uint32_t result = step(sim, until, &told);
+    if (result == NVMEARB_OK)
+        *happening = told;
+    else if (result != NVMEARB_NONE)
+        sim->fault = result;
+    return result;
+}
+
+uint32_t nvmearb_sim_next(const nvmearb_sim *sim, uint64_t *time)
+{
+    if (sim->mark != MARK)
+        return NVMEARB_ESTATE;
+    if (sim->phase != EVENTS || sim->starting != NO_CHANNEL) {
+        *time = sim->now;
+        return NVMEARB_OK;
+    }
+    if (sim->event_count == 0)
+        return NVMEARB_NONE;
+    *time = events_of(sim)[0].at;
+    return NVMEARB_OK;
 }
 
 uint32_t nvmearb_sim_serve(nvmearb_sim *sim, uint64_t service)
@@ -287,15 +339,9 @@ static int is_given(const nvmearb_sim *sim, const nvmearb_sim_command *it)
     return (it->operation == NVMEARB_OPC_READ || it->operation == NVMEARB_OPC_WRITE) && is_within(sim, it);
 }
 
-uint32_t nvmearb_sim_come(nvmearb_sim *sim, const nvmearb_sim_command *given)
+/* A command that is to come, as it was given. */
+static void keep(nvmearb_sim *sim, uint32_t index, const nvmearb_sim_command *given)
 {
-    if (sim->mark != MARK)
-        return NVMEARB_ESTATE;
-    if (!is_given(sim, given))
-        return NVMEARB_EARG;
-    uint32_t index = sim_allot(sim);
-    if (index == NO_COMMAND)
-        return NVMEARB_NOROOM;
     int flush = given->operation == NVMEARB_OPC_FLUSH;
     queue *to = queue_of(sim, given->queue);
     command_of(sim, index)->stage = GIVEN;
@@ -306,7 +352,24 @@ uint32_t nvmearb_sim_come(nvmearb_sim *sim, const nvmearb_sim_command *given)
                                                          .service = given->service};
     sim_append(sim, &to->given, index);
     to->last_given = given->came;
-    return sim_plan(sim, given->came, ARRIVAL, given->queue);
+}
+
+uint32_t nvmearb_sim_come(nvmearb_sim *sim, const nvmearb_sim_command *given)
+{
+    uint32_t index, fault;
+    if (sim->mark != MARK)
+        return NVMEARB_ESTATE;
+    if (!is_given(sim, given))
+        return NVMEARB_EARG;
+    if ((sim->config.until != 0 && given->came >= sim->config.until) || sim->came >= sim->config.commands)
+        return NVMEARB_NONE;
+    if ((index = sim_allot(sim)) == NO_COMMAND)
+        return NVMEARB_NOROOM;
+    keep(sim, index, given);
+    fault = sim_plan(sim, given->came, ARRIVAL, given->queue);
+    for (uint32_t at = 0; at < sim->config.channels && fault == NVMEARB_OK; at++)
+        fault = plan_pause_again(sim, at);
+    return fault;
 }
 
 uint32_t nvmearb_sim_run(nvmearb_sim *sim, nvmearb_sim_command *commands, size_t count, size_t *n)

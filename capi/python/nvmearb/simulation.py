@@ -183,7 +183,8 @@ class Model(NamedTuple):
 
 
 class Command(NamedTuple):
-    """A command. Times to which it hasn't come are 0; `service` is how long it runs, 0 where its end was put off."""
+    """A command. Times to which it hasn't come are 0. `service` is how long it runs: where its end was put off 0 until that
+    is known."""
 
     queue: int
     number: int
@@ -267,17 +268,25 @@ def simulations() -> ctypes.CDLL:
     return loaded
 
 
+class Failed(Refused):
+    """A simulation that can't go on. `done` are the commands that the call had already."""
+
+    def __init__(self, code: int) -> None:
+        super().__init__(code)
+        self.args = (FAULTS[code],)
+        self.done: list[Command] = []
+
+
 def checked(code: int) -> None:
     if code in FAULTS:
-        refused = Refused(code)
-        refused.args = (FAULTS[code],)
-        raise refused
+        raise Failed(code)
     if code != OK:
         raise Refused(code)
 
 
 def service_of(it: Service) -> ServiceFields:
     in_range(64, time=it.time, rare=it.rare, one_in=it.one_in, per_block=it.per_block)
+    in_range(32, spread=it.spread)
     return ServiceFields(*it)
 
 
@@ -285,8 +294,8 @@ def queue_of(it: Queue) -> QueueFields:
     when = it.arrivals
     reads, writes, flushes = it.mix
     in_range(64, gap=when.gap, on=when.on, off=when.off)
-    in_range(32, closed=when.closed, reads=reads, writes=writes, flushes=flushes, blocks=it.blocks)
-    in_range(16, slots=it.slots)
+    in_range(32, arrivals=when.kind, closed=when.closed, reads=reads, writes=writes, flushes=flushes, blocks=it.blocks)
+    in_range(16, slots=it.slots, priority=it.priority)
     return QueueFields(
         when.gap, when.on, when.off, when.kind, when.closed, it.priority, it.slots, *it.mix, it.blocks, it.sequential,
         service_of(it.read), service_of(it.write), service_of(it.flush),
@@ -297,7 +306,7 @@ def config_of(it: Model) -> ConfigFields:
     depth = min(it.channels, 256) if it.depth is None else it.depth
     in_range(64, stripe=it.stripe, size=it.size, pause_every=it.pause_every, pause_length=it.pause_length, seed=it.seed)
     in_range(64, commands=it.commands, until=it.until, warm_up=it.warm_up)
-    in_range(32, cdw11=it.cdw11, channels=it.channels, depth=depth, outstanding=it.outstanding)
+    in_range(32, mechanism=it.mechanism, cdw11=it.cdw11, channels=it.channels, depth=depth, outstanding=it.outstanding)
     return ConfigFields(
         it.stripe, it.size, it.pause_every, it.pause_length, it.seed, it.commands, it.until, it.warm_up, it.mechanism,
         it.cdw11, len(it.queues), it.channels, depth, it.outstanding,
@@ -334,7 +343,7 @@ class Simulation:
     def restored(cls, saved: bytes) -> Simulation:
         """The simulation whose bytes `save` gave, from there on."""
         it = cls.__new__(cls)
-        it._place(saved)
+        it._place(bytes(saved))
         checked(it._call("verify", c_size_t(len(saved))))
         return it
 
@@ -352,6 +361,15 @@ class Simulation:
         checked(code)
         return happening_of(told)
 
+    def next(self) -> Optional[int]:
+        """A time before which nothing happens, or None where nothing is to come but by `come` and `end`."""
+        time = c_uint64()
+        code = self._call("next", byref(time))
+        if code == NONE:
+            return None
+        checked(code)
+        return time.value
+
     def serve(self, service: int = LATER) -> None:
         """Sets how long the command runs that the last step started. Without a service it runs until `end`."""
         in_range(64, service=service)
@@ -363,21 +381,27 @@ class Simulation:
         checked(self._call("end", u32(channel=channel), c_uint64(at)))
 
     def come(self, queue: int, at: int, operation: Operation = Operation.READ, block: int = 0, blocks: int = 8, service: int = 0) -> None:
-        """A command comes to a queue of GIVEN arrivals."""
+        """A command comes to a queue of GIVEN arrivals. Refused where none may come any more."""
         in_range(64, at=at, block=block, service=service)
         in_range(32, blocks=blocks)
-        in_range(16, queue=queue)
+        in_range(16, queue=queue, operation=operation)
         given = CommandFields(came=at, operation=operation, block=block, blocks=blocks, service=service, queue=queue)
         checked(self._call("come", byref(given)))
 
     def run(self, count: int = FOREVER) -> list[Command]:
-        """Steps until so many commands that count were done, or nothing more happens. These are the answer."""
+        """Steps until so many commands that count were done, or nothing more happens. These are the answer, or those of
+        `Failed` that were done before."""
         done: list[Command] = []
         while len(done) < count:
             wanted = min(count - len(done), 4096)
             commands, n = (CommandFields * wanted)(), c_size_t()
-            checked(self._call("run", commands, c_size_t(wanted), byref(n)))
+            code = self._call("run", commands, c_size_t(wanted), byref(n))
             done += [command_of(it) for it in commands[:n.value]]
+            if code in FAULTS:
+                failed = Failed(code)
+                failed.done = done
+                raise failed
+            checked(code)
             if n.value < wanted:
                 break
         return done
