@@ -1,10 +1,9 @@
 // The picture of a sweep: latencies over the values of its last key.
-use crate::estimates::Estimate;
-use crate::lines::{Line, Spot};
+use crate::lines::{Line, Spot, has_lines_of_classes};
 use crate::positions::{Position, Positions};
-use crate::sweep::Sweep;
 use nvme_arbiter::Class;
 use nvme_plot::{Axis, Bar, Curve, Entry, Grouped, Legend, Mark, Micros, Panel, Picture, Point};
+use nvme_points::{Estimate, Sweep};
 use nvme_simulate::Origin;
 use nvme_version::VERSION;
 use std::alloc::{AllocError, Global};
@@ -231,7 +230,7 @@ fn whose_of(sweep: &Sweep) -> &'static str {
         Some(Class::High) => "the class high",
         Some(Class::Medium) => "the class medium",
         Some(Class::Low) => "the class low",
-        None if sweep.has_lines_of_classes() => "each class",
+        None if has_lines_of_classes(sweep) => "each class",
         None => "all queues together",
     }
 }

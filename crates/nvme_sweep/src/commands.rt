@@ -1,6 +1,5 @@
 // A command line for each point of a sweep.
-use crate::fault::SweepFault;
-use crate::sweep::Sweep;
+use nvme_points::{Sweep, SweepFault};
 use std::alloc::Global;
 use std::io::{self, Write};
 
@@ -95,22 +94,20 @@ fn put_command<W: Write>(
     writer.write_all(b"\n")
 }
 
-impl<'a> Sweep<'a> {
-    /// Writes a command line for each point, for a shell. What they write, one behind the other, is the answer of the sweep as
-    /// text or as comma-separated values.
-    pub fn put_commands<W: Write>(
-        &self,
-        alloc: Global,
-        words: &CommandWords,
-        writer: &mut W,
-    ) -> Result<(), SweepFault<'a>> {
-        for number in 0..self.points(alloc)? {
-            let values = self.values_at(alloc, number)?;
-            let has_head = words.has_head && number == 0;
-            if put_command(self, words, &values, has_head, writer).is_err() {
-                return Err(SweepFault::Write);
-            }
+/// Writes a command line for each point, for a shell. What they write, one behind the other, is the answer of the sweep as
+/// text or as comma-separated values.
+pub fn put_commands<'a, W: Write>(
+    alloc: Global,
+    sweep: &Sweep<'a>,
+    words: &CommandWords,
+    writer: &mut W,
+) -> Result<(), SweepFault<'a>> {
+    for number in 0..sweep.points(alloc)? {
+        let values = sweep.values_at(alloc, number)?;
+        let has_head = words.has_head && number == 0;
+        if put_command(sweep, words, &values, has_head, writer).is_err() {
+            return Err(SweepFault::Write);
         }
-        Ok(())
     }
+    Ok(())
 }

@@ -1,8 +1,6 @@
 // Makes runs on several threads.
-use crate::fault::{SweepFault, add};
-use crate::rows::Run;
-use crate::sweep::Sweep;
 use crate::tally::Tally;
+use nvme_points::{Run, Sweep, SweepFault, add};
 use std::alloc::{AllocError, Global};
 use std::io::Write;
 use std::sync::atomic::{AtomicBool, AtomicUsize, Ordering};

@@ -1,32 +1,18 @@
-//! Sweeps: a simulation at each combination of values of keys of its file and of its load, with several seeds, on several
-//! threads, and what is told of them.
+//! How a sweep is run, on several threads, and told: its answer as text, JSON or comma-separated values, its picture, and a
+//! command line for each point.
 #![tactic(auto)]
 
 mod answer;
-mod axis;
 mod chart;
 mod commands;
 mod crew;
-mod estimates;
-mod fault;
-pub mod laws;
 mod lines;
 mod object;
-mod place;
-mod points;
 mod positions;
-mod rows;
 mod sheet;
-mod sweep;
 mod table;
 mod tally;
 
-pub use answer::Style;
-pub use axis::{Axis, MAX_POINTS, axes_of};
-pub use commands::CommandWords;
-pub use estimates::{Estimate, estimate_of, half_width, mean};
-pub use fault::SweepFault;
-pub use lines::drawn_class;
-pub use points::{choices_at, points_of};
-pub use rows::{Scope, SweepRow};
-pub use sweep::{Overloads, Point, Sweep};
+pub use answer::{Style, put_answer};
+pub use commands::{CommandWords, put_commands};
+pub use lines::{drawn_class, look_at_lines};

@@ -1,11 +1,8 @@
 // The lines of a picture of a sweep: what stands at the values of its last key.
-use crate::estimates::Estimate;
-use crate::fault::{SweepFault, add};
-use crate::rows::{COUNT, MEAN, P99, Scope, SweepRow};
-use crate::sweep::{Point, Sweep};
 use nvme_arbiter::Class;
 use nvme_numbers::class_name;
 use nvme_plot::LINES;
+use nvme_points::{COUNT, Estimate, MEAN, P99, Point, Scope, Sweep, SweepFault, SweepRow, add};
 use nvme_simulate::style_of;
 use std::alloc::{AllocError, Global};
 
@@ -94,93 +91,90 @@ fn numbers_of(rows: &[SweepRow], scope: Scope) -> Option<&[Estimate; COUNT]> {
     None
 }
 
-impl<'a> Sweep<'a> {
-    // How many values the last key has, 1 where there is no key.
-    fn last_values(&self) -> usize {
-        match self.axes.last() {
-            Some(axis) => axis.values.len().max(1),
-            None => 1,
+// How many values the last key has, 1 where there is no key.
+fn last_values(sweep: &Sweep) -> usize {
+    match sweep.axes.last() {
+        Some(axis) => axis.values.len().max(1),
+        None => 1,
+    }
+}
+
+/// Whether a picture of a sweep tells its lines apart: with several keys, one for each combination of those before the last one.
+pub fn look_at_lines<'a>(alloc: Global, sweep: &Sweep<'a>) -> Result<(), SweepFault<'a>> {
+    let lines = sweep.points(alloc)? / last_values(sweep).max(1);
+    if lines > LINES {
+        return Err(SweepFault::TooManyLines(lines));
+    }
+    Ok(())
+}
+
+// Adds the classes of a point to their lines.
+fn note_classes(
+    alloc: Global,
+    lines: &mut Vec<Line>,
+    place: usize,
+    point: &Point,
+) -> Result<(), AllocError> {
+    for row in &point.rows {
+        if let Scope::Class(class) = row.scope {
+            note_class(alloc, lines, place, class, &row.numbers)?;
         }
     }
+    Ok(())
+}
 
-    /// Whether a picture of it tells its lines apart: with several keys, one for each combination of those before the last one.
-    pub fn look_at_lines(&self, alloc: Global) -> Result<(), SweepFault<'a>> {
-        let lines = self.points(alloc)? / self.last_values().max(1);
-        if lines > LINES {
-            return Err(SweepFault::TooManyLines(lines));
-        }
-        Ok(())
+/// Whether a picture has a line for each class, and not one for each combination of the keys before the last one.
+pub(crate) fn has_lines_of_classes(sweep: &Sweep) -> bool {
+    sweep.axes.len() < 2 && sweep.drawn.is_none()
+}
+
+// The name of a line for these values of the keys before the last one. Without such a key it is the class that is drawn.
+fn line_name(alloc: Global, sweep: &Sweep, before: &[&str]) -> Result<String, AllocError> {
+    match sweep.drawn {
+        Some(class) if before.is_empty() => String::from_str(alloc, class_name(class)),
+        _ => sweep.name_of(alloc, before),
     }
+}
 
-    // Adds the classes of a point to their lines.
-    fn note_classes(
-        &self,
-        alloc: Global,
-        lines: &mut Vec<Line>,
-        place: usize,
-        point: &Point,
-    ) -> Result<(), AllocError> {
-        for row in &point.rows {
-            if let Scope::Class(class) = row.scope {
-                note_class(alloc, lines, place, class, &row.numbers)?;
-            }
-        }
-        Ok(())
+// Adds a point to the line of its combination, which begins with the first value of the last key.
+fn note_combination(
+    alloc: Global,
+    sweep: &Sweep,
+    lines: &mut Vec<Line>,
+    place: usize,
+    point: &Point,
+) -> Result<(), AllocError> {
+    if place == 0 {
+        let keys = point.values.len().saturating_sub(1);
+        let before = point.values.get(..keys).unwrap_or(&[]);
+        let name = line_name(alloc, sweep, before)?;
+        let style = lines.len();
+        add(lines, Line::new(alloc, name, style))?;
     }
-
-    /// Whether a picture has a line for each class, and not one for each combination of the keys before the last one.
-    pub(crate) fn has_lines_of_classes(&self) -> bool {
-        self.axes.len() < 2 && self.drawn.is_none()
+    let scope = match sweep.drawn {
+        Some(class) => Scope::Class(class),
+        None => Scope::All,
+    };
+    if let Some(numbers) = numbers_of(&point.rows, scope)
+        && let Some(line) = lines.last_mut()
+    {
+        line.note(place, numbers)?;
     }
+    Ok(())
+}
 
-    // The name of a line for these values of the keys before the last one. Without such a key it is the class that is drawn.
-    fn line_name(&self, alloc: Global, before: &[&str]) -> Result<String, AllocError> {
-        match self.drawn {
-            Some(class) if before.is_empty() => String::from_str(alloc, class_name(class)),
-            _ => self.name_of(alloc, before),
-        }
-    }
-
-    // Adds a point to the line of its combination, which begins with the first value of the last key.
-    fn note_combination(
-        &self,
-        alloc: Global,
-        lines: &mut Vec<Line>,
-        place: usize,
-        point: &Point,
-    ) -> Result<(), AllocError> {
-        if place == 0 {
-            let keys = point.values.len().saturating_sub(1);
-            let before = point.values.get(..keys).unwrap_or(&[]);
-            let name = self.line_name(alloc, before)?;
-            let style = lines.len();
-            add(lines, Line::new(alloc, name, style))?;
-        }
-        let scope = match self.drawn {
-            Some(class) => Scope::Class(class),
-            None => Scope::All,
-        };
-        if let Some(numbers) = numbers_of(&point.rows, scope)
-            && let Some(line) = lines.last_mut()
-        {
-            line.note(place, numbers)?;
-        }
-        Ok(())
-    }
-
-    /// Adds a point of this number to the lines. Points come in their order.
-    pub(crate) fn note(
-        &self,
-        alloc: Global,
-        lines: &mut Vec<Line>,
-        number: usize,
-        point: &Point,
-    ) -> Result<(), AllocError> {
-        let place = number % self.last_values().max(1);
-        if self.has_lines_of_classes() {
-            self.note_classes(alloc, lines, place, point)
-        } else {
-            self.note_combination(alloc, lines, place, point)
-        }
+/// Adds a point of this number to the lines. Points come in their order.
+pub(crate) fn note_point(
+    alloc: Global,
+    sweep: &Sweep,
+    lines: &mut Vec<Line>,
+    number: usize,
+    point: &Point,
+) -> Result<(), AllocError> {
+    let place = number % last_values(sweep).max(1);
+    if has_lines_of_classes(sweep) {
+        note_classes(alloc, lines, place, point)
+    } else {
+        note_combination(alloc, sweep, lines, place, point)
     }
 }

@@ -1,7 +1,6 @@
 // The answer of a sweep as JSON.
-use crate::rows::{NAMES, Scope, SweepRow};
-use crate::sweep::{Point, Sweep};
 use nvme_numbers::class_name;
+use nvme_points::{NAMES, Point, Scope, Sweep, SweepRow};
 use nvme_simulate::Origin;
 use nvme_version::VERSION;
 use std::io::{self, Write};

@@ -1,6 +1,6 @@
 // Where the values of the last key of a sweep stand on their axis.
-use crate::axis::Axis as Key;
 use nvme_plot::{Axis, HUNDREDTHS, Written, span_of};
+use nvme_points::Axis as Key;
 use std::alloc::{AllocError, Global};
 
 // How many digits behind the point a value on a numeric axis has at most: such a value stands at its millionths.

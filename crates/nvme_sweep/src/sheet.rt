@@ -1,8 +1,6 @@
 // The answer of a sweep as comma-separated values.
-use crate::estimates::Estimate;
-use crate::rows::{NAMES, Scope, SweepRow};
-use crate::sweep::{Point, Sweep};
 use nvme_numbers::class_name;
+use nvme_points::{Estimate, NAMES, Point, Scope, Sweep, SweepRow};
 use nvme_version::VERSION;
 use std::io::{self, Write};
 

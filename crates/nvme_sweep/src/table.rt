@@ -1,8 +1,6 @@
 // The answer of a sweep as a table for people.
-use crate::estimates::Estimate;
-use crate::rows::{Scope, SweepRow};
-use crate::sweep::{Point, Sweep};
 use nvme_numbers::class_name;
+use nvme_points::{Estimate, Point, Scope, Sweep, SweepRow};
 use std::io::{self, Write};
 
 // How many characters a column of values has at least.

@@ -5,9 +5,10 @@ use crate::files::Answers;
 use crate::kept::Kept;
 use crate::simulating::form_of;
 use crate::telling::{no_memory, unwritten};
+use nvme_points::{Overloads, Sweep, SweepFault, axes_of};
 use nvme_program::{MAX_JOBS, SimulationWords};
 use nvme_simulate::{Listings, Origin, Overrides};
-use nvme_sweep::{CommandWords, Overloads, Style, Sweep, SweepFault, axes_of, drawn_class};
+use nvme_sweep::{CommandWords, Style, drawn_class, look_at_lines, put_answer, put_commands};
 use std::io::Write;
 use std::thread::{Threads, available_parallelism};
 
@@ -81,7 +82,7 @@ fn ran<'a, R: AllocGlobal + Threads + Sync, P: Write + Drop + Send, W: Write>(
     chart: &mut Option<Kept>,
 ) -> Result<(), SweepFault<'a>> {
     if line.points {
-        return sweep.put_commands(rt.alloc(), &command_words(line), output);
+        return put_commands(rt.alloc(), sweep, &command_words(line), output);
     }
     let style = Style {
         form: form_of(line.format),
@@ -89,7 +90,7 @@ fn ran<'a, R: AllocGlobal + Threads + Sync, P: Write + Drop + Send, W: Write>(
         origin,
         jobs: jobs_of(rt, line.jobs),
     };
-    sweep.answer(rt, rt.alloc(), &style, terminal, output, chart)
+    put_answer(rt, rt.alloc(), sweep, &style, terminal, output, chart)
 }
 
 // Notes at which points more commands come than the device can run.
@@ -132,7 +133,7 @@ fn sweep_of<'a, R: AllocGlobal>(
         drawn: drawn_class(line.class)?,
     };
     if line.chart.is_some() {
-        sweep.look_at_lines(rt.alloc())?;
+        look_at_lines(rt.alloc(), &sweep)?;
     }
     let overloads = sweep.look(rt.alloc())?;
     Ok((sweep, overloads))

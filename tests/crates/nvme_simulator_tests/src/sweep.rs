@@ -1,6 +1,7 @@
 // Means and widths are worked out by hand, with quantiles of a printed table of Student's t.
+use nvme_points::{Estimate, Sweep, SweepFault, axes_of, estimate_of};
 use nvme_simulate::{Digest, Form, Listings, Origin, Overrides, Source, sources_in};
-use nvme_sweep::{CommandWords, Estimate, Style, Sweep, SweepFault, axes_of, estimate_of};
+use nvme_sweep::{CommandWords, Style, look_at_lines, put_answer, put_commands};
 use std::alloc::Global;
 use std::process::Abort;
 use std::test::Fail;
@@ -85,7 +86,7 @@ fn the_last_key_is_the_fastest(rt: HostRuntime) -> Result<(), Fail> {
         has_head: true,
     };
     let mut lines = Vec::new(rt.alloc());
-    assert!(rt; sweep.put_commands(rt.alloc(), &words, &mut lines).is_ok());
+    assert!(rt; put_commands(rt.alloc(), &sweep, &words, &mut lines).is_ok());
     assert_eq!(rt;
         lines.as_slice(),
         b"nvmearb simulate 'a b.toml' --sweep weights=8:4:2 --sweep load=0.50 --seed 7 --jobs 2 --format csv
@@ -178,7 +179,15 @@ fn answer_on<R: AllocGlobal + Threads + Sync + Abort>(
     let (mut answer, mut svg) = (Vec::new(rt.alloc()), Vec::new(rt.alloc()));
     let mut chart = Some(&mut svg);
     let terminal = None::<Vec<u8>>;
-    let done = sweep.answer(rt, rt.alloc(), &style, terminal, &mut answer, &mut chart);
+    let done = put_answer(
+        rt,
+        rt.alloc(),
+        sweep,
+        &style,
+        terminal,
+        &mut answer,
+        &mut chart,
+    );
     assert!(rt; done.is_ok());
     answer.extend_from_slice(svg.as_slice())?;
     Ok(answer)
@@ -208,14 +217,14 @@ fn eight_lines_are_told_apart(rt: HostRuntime) -> Result<(), Fail> {
     let Ok(sweep) = sweep_of(alloc, &eight) else {
         return Err(Fail::new("refused"));
     };
-    assert!(rt; sweep.look_at_lines(alloc).is_ok());
+    assert!(rt; look_at_lines(alloc, &sweep).is_ok());
     let Ok(sweep) = sweep_of(
         alloc,
         &["device.channels=1,2,3", "burst=1,2,4", "device.depth=4"],
     ) else {
         return Err(Fail::new("refused"));
     };
-    let Err(fault) = sweep.look_at_lines(alloc) else {
+    let Err(fault) = look_at_lines(alloc, &sweep) else {
         return Err(Fail::new("nine lines"));
     };
     assert_eq!(rt;
@@ -240,7 +249,15 @@ fn a_sweep_is_drawn(rt: HostRuntime) -> Result<(), Fail> {
     let (mut output, mut svg) = (Vec::new(rt.alloc()), Vec::new(rt.alloc()));
     let mut chart = Some(&mut svg);
     let (alloc, terminal) = (rt.alloc(), None::<Vec<u8>>);
-    let done = sweep.answer(&rt, alloc, &style, terminal, &mut output, &mut chart);
+    let done = put_answer(
+        &rt,
+        alloc,
+        &sweep,
+        &style,
+        terminal,
+        &mut output,
+        &mut chart,
+    );
     assert!(rt; done.is_ok());
     let text = std::str::from_utf8(svg.as_slice()).unwrap_or("");
     for part in [
@@ -338,9 +355,10 @@ fn runs_are_counted_on_a_terminal(rt: HostRuntime) -> Result<(), Fail> {
     };
     let (mut terminal, mut answer) = (Vec::new(rt.alloc()), Vec::new(rt.alloc()));
     let shown = Some(&mut terminal);
-    let done = sweep.answer(
+    let done = put_answer(
         &rt,
         rt.alloc(),
+        &sweep,
         &style,
         shown,
         &mut answer,

@@ -1,6 +1,6 @@
 use Rattle.std.proofs.Common.{◌≡◌, ◌++◌, drop}
-use Rattle.nvme_sweep.specs.Points.{choices_of, count_of}
-use Rattle.nvme_sweep.proofs.points.choices_at.Given as goal
+use Rattle.nvme_points.specs.Points.{choices_of, count_of}
+use Rattle.nvme_points.proofs.points.choices_at.Given as goal
 
 -- the choices so far, and those of what is left, are those of the point. Where none is left, there is none
 abbrev pub invariant-loop-length : goal.invariant-loop-length

@@ -1,6 +1,6 @@
 // Means over seeds, and how far they may be off.
 ghost use Rattle.std.specs.Prelude.{◌≡◌, ◌<◌, ◌⊎◌, IfNone, IfSome, length, sum};
-ghost use Rattle.nvme_sweep.specs.Estimates.{IsEstimate, IsHalfWidth, IsInterval, IsMean, IsQuantile, IsTooLarge, IsTooWide, LacksInterval, LacksMean, differences_from, pair_differences};
+ghost use Rattle.nvme_points.specs.Estimates.{IsEstimate, IsHalfWidth, IsInterval, IsMean, IsQuantile, IsTooLarge, IsTooWide, LacksInterval, LacksMean, differences_from, pair_differences};
 
 // The 97.5 % quantiles of Student's t in thousandths, of 1, 2 and so on degrees of freedom.
 const QUANTILES: [u128; 100] = [

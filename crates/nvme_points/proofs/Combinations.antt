@@ -3,7 +3,7 @@ use Rattle.std.proofs.Common.{◌≡◌, ◌<◌, ◌≤◌, ℕ, zero, suc, ◌
 use Rattle.std.proofs.Math.Nat.{div-lt_iff_lt-mul, mod-lt, mul_assoc, mul_comm}
 use Rattle.std.proofs.lemmas.List.{drop_more}
 use Rattle.std.proofs.lemmas.Nat.{div-add-mod', div-mul-add, mod-mul-add, row_fits}
-use Rattle.nvme_sweep.specs.Points.{AreAll, IsChoice, choices_of, count_of, place_of}
+use Rattle.nvme_points.specs.Points.{AreAll, IsChoice, choices_of, count_of, place_of}
 
 positive : (c n k : ℕ) → k < c * n → 0 < n
 positive c zero k l = omega (arith, l)

@@ -1,6 +1,6 @@
 // The points of a sweep.
 ghost use Rattle.std.specs.Prelude.{◌≡◌, ◌≤◌, ◌⊎◌, IfNone, IfOk, IfSome};
-ghost use Rattle.nvme_sweep.specs.Points.{choices_of, count_of};
+ghost use Rattle.nvme_points.specs.Points.{choices_of, count_of};
 
 use std::alloc::{AllocError, Global};
 

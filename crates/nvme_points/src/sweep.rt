@@ -76,8 +76,8 @@ impl<'a> Sweep<'a> {
         Ok(points_of(&lengths_of(alloc, &self.axes)?).unwrap_or(0))
     }
 
-    // How many runs each point has.
-    pub(crate) fn runs_of_each(&self) -> usize
+    /// How many runs each point has, at least one.
+    pub fn runs_of_each(&self) -> usize
         ensures { 0 < result }
     {
         (self.seeds as usize).max(1)
@@ -98,7 +98,7 @@ impl<'a> Sweep<'a> {
     }
 
     /// The name of a point: its keys and values, or the first of them.
-    pub(crate) fn name_of(&self, alloc: Global, values: &[&str]) -> Result<String, AllocError> {
+    pub fn name_of(&self, alloc: Global, values: &[&str]) -> Result<String, AllocError> {
         let mut name = String::new(alloc);
         for (axis, value) in self.axes.iter().zip(values) {
             if !name.is_empty() {
@@ -233,8 +233,8 @@ impl<'a> Sweep<'a> {
         }
     }
 
-    // Runs a point with the seed of this number, from 0 on. A terminal is told how far the run is.
-    pub(crate) fn run<P: Write + Drop>(
+    /// Runs a point with the seed of this number, from 0 on. A terminal is told how far the run is.
+    pub fn run<P: Write + Drop>(
         &self,
         alloc: Global,
         point: usize,
@@ -254,13 +254,8 @@ impl<'a> Sweep<'a> {
         }
     }
 
-    // What is told of a point by its runs, in the order of their seeds.
-    pub(crate) fn told(
-        &self,
-        alloc: Global,
-        point: usize,
-        runs: &[Run],
-    ) -> Result<Point<'a>, AllocError> {
+    /// What is told of a point by its runs, in the order of their seeds.
+    pub fn told(&self, alloc: Global, point: usize, runs: &[Run]) -> Result<Point<'a>, AllocError> {
         Ok(Point {
             values: self.values_at(alloc, point)?,
             seed: runs.first().map_or(0, |run| run.seed),

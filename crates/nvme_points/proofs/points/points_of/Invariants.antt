@@ -1,6 +1,6 @@
 use Rattle.std.proofs.Common.{◌≡◌, ◌*◌, drop}
-use Rattle.nvme_sweep.specs.Points.{count_of}
-use Rattle.nvme_sweep.proofs.points.points_of.Given as goal
+use Rattle.nvme_points.specs.Points.{count_of}
+use Rattle.nvme_points.proofs.points.points_of.Given as goal
 
 -- the product so far, times that of the lengths that are left, is that of all
 abbrev pub invariant-loop-length : goal.invariant-loop-length

@@ -1,7 +1,7 @@
 -- Worked examples of the definitions. (profile)
 use Rattle.std.specs.Prelude.{◌≡◌, ℕ, List, [], ◌∷◌}
-use Rattle.nvme_sweep.specs.Estimates.{pair_differences, squared_width}
-use Rattle.nvme_sweep.specs.Points.{choices_of, count_of}
+use Rattle.nvme_points.specs.Estimates.{pair_differences, squared_width}
+use Rattle.nvme_points.specs.Points.{choices_of, count_of}
 
 -- a key of two values, and one of three, which is faster
 abbrev pub two_keys : List ℕ

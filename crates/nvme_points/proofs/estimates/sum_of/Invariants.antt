@@ -1,5 +1,5 @@
 use Rattle.std.proofs.Common.{◌≡◌, ◌+◌, sum, drop}
-use Rattle.nvme_sweep.proofs.estimates.sum_of.Given as goal
+use Rattle.nvme_points.proofs.estimates.sum_of.Given as goal
 
 -- the sum so far and that of what is left are that of all
 abbrev pub invariant-loop-value : goal.invariant-loop-value

@@ -1,5 +1,5 @@
 use Rattle.std.proofs.Common.{refl}
-use Rattle.nvme_sweep.proofs.laws.worked_points.Goals as goal
+use Rattle.nvme_points.proofs.laws.worked_points.Goals as goal
 
 pub returns : goal.returns
 returns c = record {

@@ -19,9 +19,10 @@ pub const NAMES: [&str; COUNT] = [
     "latency_max_ps",
 ];
 
-/// The index of the mean of the latencies, and of their 99th percentile.
+/// The index of the mean of the latencies.
 pub const MEAN: usize = 1;
 
+/// The index of the 99th percentile of the latencies.
 pub const P99: usize = 4;
 
 /// Of which commands a row tells.

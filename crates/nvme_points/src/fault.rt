@@ -55,7 +55,7 @@ impl From<AllocError> for SweepFault<'_> {
 }
 
 /// Adds an item to a list.
-pub(crate) fn add<T: Drop>(list: &mut Vec<T>, item: T) -> Result<(), AllocError> {
+pub fn add<T: Drop>(list: &mut Vec<T>, item: T) -> Result<(), AllocError> {
     list.push(item)?;
     Ok(())
 }

@@ -1,6 +1,6 @@
 use Rattle.std.proofs.Common.{refl}
-use Rattle.nvme_sweep.specs.Estimates.{differences_from}
-use Rattle.nvme_sweep.proofs.laws.worked_estimates.Goals as goal
+use Rattle.nvme_points.specs.Estimates.{differences_from}
+use Rattle.nvme_points.proofs.laws.worked_estimates.Goals as goal
 
 pub returns : goal.returns
 unfolding differences_from

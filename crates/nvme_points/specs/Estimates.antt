@@ -2,8 +2,8 @@
 use Rattle.std.specs.Prelude.{◌≡◌, ◌≢◌, ◌≤◌, ◌<◌, ◌⊎◌, IfNone, IfSome, None, ℕ, ◌+◌, ◌-◌, ◌*◌, ◌/◌, List, get_or, length, min, sum}
 use Rattle.std.specs.Int.{abs_diff}
 use Rattle.std.specs.List.{sum_by}
-use Rattle.nvme_sweep.specs.declared.estimates.Estimate.{Estimate}
-use Rattle.nvme_sweep.specs.declared.estimates.TheConstants.{QUANTILES}
+use Rattle.nvme_points.specs.declared.estimates.Estimate.{Estimate}
+use Rattle.nvme_points.specs.declared.estimates.TheConstants.{QUANTILES}
 
 -- a mean, rounded down
 abbrev pub IsMean : List ℕ → ℕ → Type 0

@@ -1,5 +1,0 @@
-use Rattle.nvme_sweep.proofs.Combinations.{all_combinations}
-use Rattle.nvme_sweep.proofs.laws.points_are_all_combinations.Goals as goal
-
-pub returns : goal.returns
-returns c = all_combinations
