@@ -1,2 +1,4 @@
+pub mod Examples
+pub mod Loads
 pub mod Scaling
 pub mod Trace

@@ -1,7 +1,9 @@
 -- What queues ask for where their gaps are multiplied by a ratio. (profile)
-use Rattle.std.specs.Prelude.{◌≡◌, ℕ, ◌+◌, ◌*◌, ◌/◌, max, List, map}
+use Rattle.std.specs.Prelude.{◌≡◌, ℕ, ◌+◌, ◌*◌, ◌/◌, max, List, map, unwrap_or}
+use Rattle.nvme_model.specs.declared.device.Device.{Device}
 use Rattle.nvme_model.specs.declared.queue.Queue.{Queue}
-use Rattle.nvme_model_form.specs.Views.{Asking, Coming, ByPoisson, ByGap, InBursts, BehindOthers, Replayed, asking_of}
+use Rattle.nvme_model_form.specs.Views.{Asking, Coming, ByPoisson, ByGap, InBursts, BehindOthers, Replayed, Running, asking_of, running_of}
+use Rattle.nvme_simulate.specs.Loads.{capacity_of, offered_in, part_of}
 
 -- the nearest whole number of picoseconds, and at least 1
 abbrev pub scaled_gap : (offered target gap : ℕ) → ℕ
@@ -19,7 +21,19 @@ scaled_coming offered target Replayed = Replayed
 abbrev pub scaled_asking : (offered target : ℕ) → Asking → Asking
 scaled_asking offered target asking = record asking { coming = scaled_coming offered target asking.coming }
 
--- one ratio for all
-abbrev pub AreScaled : (old new : List Queue) → Type 0
-AreScaled old new =
-    (offered : ℕ) × (target : ℕ) × (map asking_of new ≡ map (scaled_asking offered target) (map asking_of old))
+-- in these parts of a channel: 10^-15
+abbrev pub fine_parts : ℕ
+fine_parts = 1_000_000_000_000_000
+
+-- what open queues ask for, or 0 where none is open
+abbrev pub offered_of : List Queue → ℕ
+offered_of queues = unwrap_or (offered_in fine_parts (map asking_of queues)) 0
+
+-- so many millionths of what a device can do
+abbrev pub target_of : (millionths : ℕ) → Running → ℕ
+target_of millionths device = part_of (capacity_of fine_parts device) millionths 1_000_000
+
+-- one ratio for all: what the open queues asked for, to so many millionths of what the device can do
+abbrev pub AreScaled : (millionths : ℕ) → Device → (old new : List Queue) → Type 0
+AreScaled millionths device old new =
+    map asking_of new ≡ map (scaled_asking (offered_of old) (target_of millionths (running_of device))) (map asking_of old)

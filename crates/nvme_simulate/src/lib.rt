@@ -8,6 +8,7 @@ mod digest;
 mod distributions;
 mod fault;
 mod groups;
+pub mod laws;
 mod lengths;
 mod loads;
 mod origin;

@@ -1,5 +1,10 @@
 // What open queues ask for and what a device can do, in parts of a channel, rounded down; whether more commands come than it
 // can run.
+ghost use Rattle.std.specs.Prelude.{◌≡◌, ◌+◌, ◌*◌, ◌^◌, ◌<◌, ◌↔◌, Some, IsSome, IfSome, map, unwrap_or};
+ghost use Rattle.nvme_clock.specs.Quantiles.{values_of};
+ghost use Rattle.nvme_model_form.specs.Views.{OneOfTwo, asking_of, running_of, spread_of, taking_of};
+ghost use Rattle.nvme_simulate.specs.Loads.{capacity_of, mean_between, mean_of, mean_service, mean_taken, offered_by, offered_in, part_of};
+
 use nvme_clock::{Quantiles, TwoPoints};
 use nvme_load::{Arrivals, Distribution, Mix, Service};
 use nvme_model::{Device, Model, Queue};
@@ -23,13 +28,18 @@ pub struct Overload<'a> {
 }
 
 // A part of a sum of parts of a number.
-pub(crate) fn part(number: u128, part: u128, whole: u128) -> u128 {
+pub(crate) fn part(number: u128, part: u128, whole: u128) -> u128
+    ensures { result ≡ part_of number part whole }
+{
     let product = number.saturating_mul(part);
     product.checked_div(whole).unwrap_or(0)
 }
 
 // The mean of one of two times.
-fn mean_of_two(points: &TwoPoints) -> u128 {
+fn mean_of_two(points: &TwoPoints) -> u128
+    ensures value { result ≡ mean_of (OneOfTwo points.now.usual points.now.rare points.now.times points.now.out_of) }
+    ensures below { result < 2 ^ 64 }
+{
     let rare = points.times.min(points.out_of);
     let usual = points.out_of.saturating_sub(rare);
     let sum = u128::from(points.usual)
@@ -39,7 +49,10 @@ fn mean_of_two(points: &TwoPoints) -> u128 {
 }
 
 // The mean of times between quantiles: each step counts with the mean of its two ends.
-fn mean_of_table(table: &Quantiles) -> u128 {
+fn mean_of_table(table: &Quantiles) -> u128
+    ensures value { result ≡ mean_between (values_of table.now) }
+    ensures below { result < 2 ^ 64 }
+{
     let values = table.values();
     let mut twice = 0u128;
     for value in values {
@@ -53,7 +66,10 @@ fn mean_of_table(table: &Quantiles) -> u128 {
 }
 
 // The mean of a distribution.
-fn mean_of(distribution: &Distribution) -> u128 {
+fn mean_of(distribution: &Distribution) -> u128
+    ensures value { result ≡ mean_of (spread_of distribution.now) }
+    ensures below { result < 2 ^ 64 }
+{
     match distribution {
         Distribution::Fixed(time) => u128::from(*time),
         Distribution::Exponential(mean) => u128::from(mean.picoseconds),
@@ -63,13 +79,18 @@ fn mean_of(distribution: &Distribution) -> u128 {
 }
 
 // The mean time of a command with so many blocks.
-fn service_of(service: &Service, blocks: u32) -> u128 {
+fn service_of(service: &Service, blocks: u32) -> u128
+    ensures value { result ≡ mean_taken (taking_of service.now) blocks }
+    ensures below { result < 2 ^ 64 * (blocks + 1) }
+{
     let of_blocks = u128::from(service.per_block).saturating_mul(u128::from(blocks));
     mean_of(&service.time).saturating_add(of_blocks)
 }
 
 // The mean time of a queue's commands.
-pub(crate) fn mean_service(queue: &Queue) -> u128 {
+pub(crate) fn mean_service(queue: &Queue) -> u128
+    ensures { result ≡ mean_service (asking_of queue.now) }
+{
     let Mix { read, write, flush } = queue.mix;
     let (read, write, flush) = (u128::from(read), u128::from(write), u128::from(flush));
     let blocks = queue.places.extent.blocks;
@@ -82,13 +103,17 @@ pub(crate) fn mean_service(queue: &Queue) -> u128 {
 }
 
 // The load of commands that run so long, of which one comes in each gap, in so many parts of a channel.
-fn load(service: u128, gap: u64, parts: u128) -> u128 {
+fn load(service: u128, gap: u64, parts: u128) -> u128
+    ensures { result ≡ part_of service parts gap }
+{
     part(service, parts, u128::from(gap))
 }
 
 // What an open queue asks for, in so many parts of a channel. None of a closed host, which waits for completions, and of a
 // list, which ends.
-fn offered_by(queue: &Queue, parts: u128) -> Option<u128> {
+fn offered_by(queue: &Queue, parts: u128) -> Option<u128>
+    ensures { result ≡ offered_by parts (asking_of queue.now) }
+{
     let service = mean_service(queue);
     match &queue.arrivals {
         Arrivals::Poisson(mean) => Some(load(service, mean.picoseconds, parts)),
@@ -103,7 +128,9 @@ fn offered_by(queue: &Queue, parts: u128) -> Option<u128> {
 }
 
 // What all open queues ask for, in so many parts of a channel. None where no queue is open.
-pub(crate) fn offered_to(model: &Model, parts: u128) -> Option<u128> {
+pub(crate) fn offered_to(model: &Model, parts: u128) -> Option<u128>
+    ensures { result ≡ offered_in parts (map asking_of model.now.queues.items) }
+{
     let mut sum: Option<u128> = None;
     for queue in &model.queues {
         if let Some(offered) = offered_by(queue, parts) {
@@ -114,7 +141,9 @@ pub(crate) fn offered_to(model: &Model, parts: u128) -> Option<u128> {
 }
 
 // What the channels can do, less their pauses, in so many parts of a channel.
-pub(crate) fn capacity_of(device: &Device, parts: u128) -> u128 {
+pub(crate) fn capacity_of(device: &Device, parts: u128) -> u128
+    ensures { result ≡ capacity_of parts (running_of device.now) }
+{
     let whole = (device.channels as u128).saturating_mul(parts);
     match device.pauses {
         Some(pauses) => {
@@ -126,7 +155,12 @@ pub(crate) fn capacity_of(device: &Device, parts: u128) -> u128 {
 }
 
 /// Whether more commands come of a model's open queues than its device can run, so that ever more wait as time goes on.
-pub fn overload_of(model: &Model) -> Option<Overload<'_>> {
+pub fn overload_of(model: &Model) -> Option<Overload<'_>>
+    ensures told { IsSome result
+        ↔ (capacity_of 1_000_000 (running_of model.now.device) < unwrap_or (offered_in 1_000_000 (map asking_of model.now.queues.items)) 0) }
+    ensures offered { IfSome result (λ o. offered_in 1_000_000 (map asking_of model.now.queues.items) ≡ Some o.offered) }
+    ensures capacity { IfSome result (λ o. o.capacity ≡ capacity_of 1_000_000 (running_of model.now.device)) }
+{
     let offered = offered_to(model, MILLIONTHS).unwrap_or(0);
     let capacity = capacity_of(&model.device, MILLIONTHS);
     if offered > capacity {

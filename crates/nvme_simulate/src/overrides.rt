@@ -1,6 +1,8 @@
 // What a command line says in place of a simulation file.
-ghost use Rattle.std.specs.Prelude.{◌≡◌, ◌≢◌, None, IfOk, unwrap_or};
-ghost use Rattle.nvme_simulate.specs.Scaling.{AreScaled};
+ghost use Rattle.std.specs.Prelude.{◌≡◌, ◌↔◌, None, Some, IfOk, IfSome, IsErrOf, OnSome, map, unwrap_or};
+ghost use Rattle.nvme_model_form.specs.Views.{asking_of};
+ghost use Rattle.nvme_simulate.specs.Loads.{offered_in};
+ghost use Rattle.nvme_simulate.specs.Scaling.{AreScaled, fine_parts};
 
 use crate::scaling::scaled;
 use crate::target::{Load, LoadFault};
@@ -158,7 +160,11 @@ impl Overrides {
         ensures settings { IfOk result (λ m. m.settings ≡ model.settings) }
         ensures device { IfOk result (λ m. m.device ≡ model.device) }
         ensures queues { self.now.load ≡ None → IfOk result (λ m. m.queues ≡ model.queues) }
-        ensures scaling { IfOk result (λ m. self.now.load ≢ None → AreScaled model.queues.items m.queues.items) }
+        ensures scaling { IfOk result (λ m. IfSome self.now.load (λ load. AreScaled load.millionths model.device model.queues.items m.queues.items)) }
+        ensures no_open_queue { OnSome self.now.load
+            (IsErrOf result LoadFault.NoOpenQueue ↔ (offered_in fine_parts (map asking_of model.queues.items) ≡ None)) }
+        ensures no_service { OnSome self.now.load
+            (IsErrOf result LoadFault.NoService ↔ (offered_in fine_parts (map asking_of model.queues.items) ≡ Some 0)) }
     {
         let model = self.replaced(model);
         match self.load {

@@ -1,7 +1,8 @@
 // Scales the gaps of open queues, so that these ask for a part of what a device can do.
-ghost use Rattle.std.specs.Prelude.{◌≡◌, IfOk, IfSome, OnOk, OnSome, map};
-ghost use Rattle.nvme_model_form.specs.Views.{asking_of, coming_of};
-ghost use Rattle.nvme_simulate.specs.Scaling.{AreScaled, scaled_gap, scaled_coming, scaled_asking};
+ghost use Rattle.std.specs.Prelude.{◌≡◌, ◌↔◌, ℕ, None, Some, IfErr, IfOk, IfSome, IsErrOf, OnOk, OnSome, map};
+ghost use Rattle.nvme_model_form.specs.Views.{asking_of, coming_of, running_of};
+ghost use Rattle.nvme_simulate.specs.Loads.{offered_in};
+ghost use Rattle.nvme_simulate.specs.Scaling.{AreScaled, fine_parts, offered_of, scaled_asking, scaled_coming, scaled_gap, target_of};
 
 use crate::loads::{MILLIONTHS, capacity_of, offered_to, part};
 use crate::target::{Load, LoadFault};
@@ -19,7 +20,12 @@ struct Ratio {
 }
 
 // The ratio by which a model comes to a load.
-fn ratio_of(model: &Model, load: Load) -> Result<Ratio, LoadFault> {
+fn ratio_of(model: &Model, load: Load) -> Result<Ratio, LoadFault>
+    ensures offered { IfOk result (λ r. r.offered ≡ offered_of model.now.queues.items) }
+    ensures target { IfOk result (λ r. r.target ≡ target_of load.millionths (running_of model.now.device)) }
+    ensures no_open_queue { IsErrOf result LoadFault.NoOpenQueue ↔ (offered_in fine_parts (map asking_of model.now.queues.items) ≡ None) }
+    ensures no_service { IsErrOf result LoadFault.NoService ↔ (offered_in fine_parts (map asking_of model.now.queues.items) ≡ Some 0) }
+{
     match offered_to(model, PARTS) {
         None => Err(LoadFault::NoOpenQueue),
         Some(0) => Err(LoadFault::NoService),
@@ -92,7 +98,8 @@ fn scale_one(queue: &mut Queue, ratio: Ratio) -> Option<()>
 
 // Scales the gaps of queues. After an error some of them are scaled.
 fn scale(queues: &mut [Queue], ratio: Ratio) -> Result<(), LoadFault>
-    ensures { OnOk result (map asking_of queues.new ≡ map (scaled_asking ratio.offered ratio.target) (map asking_of queues.old)) }
+    ensures ok { OnOk result (map asking_of queues.new ≡ map (scaled_asking ratio.offered ratio.target) (map asking_of queues.old)) }
+    ensures err { IfErr result (λ e. (number : ℕ) × (e ≡ LoadFault.LongGap number)) }
 {
     let mut number = 0usize;
     for queue in queues.iter_mut() {
@@ -114,10 +121,12 @@ pub(crate) fn scaled(model: Model, load: Load) -> Result<Model, LoadFault>
     ensures mechanism { IfOk result (λ m. m.mechanism ≡ model.mechanism) }
     ensures settings { IfOk result (λ m. m.settings ≡ model.settings) }
     ensures device { IfOk result (λ m. m.device ≡ model.device) }
-    ensures queues { IfOk result (λ m. AreScaled model.queues.items m.queues.items) }
+    ensures queues { IfOk result (λ m. AreScaled load.millionths model.device model.queues.items m.queues.items) }
     ensures seed { IfOk result (λ m. m.seed ≡ model.seed) }
     ensures end { IfOk result (λ m. m.end ≡ model.end) }
     ensures warm_up { IfOk result (λ m. m.warm_up ≡ model.warm_up) }
+    ensures no_open_queue { IsErrOf result LoadFault.NoOpenQueue ↔ (offered_in fine_parts (map asking_of model.queues.items) ≡ None) }
+    ensures no_service { IsErrOf result LoadFault.NoService ↔ (offered_in fine_parts (map asking_of model.queues.items) ≡ Some 0) }
 {
     let ratio = ratio_of(&model, load)?;
     let mut model = model;
