@@ -8,7 +8,7 @@ ghost use Rattle.nvme_log.specs.Queues.{open_cq};
 ghost use Rattle.nvme_log.specs.declared.place.Place.{Place};
 ghost use Rattle.nvme_ctrl.specs.Own.{own_of, oldest_is_own};
 ghost use Rattle.nvme_ctrl.specs.Notes.{Notes, logged};
-ghost use Rattle.nvme_ctrl.specs.Standing.{Stands};
+ghost use Rattle.nvme_ctrl.specs.Standing.{Stands, IsController};
 ghost use Rattle.nvme_ctrl.specs.Tags.{handed, is_out, holder, taken, cookie_of};
 ghost use Rattle.nvme_ctrl.specs.Generations.{SameGenerations, IsNextGeneration, tag_of};
 ghost use Rattle.nvme_ctrl.specs.declared.tag.Tag.{Tag};
@@ -19,6 +19,7 @@ ghost use Rattle.nvme_ctrl.specs.NextQueue.{HasPost};
 ghost use Rattle.nvme_ctrl.specs.declared.picks.Step.TheVariants as made;
 ghost use Rattle.nvme_capi.specs.States.{pick_of_fields};
 ghost use Rattle.nvme_capi.specs.Tables.{plain_answer};
+ghost use Rattle.nvme_capi.specs.Batches.{TakesOne, PostsOne, NoneToTake, NoneToPost, with_slots};
 ghost use Rattle.nvme_capi.specs.Controllers.{is_ctrl, is_whole, has_slots, IsKept, IsOutUnder, StaysMade, HasToldWhat, no_pick, nothing_asked, asked_in, IsCommandIn, device_answer, flags_by, IsFlaggedEntry, HasPostedBytes, IsPostIn};
 
 use crate::answers::{answer_of, plain_answer};
@@ -30,7 +31,7 @@ use crate::fields::StatusFields;
 use crate::results::{BAD_ARGUMENT, BAD_STATE, BUSY, NOROOM, NOTHING, OK};
 use crate::states::{PickFields, fields_of_pick};
 use nvme_admin::Effect;
-use nvme_ctrl::{Answer, Post, Slot, StatusFlags, Step, Tag};
+use nvme_ctrl::{Answer, Controller, Post, Slot, StatusFlags, Step, Tag};
 use nvme_entry::{Sqe, Status};
 
 // The kinds of a step.
@@ -190,6 +191,28 @@ pub extern "C" fn nvmearb_ctrl_pick(
     }
 }
 
+/// The device takes the next picked command, which is written. False, which changes nothing, where all are taken.
+pub fn take_one(ctrl: &mut Controller, slots: &mut [Slot], command: &mut CommandFields) -> bool
+    ensures front { IsController ctrl.old slots.old → IsController ctrl.new slots.new }
+    ensures depths { depths_of ctrl.new ≡ depths_of ctrl.old }
+    ensures own { own_of ctrl.new ≡ own_of ctrl.old }
+    ensures taken { result ≡ true → TakesOne (with_slots ctrl.old slots.old) command.new (with_slots ctrl.new slots.new) }
+    ensures none { result ≡ false → NoneToTake (with_slots ctrl.old slots.old) }
+    ensures unchanged { result ≡ false → (ctrl.new ≡ ctrl.old) × ((slots.new ≡ slots.old) × (command.new ≡ command.old)) }
+{
+    match ctrl.take(slots) {
+        Some(slot) => {
+            *command = CommandFields {
+                entry: ctrl.entry(slots, slot),
+                cookie: ctrl.cookie(slots, slot),
+                tag: Tag::at(slots, slot).number(),
+            };
+            true
+        }
+        None => false,
+    }
+}
+
 /// The device takes the next picked command, and its tag, entry and cookie are written.
 #[unsafe(no_mangle)]
 pub extern "C" fn nvmearb_ctrl_take(
@@ -218,16 +241,10 @@ pub extern "C" fn nvmearb_ctrl_take(
     if !has_slots(state, slots) {
         return BAD_ARGUMENT;
     }
-    match state.ctrl.take(slots) {
-        Some(slot) => {
-            *command = CommandFields {
-                entry: state.ctrl.entry(slots, slot),
-                cookie: state.ctrl.cookie(slots, slot),
-                tag: Tag::at(slots, slot).number(),
-            };
-            OK
-        }
-        None => NOTHING,
+    if take_one(&mut state.ctrl, slots, command) {
+        OK
+    } else {
+        NOTHING
     }
 }
 
@@ -349,6 +366,27 @@ fn fields_of_post(it: &Post, tag: Tag) -> PostFields
     }
 }
 
+/// Writes the completion that became ready first in an open completion queue. False, which changes nothing, where none
+/// may be posted.
+pub fn post_one(ctrl: &mut Controller, slots: &mut [Slot], cqid: u16, post: &mut PostFields) -> bool
+    ensures front { IsController ctrl.old slots.old → IsController ctrl.new slots.new }
+    ensures depths { depths_of ctrl.new ≡ depths_of ctrl.old }
+    ensures own { own_of ctrl.new ≡ own_of ctrl.old }
+    ensures posted { result ≡ true → PostsOne cqid (with_slots ctrl.old slots.old) post.new (with_slots ctrl.new slots.new) }
+    ensures none { result ≡ false → NoneToPost cqid (with_slots ctrl.old slots.old) }
+    ensures generations { SameGenerations slots.old slots.new }
+    ensures unchanged { result ≡ false → (ctrl.new ≡ ctrl.old) × ((slots.new ≡ slots.old) × (post.new ≡ post.old)) }
+{
+    match ctrl.post(slots, cqid) {
+        Some(it) => {
+            // (a slot that is freed keeps its generation)
+            *post = fields_of_post(&it, Tag::at(slots, it.tag));
+            true
+        }
+        None => false,
+    }
+}
+
 /// Writes the completion that became ready first in an open completion queue, with the slot of its ring. The command's
 /// slot is free then.
 #[unsafe(no_mangle)]
@@ -379,13 +417,10 @@ pub extern "C" fn nvmearb_ctrl_post(
     if !has_slots(state, slots) {
         return BAD_ARGUMENT;
     }
-    match state.ctrl.post(slots, cqid) {
-        Some(it) => {
-            // (a slot that is freed keeps its generation)
-            *post = fields_of_post(&it, Tag::at(slots, it.tag));
-            OK
-        }
-        None => NOTHING,
+    if post_one(&mut state.ctrl, slots, cqid, post) {
+        OK
+    } else {
+        NOTHING
     }
 }
 

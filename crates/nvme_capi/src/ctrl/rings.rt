@@ -1,5 +1,5 @@
 // The rings of a controller of C: doorbells and fetches.
-ghost use Rattle.std.specs.Prelude.{◌≡◌, ◌≢◌, ◌⊎◌, ◌↔◌, ℕ, Bool, List, length, None, IsTrue, IsFalse};
+ghost use Rattle.std.specs.Prelude.{◌≡◌, ◌≢◌, ◌⊎◌, ◌↔◌, ℕ, Bool, true, false, List, length, None, IsTrue, IsFalse};
 ghost use Rattle.nvme_entry.specs.Submission.{IsSubmissionEntry};
 ghost use Rattle.nvme_entry.specs.declared.submission.Sqe.{Sqe};
 ghost use Rattle.nvme_log.specs.Rules.{FrontRules};
@@ -7,14 +7,15 @@ ghost use Rattle.nvme_log.specs.Queues.{open_sq, open_cq};
 ghost use Rattle.nvme_ctrl.specs.Generations.{SameGenerations};
 ghost use Rattle.nvme_ctrl.specs.Own.{own_of};
 ghost use Rattle.nvme_ctrl.specs.Notes.{Notes, logged};
-ghost use Rattle.nvme_ctrl.specs.Standing.{Stands};
+ghost use Rattle.nvme_ctrl.specs.Standing.{Stands, IsController};
 ghost use Rattle.nvme_ctrl.specs.Calls.{depths_of, depth_of, IsTailOf, TailRung, IsHeadOf, HeadRung, MayFetch, HasFetched};
 ghost use Rattle.nvme_ctrl.specs.declared.slot.Slot.{Slot};
+ghost use Rattle.nvme_capi.specs.Batches.{FetchesOne, NoneToFetch, with_slots};
 ghost use Rattle.nvme_capi.specs.Controllers.{is_ctrl, has_slots, IsKept, StaysMade};
 
 use crate::ctrl::state::{CtrlState, has_slots, is_ctrl};
 use crate::results::{BAD_ARGUMENT, BAD_STATE, NOTHING, OK};
-use nvme_ctrl::Slot;
+use nvme_ctrl::{Controller, Slot};
 use nvme_entry::{Sqe, submission_layout_is_exact};
 
 /// The host wrote the tail doorbell of a submission queue. NOTHING where the queue isn't open, BAD_ARGUMENT where the
@@ -98,6 +99,26 @@ pub extern "C" fn nvmearb_ctrl_fetch(state: &CtrlState, qid: u16, slot: &mut u16
     }
 }
 
+/// The entry was read that is to be fetched next. False, which changes nothing, where none is.
+pub fn fetch_one(
+    ctrl: &mut Controller,
+    slots: &mut [Slot],
+    qid: u16,
+    bytes: &[u8; 64],
+    cookie: u32,
+) -> bool
+    ensures front { IsController ctrl.old slots.old → IsController ctrl.new slots.new }
+    ensures depths { depths_of ctrl.new ≡ depths_of ctrl.old }
+    ensures own { own_of ctrl.new ≡ own_of ctrl.old }
+    ensures fetched { result ≡ true → FetchesOne qid (with_slots ctrl.old slots.old) (bytes.now, cookie) (with_slots ctrl.new slots.new) }
+    ensures none { result ≡ false → NoneToFetch qid (with_slots ctrl.old slots.old) }
+    ensures generations { SameGenerations slots.old slots.new }
+    ensures unchanged { result ≡ false → (ctrl.new ≡ ctrl.old) × (slots.new ≡ slots.old) }
+{
+    submission_layout_is_exact();
+    ctrl.fetched(slots, qid, &Sqe::from_bytes(bytes), cookie)
+}
+
 /// The entry was read that `nvmearb_ctrl_fetch` told. Its command waits then, and the cookie is kept with it.
 #[unsafe(no_mangle)]
 pub extern "C" fn nvmearb_ctrl_fetched(
@@ -125,11 +146,7 @@ pub extern "C" fn nvmearb_ctrl_fetched(
     if !has_slots(state, slots) {
         return BAD_ARGUMENT;
     }
-    submission_layout_is_exact();
-    if state
-        .ctrl
-        .fetched(slots, qid, &Sqe::from_bytes(bytes), cookie)
-    {
+    if fetch_one(&mut state.ctrl, slots, qid, bytes, cookie) {
         OK
     } else {
         NOTHING
