@@ -29,6 +29,8 @@
  *  10. Go back to 5. until a pass does nothing. Go back too once the device can take more commands than at its last
  *      pick, or no longer holds a queue.
  *
+ * nvmearb_ctrl_fetched_n, nvmearb_ctrl_take_n and nvmearb_ctrl_post_n make several calls of 5., 6. or 8. at once.
+ *
  * Every function is proved (crates/nvme_capi), unless NVMEARB_UNPROVED says otherwise. None allocates, waits, starts a
  * thread, keeps a pointer, or reads or writes anything but what its arguments point to. All return, whatever bytes the
  * arguments, states and slots have. The caller sees to this:
@@ -579,8 +581,8 @@ typedef struct nvmearb_slot {
  * Hand each call the slots of the making, and write neither into them nor into the controller. If something else wrote
  * there, a call still returns, and reads and writes only what it is given; nothing more is promised.
  * nvmearb_ctrl_verify finds some such writes. Read no slot of a ring but those that nvmearb_ctrl_fetch and
- * nvmearb_ctrl_next_fetch tell, and post no completion but those of nvmearb_ctrl_post. A ring has 64 or 16 bytes for
- * each slot, from its address on.
+ * nvmearb_ctrl_next_fetch tell, or nvmearb_ctrl_fetched_n takes, and post no completion but those of nvmearb_ctrl_post
+ * and nvmearb_ctrl_post_n. A ring has 64 or 16 bytes for each slot, from its address on.
  *
  * A submission queue is open until its deletion begins, and then closing until nvmearb_ctrl_finish ends that.
  *
@@ -599,6 +601,7 @@ typedef struct nvmearb_slot {
  *   nvmearb_ctrl_add_sq_region, nvmearb_ctrl_add_cq_region               the regions
  *   nvmearb_ctrl_finish                                                  the identifiers up to the queue's
  *   nvmearb_ctrl_next_fetch, nvmearb_ctrl_next_to_post                   the queues before it whose work has to wait
+ *   nvmearb_ctrl_fetched_n, nvmearb_ctrl_take_n, nvmearb_ctrl_post_n     what they write into `n`
  *
  * PC must be 1, and a ring has at most 4096 slots: CAP.CQR is 1, and CAP.MQES at most 4095. Commands without a posted
  * completion have no limit but the depths. A completion queue that its host doesn't read stops the submission queues
@@ -828,6 +831,18 @@ uint32_t nvmearb_ctrl_fetched(nvmearb_ctrl *ctrl, nvmearb_slot *slots, size_t co
                               const uint8_t bytes[NVMEARB_SQE_BYTES], uint32_t cookie);
 
 /*
+ * As nvmearb_ctrl_fetched, of one entry after the other, each with its cookie, until that answers NVMEARB_NONE. Writes
+ * how many were fetched into `n`. `entries` are those in the slots of the ring from the one that nvmearb_ctrl_fetch
+ * tells on, slot 0 after the last. They end before the last tail that nvmearb_ctrl_sq_tail accepted: from there on the
+ * host may still write. What wasn't fetched is told again, once it may be.
+ * NVMEARB_EARG too if `bytes` isn't NVMEARB_SQE_BYTES times `cookie_count`; otherwise NVMEARB_NONE, and 0 into `n`, if
+ * nvmearb_ctrl_fetch tells none or there are no entries.
+ */
+uint32_t nvmearb_ctrl_fetched_n(nvmearb_ctrl *ctrl, nvmearb_slot *slots, size_t count, uint16_t qid,
+                                const uint8_t *entries, size_t bytes, const uint32_t *cookies, size_t cookie_count,
+                                size_t *n);
+
+/*
  * Writes the next pick of the commands that wait now, with room for all of it, whether or not nvmearb_ctrl_pick can
  * make it yet.
  * NVMEARB_NONE if no command waits but in queues that are held.
@@ -853,6 +868,14 @@ uint32_t nvmearb_ctrl_pick(nvmearb_ctrl *ctrl, nvmearb_slot *slots, size_t count
 uint32_t nvmearb_ctrl_take(nvmearb_ctrl *ctrl, nvmearb_slot *slots, size_t count, nvmearb_command *command);
 
 /*
+ * As nvmearb_ctrl_take again and again, until that answers NVMEARB_NONE or `room` commands are taken. Writes them in
+ * this order, and how many into `n`; what lies behind them stays.
+ * NVMEARB_NONE, and 0 into `n`, if all are taken or `room` is 0.
+ */
+uint32_t nvmearb_ctrl_take_n(nvmearb_ctrl *ctrl, nvmearb_slot *slots, size_t count, nvmearb_command *commands,
+                             size_t room, size_t *n);
+
+/*
  * The device completes a command, whose completion is ready then, with `dw0` as Dword 0.
  * NVMEARB_EARG if `status->sct` is above 7; otherwise NVMEARB_NONE if the device has no command of this tag.
  */
@@ -872,6 +895,14 @@ uint32_t nvmearb_ctrl_complete_with(nvmearb_ctrl *ctrl, nvmearb_slot *slots, siz
  * NVMEARB_NONE if the queue isn't open, if none is ready, or if the host has freed no slot of the ring.
  */
 uint32_t nvmearb_ctrl_post(nvmearb_ctrl *ctrl, nvmearb_slot *slots, size_t count, uint16_t cqid, nvmearb_post *post);
+
+/*
+ * As nvmearb_ctrl_post again and again, until that answers NVMEARB_NONE or `room` completions are posted. Writes them
+ * in this order, in which they go into the ring, and how many into `n`; what lies behind them stays.
+ * NVMEARB_NONE, and 0 into `n`, if nvmearb_ctrl_post gives none or `room` is 0.
+ */
+uint32_t nvmearb_ctrl_post_n(nvmearb_ctrl *ctrl, nvmearb_slot *slots, size_t count, uint16_t cqid, nvmearb_post *posts,
+                             size_t room, size_t *n);
 
 /*
  * Writes the next completion queue of which nvmearb_ctrl_post gives a completion. `cqid`, turns and law are as in

@@ -297,6 +297,21 @@ static int is_fetch_of(uint16_t qid, uint16_t slot)
     return qid < NVMEARB_MAX_QUEUES && nvmearb_ctrl_fetch(&ctrl, qid, &told) == NVMEARB_OK && told == slot;
 }
 
+/* The items of a call over an array are there, and fit the tally. */
+static int fits_array(const struct call *it, unsigned which, struct tally *tally)
+{
+    int is_well = it->n > 0 && it->n <= it->room;
+    for (size_t k = 0; k < it->n; k++) {
+        uint32_t tag = which == TAKE_N ? it->commands[k].tag : it->posts[k].tag;
+        if (which == TAKE_N && NVMEARB_SLOT_OF(tag) < SLOTS)
+            tally->tags[NVMEARB_SLOT_OF(tag)] += 0x10000;
+        is_well = is_well && (which == FETCHED_N || is_last(tag, tally));
+        tally->held += (which == FETCHED_N) - (which == POST_N);
+        tally->out += which == TAKE_N;
+    }
+    return is_well;
+}
+
 /* One call with drawn arguments over the controller. What it answers and writes fits the tally. */
 static unsigned random_call(uint64_t *state, struct tally *tally)
 {
@@ -318,6 +333,7 @@ static unsigned random_call(uint64_t *state, struct tally *tally)
         return wrong + changes + (memcmp(&it, &before, sizeof it) != 0);
     }
     tally->done[which]++;
+    wrong += which >= FETCHED_N && which <= POST_N && !fits_array(&it, which, tally);
     tally->held += (which == FETCHED) - (which == POST);
     tally->out += (which == TAKE) - (which == COMPLETE || which == COMPLETE_WITH);
     tally->passed += which == PICK && it.step.kind == NVMEARB_PASSED;

@@ -5,6 +5,8 @@
 #include "ctrl.h"
 #include "tell.h"
 
+enum { ITEMS = 3 };
+
 /* What a call takes and writes. */
 struct call {
     nvmearb_ctrl *ctrl;
@@ -15,6 +17,9 @@ struct call {
     nvmearb_status status;
     uint8_t flags;
     uint8_t bytes[NVMEARB_SQE_BYTES];
+    size_t room, entries_bytes; /* of an array */
+    uint8_t entries[ITEMS][NVMEARB_SQE_BYTES];
+    uint32_t cookies[ITEMS];
     /* what it writes */
     uint16_t number;
     uint32_t named;
@@ -25,12 +30,15 @@ struct call {
     nvmearb_seen seen;
     nvmearb_sqe entry;
     uint32_t cookie;
+    size_t n;
+    nvmearb_command commands[ITEMS];
+    nvmearb_post posts[ITEMS];
 };
 /* The calls. Those that take no slots come first. */
 enum { ADD_SQ, ADD_CQ, OWN_OPCODE, OWN_FEATURE, SET_DEPTH, HOLD, SET_CLASS, SQ_TAIL, CQ_HEAD };
 enum { FETCH = CQ_HEAD + 1, NEXT_FETCH, SQ_OF, CQ_OF, WAITING, SEEN, WITHOUT_SLOTS };
 enum { FETCHED = WITHOUT_SLOTS, PEEK, PICK, TAKE, COMPLETE, COMPLETE_WITH, POST, FINISH };
-enum { COMMAND = FINISH + 1, NAMED, WAITS, NEXT_TO_POST, CALLS };
+enum { FETCHED_N = FINISH + 1, TAKE_N, POST_N, COMMAND, NAMED, WAITS, NEXT_TO_POST, CALLS };
 
 static inline uint32_t made(struct call *it, unsigned which)
 {
@@ -81,6 +89,13 @@ static inline uint32_t made(struct call *it, unsigned which)
         return nvmearb_ctrl_post(it->ctrl, it->slots, it->count, it->a, &it->post);
     case FINISH:
         return nvmearb_ctrl_finish(it->ctrl, it->slots, it->count, &it->number);
+    case FETCHED_N:
+        return nvmearb_ctrl_fetched_n(it->ctrl, it->slots, it->count, it->a, it->entries[0], it->entries_bytes,
+                                      it->cookies, it->room, &it->n);
+    case TAKE_N:
+        return nvmearb_ctrl_take_n(it->ctrl, it->slots, it->count, it->commands, it->room, &it->n);
+    case POST_N:
+        return nvmearb_ctrl_post_n(it->ctrl, it->slots, it->count, it->a, it->posts, it->room, &it->n);
     case COMMAND:
         return nvmearb_ctrl_command(it->ctrl, it->slots, it->count, it->tag, &it->command);
     case NAMED:
@@ -112,7 +127,8 @@ static inline unsigned draw_call(uint64_t *state, struct call *it)
     static const uint8_t often[CALLS] = {SQ_TAIL, SQ_TAIL, FETCH,    FETCHED,   FETCHED,       FETCHED,     PEEK,
                                          PICK,    PICK,    TAKE,     TAKE,      TAKE,          POST,        POST,
                                          FINISH,  COMMAND, COMPLETE, COMPLETE,  COMPLETE_WITH, NAMED,       HOLD,
-                                         HOLD,    SEEN,    WAITS,    SET_DEPTH, NEXT_FETCH,    NEXT_TO_POST};
+                                         HOLD,    SEEN,    WAITS,    SET_DEPTH, NEXT_FETCH,    NEXT_TO_POST,
+                                         TAKE_N,  POST_N,  FETCHED_N};
     uint64_t word = drawn(state);
     unsigned which = word & 1 ? often[(word >> 4) % CALLS] : (unsigned)(word >> 4) % CALLS;
     it->a = word >> 60 ? (uint16_t)(word >> 16) % 3 : (uint16_t)(word >> 16);
@@ -123,6 +139,12 @@ static inline unsigned draw_call(uint64_t *state, struct call *it)
     if (which == ADD_SQ || which == ADD_CQ)
         it->b = word & 8 ? 4 : it->b; /* (the rings that Creates name) */
     draw_entry(state, it->bytes);
+    it->room = (word >> 52) % (ITEMS + 1), it->n = 0;
+    it->entries_bytes = it->room * NVMEARB_SQE_BYTES;
+    if (it->room && !(word >> 57 & 7))
+        it->entries_bytes -= 1 + (word >> 32) % NVMEARB_SQE_BYTES;
+    for (size_t k = 0; k < ITEMS; k++)
+        draw_entry(state, it->entries[k]);
     return which;
 }
 

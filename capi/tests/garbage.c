@@ -183,6 +183,15 @@ static void forget(struct call *it)
     case POST:
         memset(&it->post, 0, sizeof it->post);
         break;
+    case FETCHED_N:
+        it->n = 0;
+        break;
+    case TAKE_N:
+        memset(it->commands, 0, sizeof it->commands), it->n = 0;
+        break;
+    case POST_N:
+        memset(it->posts, 0, sizeof it->posts), it->n = 0;
+        break;
     case NAMED:
         it->named = 0;
         break;
@@ -212,6 +221,8 @@ static int is_of_its_kind(const struct call *it)
     int is_carried_out = which == PICK && step->kind == NVMEARB_CARRIED_OUT;
     if (which == NEXT_FETCH || which == NEXT_TO_POST)
         return it->a < NVMEARB_MAX_QUEUES;
+    if (which == FETCHED_N || which == TAKE_N || which == POST_N)
+        return it->n > 0 && it->n <= it->room;
     if (which == SEEN)
         return it->seen.qid == it->a && it->seen.priority <= NVMEARB_LOW && it->seen.count <= NVMEARB_MAX_COUNT;
     if (is_carried_out)

@@ -1,6 +1,6 @@
 // SPDX-License-Identifier: MIT
 //! The controller.
-use crate::error::{checked, found, rung, sure, written};
+use crate::error::{checked, filled, found, rung, sure, written};
 use crate::sys::{self, nvmearb_ctrl, nvmearb_slot};
 use crate::{
     check_version, DoorbellError, Error, Mechanism, OneCaller, Pick, Priority, Region, Seen, Slots, Sqe, Status, Step,
@@ -418,6 +418,20 @@ impl<S: Slots> Controller<S> {
         checked(unsafe { sys::nvmearb_ctrl_fetched(ctrl, slots, count, qid, bytes, cookie) })
     }
 
+    /// As [`Controller::fetched`], of one entry after the other, each with its cookie, until `fetch` tells no slot. Answers
+    /// how many were fetched. The entries are those in the slots of the ring from the one that `fetch` tells on, slot 0
+    /// after the last, and before the last tail that [`Controller::sq_tail`] accepted.
+    ///
+    /// [`Error::Argument`]: there aren't as many cookies as entries.
+    pub fn fetched_n(&mut self, qid: u16, entries: &[[u8; SQE_BYTES]], cookies: &[u32]) -> Result<usize, Error> {
+        let (ctrl, slots, count) = self.parts();
+        let (first, bytes) = (entries.as_ptr().cast(), entries.len() * SQE_BYTES);
+        let (kept, len) = (cookies.as_ptr(), cookies.len());
+        // SAFETY: references, slices, and the slots are those of the state.
+        let n = found(|n| unsafe { sys::nvmearb_ctrl_fetched_n(ctrl, slots, count, qid, first, bytes, kept, len, n) });
+        n.map(Option::unwrap_or_default)
+    }
+
     /// The pick that arbitration makes next of the commands that wait now, where there is room for all of it, whether or
     /// not [`Controller::pick`] can make it already. None if no command waits but in queues that are held.
     pub fn peek(&self) -> Option<Pick> {
@@ -458,6 +472,16 @@ impl<S: Slots> Controller<S> {
         command.as_ref().map(Command::of)
     }
 
+    /// As [`Controller::take`], until all are taken or the slice is full. Writes the commands in this order, and answers
+    /// how many; what lies behind them stays.
+    pub fn take_n(&mut self, commands: &mut [Option<Command>]) -> usize {
+        let (ctrl, slots, count) = self.parts();
+        // SAFETY: references, and the slots are those of the state.
+        filled(commands, Command::of, |first, room, n| unsafe {
+            sys::nvmearb_ctrl_take_n(ctrl, slots, count, first, room, n)
+        })
+    }
+
     /// The device completes a command, whose completion is ready then. `dw0` is its Dword 0.
     ///
     /// [`Error::Missing`]: the device has no command of this tag: none was taken under it, or the tag is used up.
@@ -484,6 +508,16 @@ impl<S: Slots> Controller<S> {
         // SAFETY: references, and the slots are those of the state.
         let post = sure(found(|post| unsafe { sys::nvmearb_ctrl_post(ctrl, slots, count, cqid, post) }));
         post.as_ref().map(Post::of)
+    }
+
+    /// As [`Controller::post`], until that gives none or the slice is full. Writes the completions in this order, in which
+    /// they go into the ring, and answers how many; what lies behind them stays.
+    pub fn post_n(&mut self, cqid: u16, posts: &mut [Option<Post>]) -> usize {
+        let (ctrl, slots, count) = self.parts();
+        // SAFETY: references, and the slots are those of the state.
+        filled(posts, Post::of, |first, room, n| unsafe {
+            sys::nvmearb_ctrl_post_n(ctrl, slots, count, cqid, first, room, n)
+        })
     }
 
     /// The next completion queue of which [`Controller::post`] gives a completion. Queues take turns as those of

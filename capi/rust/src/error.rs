@@ -102,3 +102,26 @@ pub(crate) fn found<T: Default>(call: impl FnOnce(&mut T) -> u32) -> Result<Opti
 pub(crate) fn sure<T>(told: Result<T, Error>) -> T {
     told.unwrap_or_else(|error| panic!("libnvmearb refused a call that it can't refuse: {error}"))
 }
+
+/// How many items a call has written that takes an array for them, and their number. It is made again for each part of
+/// the items, until it doesn't fill one.
+pub(crate) fn filled<F: Copy + Default, T>(
+    items: &mut [Option<T>],
+    of: impl Fn(&F) -> T,
+    mut call: impl FnMut(*mut F, usize, &mut usize) -> u32,
+) -> usize {
+    const PART: usize = 16;
+    let mut done = 0;
+    let mut fields = [F::default(); PART];
+    for part in items.chunks_mut(PART) {
+        let n = sure(found(|n| call(fields.as_mut_ptr(), part.len(), n))).unwrap_or_default();
+        for (item, it) in part.iter_mut().zip(&fields[..n]) {
+            *item = Some(of(it));
+        }
+        done += n;
+        if n < part.len() {
+            break;
+        }
+    }
+    done
+}

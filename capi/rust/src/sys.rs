@@ -473,12 +473,15 @@ extern "C" {
     pub fn nvmearb_ctrl_fetch(ctrl: *const nvmearb_ctrl, qid: u16, slot: *mut u16) -> u32;
     pub fn nvmearb_ctrl_next_fetch(ctrl: *const nvmearb_ctrl, qid: *mut u16, slot: *mut u16) -> u32;
     pub fn nvmearb_ctrl_fetched(ctrl: *mut nvmearb_ctrl, slots: *mut nvmearb_slot, count: usize, qid: u16, bytes: *const SqeBytes, cookie: u32) -> u32;
+    pub fn nvmearb_ctrl_fetched_n(ctrl: *mut nvmearb_ctrl, slots: *mut nvmearb_slot, count: usize, qid: u16, entries: *const u8, bytes: usize, cookies: *const u32, cookie_count: usize, n: *mut usize) -> u32;
     pub fn nvmearb_ctrl_peek(ctrl: *const nvmearb_ctrl, slots: *const nvmearb_slot, count: usize, pick: *mut nvmearb_pick) -> u32;
     pub fn nvmearb_ctrl_pick(ctrl: *mut nvmearb_ctrl, slots: *mut nvmearb_slot, count: usize, room: u16, step: *mut nvmearb_step) -> u32;
     pub fn nvmearb_ctrl_take(ctrl: *mut nvmearb_ctrl, slots: *mut nvmearb_slot, count: usize, command: *mut nvmearb_command) -> u32;
+    pub fn nvmearb_ctrl_take_n(ctrl: *mut nvmearb_ctrl, slots: *mut nvmearb_slot, count: usize, commands: *mut nvmearb_command, room: usize, n: *mut usize) -> u32;
     pub fn nvmearb_ctrl_complete(ctrl: *mut nvmearb_ctrl, slots: *mut nvmearb_slot, count: usize, tag: u32, status: *const nvmearb_status, dw0: u32) -> u32;
     pub fn nvmearb_ctrl_complete_with(ctrl: *mut nvmearb_ctrl, slots: *mut nvmearb_slot, count: usize, tag: u32, status: *const nvmearb_status, dw0: u32, flags: u8) -> u32;
     pub fn nvmearb_ctrl_post(ctrl: *mut nvmearb_ctrl, slots: *mut nvmearb_slot, count: usize, cqid: u16, post: *mut nvmearb_post) -> u32;
+    pub fn nvmearb_ctrl_post_n(ctrl: *mut nvmearb_ctrl, slots: *mut nvmearb_slot, count: usize, cqid: u16, posts: *mut nvmearb_post, room: usize, n: *mut usize) -> u32;
     pub fn nvmearb_ctrl_next_to_post(ctrl: *const nvmearb_ctrl, slots: *const nvmearb_slot, count: usize, cqid: *mut u16) -> u32;
     pub fn nvmearb_ctrl_finish(ctrl: *mut nvmearb_ctrl, slots: *mut nvmearb_slot, count: usize, qid: *mut u16) -> u32;
     pub fn nvmearb_ctrl_command(ctrl: *const nvmearb_ctrl, slots: *const nvmearb_slot, count: usize, tag: u32, command: *mut nvmearb_command) -> u32;

@@ -485,8 +485,8 @@ fn depth_and_slots_are_limits() {
     }
 }
 
-#[test]
-fn more_than_256_commands_have_no_completion_posted() {
+/// The host of a new controller creates queues of 512 slots.
+fn with_long_rings() -> Controller {
     let wide = Config { depth: 512, ..config(Mechanism::RoundRobin) };
     let mut ctrl = Controller::new(&wide, boxed_slots(1024)).unwrap();
     assert_eq!((ctrl.add_sq_region(SQ, 512), ctrl.add_cq_region(CQ, 512)), (Ok(1), Ok(1)));
@@ -496,6 +496,12 @@ fn more_than_256_commands_have_no_completion_posted() {
     carried_out(&mut ctrl);
     carried_out(&mut ctrl);
     while ctrl.post(0).is_some() {}
+    ctrl
+}
+
+#[test]
+fn more_than_256_commands_have_no_completion_posted() {
+    let mut ctrl = with_long_rings();
     assert_eq!(ctrl.sq_tail(1, 257), Ok(()));
     (0..256).for_each(|slot| fetched(&mut ctrl, 1, slot, read(slot)));
     picked(&mut ctrl, 256);
@@ -504,6 +510,29 @@ fn more_than_256_commands_have_no_completion_posted() {
     picked(&mut ctrl, 1);
     assert_eq!(ctrl.complete(tags[7], Status::SUCCESS, 0), Ok(()));
     posted(&mut ctrl, 1, (0, 257, 7, true, Status::SUCCESS, 0));
+}
+
+#[test]
+fn arrays_have_what_single_calls_give() {
+    let mut ctrl = with_long_rings();
+    let entries: Vec<_> = (0..101).map(|cid| read(cid).to_bytes()).collect();
+    let cookies: Vec<_> = (1000..1101).collect();
+    let (mut commands, mut posts) = ([None; 200], [None; 200]);
+    assert_eq!((ctrl.sq_tail(1, 100), ctrl.take_n(&mut commands), ctrl.post_n(1, &mut posts)), (Ok(()), 0, 0));
+    assert_eq!(ctrl.fetched_n(1, &entries, &cookies[1..]), Err(Error::Argument));
+    assert_eq!((ctrl.fetched_n(1, &[], &[]), ctrl.fetched_n(2, &entries, &cookies)), (Ok(0), Ok(0)));
+    assert_eq!((ctrl.fetched_n(1, &entries, &cookies), ctrl.waiting(1), ctrl.fetch(1)), (Ok(100), Some(100), None));
+    picked(&mut ctrl, 100);
+    assert_eq!((ctrl.take_n(&mut []), ctrl.take_n(&mut commands[..35]), ctrl.take_n(&mut commands[35..])), (0, 35, 65));
+    for (k, command) in commands.iter().flatten().enumerate() {
+        assert_eq!((command.entry.to_bytes(), command.cookie), (entries[k], cookies[k]));
+        assert_eq!(ctrl.complete(command.tag, Status::SUCCESS, 0), Ok(()));
+    }
+    assert_eq!((ctrl.post_n(2, &mut posts), ctrl.post_n(1, &mut posts[..48])), (0, 48));
+    assert_eq!((ctrl.post_n(1, &mut posts[48..]), ctrl.post(1)), (52, None));
+    let told: Vec<_> = posts.iter().flatten().map(|it| (u32::from(it.slot), it.cookie)).collect();
+    assert_eq!(told, (0..100).map(|k| (k, 1000 + k)).collect::<Vec<_>>());
+    assert!(commands[100..].iter().all(Option::is_none) && posts[100..].iter().all(Option::is_none));
 }
 
 #[test]

@@ -3,3 +3,4 @@ mod Queues
 mod Refusals
 mod FlaggedEntries
 mod SlotsOfTags
+mod Repeats

@@ -1,7 +1,7 @@
 -- What isn't refused.
-use Rattle.std.proofs.Common.{◌≡◌, ◌⊎◌, ◌↔◌, ℕ, Bool, true, false, inl, inr, sym, ◌∙◌, arith}
+use Rattle.std.proofs.Common.{◌≡◌, ◌⊎◌, ◌↔◌, ℕ, ◌<◌, Bool, true, false, inl, inr, sym, ◌∙◌, arith}
 use Rattle.std.specs.Prelude.{IsTrue, IsFalse}
-use Rattle.nvme_capi.specs.declared.results.TheConstants.{OK, USED, TOO_MANY, BAD_SIZE, BAD_ARGUMENT}
+use Rattle.nvme_capi.specs.declared.results.TheConstants.{OK, NOTHING, USED, TOO_MANY, BAD_SIZE, BAD_ARGUMENT, BAD_STATE}
 
 -- a refused region isn't added
 pub not_done : (r : ℕ) → (r ≡ USED) ⊎ ((r ≡ TOO_MANY) ⊎ (r ≡ BAD_SIZE)) → r ≡ OK → ⊥
@@ -16,6 +16,14 @@ no_fault slots P well none (inr p) = none p
 
 pub no_refusal : (r : ℕ) (ctrl slots : Bool) (P : Type 0) → (r ≡ BAD_ARGUMENT → ⊥) → slots ≡ true → (P → ⊥) → (r ≡ BAD_ARGUMENT) ↔ (IsTrue ctrl × (IsFalse slots ⊎ P))
 no_refusal r ctrl slots P apart well none = (λ e. absurd (apart e), λ h. absurd (no_fault slots P well none h.1))
+
+-- what is done, or has nothing to do, has another answer
+pub not_told : (r e : ℕ) → (r ≡ OK) ⊎ (r ≡ NOTHING) → NOTHING < e → r ≡ e → ⊥
+not_told r e (inl ok) above same = omega (arith, ok)
+not_told r e (inr none) above same = omega (arith, none)
+
+pub no_state_refused : (r : ℕ) (ctrl : Bool) → (r ≡ BAD_STATE → ⊥) → ctrl ≡ true → (r ≡ BAD_STATE) ↔ IsFalse ctrl
+no_state_refused r ctrl apart well = (λ e. absurd (apart e), λ off. (let lost : true ≡ false = sym well ∙ off in cc lost))
 
 -- nor are flags
 pub no_flags : (r : ℕ) (ctrl : Bool) (F S M : Type 0) → ((r ≡ BAD_ARGUMENT) ↔ (IsTrue ctrl × (F ⊎ S))) → (M → ⊥) → (r ≡ BAD_ARGUMENT) ↔ (IsTrue ctrl × (F ⊎ (S ⊎ M)))

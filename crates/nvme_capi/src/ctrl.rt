@@ -2,6 +2,7 @@
 //!
 //! Other than a board or a table, a controller isn't made by any numbers. Its calls are safe over all of them, but what they
 //! do is said of a state that these calls made with these slots (`IsKept`), which all keep so.
+mod batches;
 mod commands;
 mod holds;
 mod lookups;
