@@ -65,9 +65,9 @@ fn fetch_all(
     done
 }
 
-/// The entries were read that `nvmearb_ctrl_fetch` tells one after the other, of 64 bytes each, as many as there are
-/// cookies. `n` is how many commands wait then: fewer where it tells none. BAD_ARGUMENT too where the bytes aren't those
-/// of as many entries.
+/// The entries were read that `nvmearb_ctrl_fetch` tells one after the other, of 64 bytes each and each with its cookie,
+/// until it tells none. `n` is how many were fetched. BAD_ARGUMENT too where the bytes aren't those of as many entries as
+/// there are cookies.
 #[unsafe(no_mangle)]
 pub extern "C" fn nvmearb_ctrl_fetched_n(
     state: &mut CtrlState,
@@ -124,7 +124,7 @@ fn take_all(ctrl: &mut Controller, slots: &mut [Slot], commands: &mut [CommandFi
     commands.len()
 }
 
-/// The device takes the next picked commands, until all are taken or the array is full. `n` is how many it took.
+/// The device takes picked commands, until all are taken or the array is full. `n` is how many it took.
 #[unsafe(no_mangle)]
 pub extern "C" fn nvmearb_ctrl_take_n(
     state: &mut CtrlState,
