@@ -47,6 +47,11 @@ static nvmearb_step step;
 static nvmearb_command command;
 static nvmearb_sqe entry;
 static nvmearb_post post;
+static uint8_t entries[WINDOW][NVMEARB_SQE_BYTES];
+static uint32_t cookies[WINDOW];
+static nvmearb_command commands[WINDOW];
+static nvmearb_post posts[WINDOW];
+static size_t done;
 
 /* A function that makes a call of the library with these arguments. */
 #define CALL(name, ...) static void call_##name(void) { result = nvmearb_##name(__VA_ARGS__); }
@@ -95,6 +100,9 @@ CALL(ctrl_cq, &ctrl, qid, &number)
 CALL(ctrl_waiting, &ctrl, qid, &number)
 CALL(ctrl_waits, &ctrl, slots, pool, qid, n, &entry, &cookie)
 CALL(ctrl_seen, &ctrl, qid, seen)
+CALL(ctrl_fetched_n, &ctrl, slots, pool, qid, entries[0], n * sizeof *entries, cookies, n, &done)
+CALL(ctrl_take_n, &ctrl, slots, pool, commands, n, &done)
+CALL(ctrl_post_n, &ctrl, slots, pool, qid, posts, n, &done)
 CALL(ctrl_verify, &ctrl, slots, pool)
 
 static void check(uint32_t is)
@@ -350,6 +358,26 @@ static void count_way(void)
     COUNT(ctrl_cq, "", "");
 }
 
+/* So many commands go their way in queue 64, by the calls over arrays. */
+static void count_arrays(uint16_t items)
+{
+    anywhere(POOL);
+    for (int k = 0; k < items; k++) {
+        put(NVMEARB_OPC_READ, (uint16_t)k, 0, 0, 0);
+        memcpy(entries[k], bytes, sizeof bytes);
+    }
+    qid = QUEUES, n = items;
+    check(nvmearb_ctrl_sq_tail(&ctrl, qid, n));
+    COUNT(ctrl_fetched_n, with("of %u", n), "entries");
+    check(nvmearb_ctrl_pick(&ctrl, slots, pool, NVMEARB_NO_LIMIT, &step));
+    COUNT(ctrl_take_n, with("of %u", n), "commands");
+    for (int k = 0; k < items; k++) {
+        check(nvmearb_ctrl_complete(&ctrl, slots, pool, commands[k].tag, &success, 0));
+    }
+    COUNT(ctrl_post_n, with("of %u", n), "completions");
+    check(done != items);
+}
+
 /* With an entry in each I/O queue, none of which may be fetched yet. */
 static void count_depths(void)
 {
@@ -499,7 +527,7 @@ static void count_deletions(void)
 int main(void)
 {
     static const size_t pools[SIZES] = {256, POOL, NVMEARB_MAX_SLOTS};
-    static const uint16_t commands[SIZES] = {1, 64, WINDOW}, shown[SIZES] = {2, 16, QUEUES + 1};
+    static const uint16_t items[SIZES] = {1, 64, WINDOW}, shown[SIZES] = {2, 16, QUEUES + 1};
     for (mechanism = NVMEARB_ROUND_ROBIN; mechanism <= NVMEARB_WEIGHTED; mechanism++) {
         for (int size = 0; size < SIZES; size++) {
             count_arbiter(shown[size]);
@@ -518,7 +546,8 @@ int main(void)
     count_creates(1);
     count_deletions();
     for (int size = 0; size < SIZES; size++) {
-        count_waiting(commands[size]);
+        count_waiting(items[size]);
+        count_arrays(items[size]);
         count_slots(pools[size]);
     }
     return 0;

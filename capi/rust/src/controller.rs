@@ -178,6 +178,8 @@ impl Post {
 ///    completed. Other queues go on, and further deletions may begin.
 /// 9. Go back to 4. until a pass does nothing, and once the device can take more commands or no longer holds a queue.
 ///
+/// [`Controller::fetched_n`], [`Controller::take_n`] and [`Controller::post_n`] make several calls of 4., 5. or 7. at once.
+///
 /// An admin command that is neither the controller's own nor the device's is answered with [`Status::INVALID_OPCODE`],
 /// and Set and Get Features of such a feature identifier with [`Status::INVALID_FIELD`].
 ///

@@ -22,8 +22,14 @@ pub not_told : (r e : ℕ) → (r ≡ OK) ⊎ (r ≡ NOTHING) → NOTHING < e �
 not_told r e (inl ok) above same = omega (arith, ok)
 not_told r e (inr none) above same = omega (arith, none)
 
+pub not_ok : (r : ℕ) → r ≡ NOTHING → r ≡ OK → ⊥
+not_ok r nothing ok = omega (arith, nothing, ok)
+
 pub no_state_refused : (r : ℕ) (ctrl : Bool) → (r ≡ BAD_STATE → ⊥) → ctrl ≡ true → (r ≡ BAD_STATE) ↔ IsFalse ctrl
 no_state_refused r ctrl apart well = (λ e. absurd (apart e), λ off. (let lost : true ≡ false = sym well ∙ off in cc lost))
+
+pub no_slots_refused : (r : ℕ) (ctrl slots : Bool) → (r ≡ BAD_ARGUMENT → ⊥) → slots ≡ true → (r ≡ BAD_ARGUMENT) ↔ (IsTrue ctrl × IsFalse slots)
+no_slots_refused r ctrl slots apart well = (λ e. absurd (apart e), λ h. (let lost : true ≡ false = sym well ∙ h.1 in cc lost))
 
 -- nor are flags
 pub no_flags : (r : ℕ) (ctrl : Bool) (F S M : Type 0) → ((r ≡ BAD_ARGUMENT) ↔ (IsTrue ctrl × (F ⊎ S))) → (M → ⊥) → (r ≡ BAD_ARGUMENT) ↔ (IsTrue ctrl × (F ⊎ (S ⊎ M)))

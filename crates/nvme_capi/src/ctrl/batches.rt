@@ -57,7 +57,7 @@ fn fetch_all(
 {
     let mut done = 0;
     for (entry, cookie) in entries.iter().zip(cookies) {
-        if !fetch_one(ctrl, slots, qid, entry, *cookie) {
+        if fetch_one(ctrl, slots, qid, entry, *cookie) != OK {
             break;
         }
         done += 1;
@@ -117,7 +117,7 @@ fn take_all(ctrl: &mut Controller, slots: &mut [Slot], commands: &mut [CommandFi
     ensures all { result < length commands.old → NoneToTake (with_slots ctrl.new slots.new) }
 {
     for (k, command) in commands.iter_mut().enumerate() {
-        if !take_one(ctrl, slots, command) {
+        if take_one(ctrl, slots, command) != OK {
             return k;
         }
     }
@@ -170,7 +170,7 @@ fn post_all(ctrl: &mut Controller, slots: &mut [Slot], cqid: u16, posts: &mut [P
     ensures generations { SameGenerations slots.old slots.new }
 {
     for (k, post) in posts.iter_mut().enumerate() {
-        if !post_one(ctrl, slots, cqid, post) {
+        if post_one(ctrl, slots, cqid, post) != OK {
             return k;
         }
     }

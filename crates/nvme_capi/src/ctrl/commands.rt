@@ -191,14 +191,15 @@ pub extern "C" fn nvmearb_ctrl_pick(
     }
 }
 
-/// The device takes the next picked command, which is written. False, which changes nothing, where all are taken.
-pub fn take_one(ctrl: &mut Controller, slots: &mut [Slot], command: &mut CommandFields) -> bool
+/// The device takes the next picked command, which is written. NOTHING where all are taken.
+pub fn take_one(ctrl: &mut Controller, slots: &mut [Slot], command: &mut CommandFields) -> u32
     ensures front { IsController ctrl.old slots.old → IsController ctrl.new slots.new }
     ensures depths { depths_of ctrl.new ≡ depths_of ctrl.old }
     ensures own { own_of ctrl.new ≡ own_of ctrl.old }
-    ensures taken { result ≡ true → TakesOne (with_slots ctrl.old slots.old) command.new (with_slots ctrl.new slots.new) }
-    ensures none { result ≡ false → NoneToTake (with_slots ctrl.old slots.old) }
-    ensures unchanged { result ≡ false → (ctrl.new ≡ ctrl.old) × ((slots.new ≡ slots.old) × (command.new ≡ command.old)) }
+    ensures answer { (result ≡ OK) ⊎ (result ≡ NOTHING) }
+    ensures taken { result ≡ OK → TakesOne (with_slots ctrl.old slots.old) command.new (with_slots ctrl.new slots.new) }
+    ensures none { result ≢ OK → NoneToTake (with_slots ctrl.old slots.old) }
+    ensures unchanged { result ≢ OK → (ctrl.new ≡ ctrl.old) × ((slots.new ≡ slots.old) × (command.new ≡ command.old)) }
 {
     match ctrl.take(slots) {
         Some(slot) => {
@@ -207,9 +208,9 @@ pub fn take_one(ctrl: &mut Controller, slots: &mut [Slot], command: &mut Command
                 cookie: ctrl.cookie(slots, slot),
                 tag: Tag::at(slots, slot).number(),
             };
-            true
+            OK
         }
-        None => false,
+        None => NOTHING,
     }
 }
 
@@ -241,11 +242,7 @@ pub extern "C" fn nvmearb_ctrl_take(
     if !has_slots(state, slots) {
         return BAD_ARGUMENT;
     }
-    if take_one(&mut state.ctrl, slots, command) {
-        OK
-    } else {
-        NOTHING
-    }
+    take_one(&mut state.ctrl, slots, command)
 }
 
 // The device answers the command of a tag with flags.
@@ -366,24 +363,24 @@ fn fields_of_post(it: &Post, tag: Tag) -> PostFields
     }
 }
 
-/// Writes the completion that became ready first in an open completion queue. False, which changes nothing, where none
-/// may be posted.
-pub fn post_one(ctrl: &mut Controller, slots: &mut [Slot], cqid: u16, post: &mut PostFields) -> bool
+/// Writes the completion that became ready first in an open completion queue. NOTHING where none may be posted.
+pub fn post_one(ctrl: &mut Controller, slots: &mut [Slot], cqid: u16, post: &mut PostFields) -> u32
     ensures front { IsController ctrl.old slots.old → IsController ctrl.new slots.new }
     ensures depths { depths_of ctrl.new ≡ depths_of ctrl.old }
     ensures own { own_of ctrl.new ≡ own_of ctrl.old }
-    ensures posted { result ≡ true → PostsOne cqid (with_slots ctrl.old slots.old) post.new (with_slots ctrl.new slots.new) }
-    ensures none { result ≡ false → NoneToPost cqid (with_slots ctrl.old slots.old) }
+    ensures answer { (result ≡ OK) ⊎ (result ≡ NOTHING) }
+    ensures posted { result ≡ OK → PostsOne cqid (with_slots ctrl.old slots.old) post.new (with_slots ctrl.new slots.new) }
+    ensures none { result ≢ OK → NoneToPost cqid (with_slots ctrl.old slots.old) }
     ensures generations { SameGenerations slots.old slots.new }
-    ensures unchanged { result ≡ false → (ctrl.new ≡ ctrl.old) × ((slots.new ≡ slots.old) × (post.new ≡ post.old)) }
+    ensures unchanged { result ≢ OK → (ctrl.new ≡ ctrl.old) × ((slots.new ≡ slots.old) × (post.new ≡ post.old)) }
 {
     match ctrl.post(slots, cqid) {
         Some(it) => {
             // (a slot that is freed keeps its generation)
             *post = fields_of_post(&it, Tag::at(slots, it.tag));
-            true
+            OK
         }
-        None => false,
+        None => NOTHING,
     }
 }
 
@@ -417,11 +414,7 @@ pub extern "C" fn nvmearb_ctrl_post(
     if !has_slots(state, slots) {
         return BAD_ARGUMENT;
     }
-    if post_one(&mut state.ctrl, slots, cqid, post) {
-        OK
-    } else {
-        NOTHING
-    }
+    post_one(&mut state.ctrl, slots, cqid, post)
 }
 
 /// Finishes a deletion, if all completions of its queue are posted, and writes the identifier of the queue. Of several

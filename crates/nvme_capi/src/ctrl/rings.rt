@@ -1,5 +1,5 @@
 // The rings of a controller of C: doorbells and fetches.
-ghost use Rattle.std.specs.Prelude.{◌≡◌, ◌≢◌, ◌⊎◌, ◌↔◌, ℕ, Bool, true, false, List, length, None, IsTrue, IsFalse};
+ghost use Rattle.std.specs.Prelude.{◌≡◌, ◌≢◌, ◌⊎◌, ◌↔◌, ℕ, Bool, List, length, None, IsTrue, IsFalse};
 ghost use Rattle.nvme_entry.specs.Submission.{IsSubmissionEntry};
 ghost use Rattle.nvme_entry.specs.declared.submission.Sqe.{Sqe};
 ghost use Rattle.nvme_log.specs.Rules.{FrontRules};
@@ -99,24 +99,29 @@ pub extern "C" fn nvmearb_ctrl_fetch(state: &CtrlState, qid: u16, slot: &mut u16
     }
 }
 
-/// The entry was read that is to be fetched next. False, which changes nothing, where none is.
+/// The entry was read that is to be fetched next. NOTHING where none is.
 pub fn fetch_one(
     ctrl: &mut Controller,
     slots: &mut [Slot],
     qid: u16,
     bytes: &[u8; 64],
     cookie: u32,
-) -> bool
+) -> u32
     ensures front { IsController ctrl.old slots.old → IsController ctrl.new slots.new }
     ensures depths { depths_of ctrl.new ≡ depths_of ctrl.old }
     ensures own { own_of ctrl.new ≡ own_of ctrl.old }
-    ensures fetched { result ≡ true → FetchesOne qid (with_slots ctrl.old slots.old) (bytes.now, cookie) (with_slots ctrl.new slots.new) }
-    ensures none { result ≡ false → NoneToFetch qid (with_slots ctrl.old slots.old) }
+    ensures answer { (result ≡ OK) ⊎ (result ≡ NOTHING) }
+    ensures fetched { result ≡ OK → FetchesOne qid (with_slots ctrl.old slots.old) (bytes.now, cookie) (with_slots ctrl.new slots.new) }
+    ensures none { result ≢ OK → NoneToFetch qid (with_slots ctrl.old slots.old) }
     ensures generations { SameGenerations slots.old slots.new }
-    ensures unchanged { result ≡ false → (ctrl.new ≡ ctrl.old) × (slots.new ≡ slots.old) }
+    ensures unchanged { result ≢ OK → (ctrl.new ≡ ctrl.old) × (slots.new ≡ slots.old) }
 {
     submission_layout_is_exact();
-    ctrl.fetched(slots, qid, &Sqe::from_bytes(bytes), cookie)
+    if ctrl.fetched(slots, qid, &Sqe::from_bytes(bytes), cookie) {
+        OK
+    } else {
+        NOTHING
+    }
 }
 
 /// The entry was read that `nvmearb_ctrl_fetch` told. Its command waits then, and the cookie is kept with it.
@@ -146,9 +151,5 @@ pub extern "C" fn nvmearb_ctrl_fetched(
     if !has_slots(state, slots) {
         return BAD_ARGUMENT;
     }
-    if fetch_one(&mut state.ctrl, slots, qid, bytes, cookie) {
-        OK
-    } else {
-        NOTHING
-    }
+    fetch_one(&mut state.ctrl, slots, qid, bytes, cookie)
 }

@@ -26,7 +26,7 @@ loop-entry-preserved c =
       depths = c.fetch_one.ensures.depths ∙ c.loop-entry.invariant.depths;
       own = c.fetch_one.ensures.own ∙ c.loop-entry.invariant.own;
       each = each_read (FetchesOne c.args.qid) (zip c.args.entries.now c.args.cookies.now) c.loop-entry.done (c.in-Some.entry.now, c.in-Some.cookie.now) (with_slots c.args.ctrl.now c.args.slots.now) (with_slots c.loop-entry.ctrl c.loop-entry.slots) (with_slots c.fetch_one.new.ctrl c.fetch_one.new.slots)
-          within is c.loop-entry.invariant.each (c.fetch_one.ensures.fetched c.if-not-fetch_one.false);
+          within is c.loop-entry.invariant.each (c.fetch_one.ensures.fetched c.if-fetch_one-ne-OK.false);
       generations = λ x. c.fetch_one.ensures.generations x ∙ c.loop-entry.invariant.generations x;
     }
 
@@ -37,10 +37,10 @@ returns-in-None-clause-all c = λ less.
     let end = zip_end c.args.entries.now c.args.cookies.now c.loop-entry.yielded c.into_iter-entry-iterator.result c.loop-entry.entry-iterator c.next.new.self c.next.result entries cookies c.loop-entry.yielded_by c.in-None.is c.next.ensures.steps in
     absurd (omega (arith, end, length-zip c.args.entries.now c.args.cookies.now, c.loop-entry.invariant.done))
 
-pub returns-then-not-fetch_one-clause-front : goal.returns-then-not-fetch_one-clause-front
-returns-then-not-fetch_one-clause-front c = λ it. c.fetch_one.ensures.front (c.loop-entry.invariant.front it)
+pub returns-then-fetch_one-ne-OK-clause-front : goal.returns-then-fetch_one-ne-OK-clause-front
+returns-then-fetch_one-ne-OK-clause-front c = λ it. c.fetch_one.ensures.front (c.loop-entry.invariant.front it)
 
-pub returns-then-not-fetch_one-clause-all : goal.returns-then-not-fetch_one-clause-all
-returns-then-not-fetch_one-clause-all c = λ _.
-    let same = c.fetch_one.ensures.unchanged c.if-not-fetch_one.true in
-    subst (NoneToFetch c.args.qid) (λ i. with_slots (sym same.0 i) (sym same.1 i)) (c.fetch_one.ensures.none c.if-not-fetch_one.true)
+pub returns-then-fetch_one-ne-OK-clause-all : goal.returns-then-fetch_one-ne-OK-clause-all
+returns-then-fetch_one-ne-OK-clause-all c = λ _.
+    let same = c.fetch_one.ensures.unchanged c.if-fetch_one-ne-OK.true in
+    subst (NoneToFetch c.args.qid) (λ i. with_slots (sym same.0 i) (sym same.1 i)) (c.fetch_one.ensures.none c.if-fetch_one-ne-OK.true)

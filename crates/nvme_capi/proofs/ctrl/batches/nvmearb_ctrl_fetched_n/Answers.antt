@@ -2,7 +2,7 @@ use Rattle.std.proofs.Common.{◌≡◌, ◌∙◌, ◌*◌, length, refl, sym, 
 use Rattle.std.specs.Prelude.{zip}
 use Rattle.nvme_capi.specs.Controllers.{is_ctrl, has_slots}
 use Rattle.nvme_capi.specs.Batches.{FetchesOne, NoneToFetch, with_slots}
-use Rattle.nvme_capi.proofs.Refusals.{not_told, no_state_refused, no_refusal}
+use Rattle.nvme_capi.proofs.Refusals.{not_told, not_ok, no_state_refused, no_refusal}
 use Rattle.nvme_capi.proofs.Repeats.{no_call, length_pairs}
 use Rattle.nvme_capi.proofs.ctrl.batches.nvmearb_ctrl_fetched_n.Goals as goal
 
@@ -22,7 +22,7 @@ returns-clause-all c = λ _ less. c.fetch_all.ensures.all (omega (arith, length_
 
 pub returns-clause-nothing : goal.returns-clause-nothing
 returns-clause-nothing c = λ nothing some.
-    let none = c.told.ensures.none (λ done. (let lost : 0 ≡ 1 = sym done ∙ nothing in cc lost)) in
+    let none = c.told.ensures.none (not_ok c.told.result nothing) in
     subst (NoneToFetch c.args.qid) (no_call (FetchesOne c.args.qid) (zip c.in-Some.entries.now c.args.cookies.now) c.fetch_all.result (with_slots c.args.state.now.ctrl c.args.slots.now) (with_slots c.fetch_all.new.ctrl c.fetch_all.new.slots) none c.fetch_all.ensures.each)
     (c.fetch_all.ensures.all (omega (arith, length_pairs c.in-Some.entries.now c.args.cookies.now c.in-Some.ensures.many)))
 

@@ -1,5 +1,6 @@
-use Rattle.std.proofs.Common.{◌≡◌, ◌∙◌, sym, subst, arith}
+use Rattle.std.proofs.Common.{◌∙◌, sym, subst, arith}
 use Rattle.nvme_capi.specs.Batches.{PostsOne, NoneToPost, with_slots}
+use Rattle.nvme_capi.proofs.Refusals.{not_ok}
 use Rattle.nvme_capi.proofs.Repeats.{no_call, all_rest}
 use Rattle.nvme_capi.proofs.ctrl.batches.nvmearb_ctrl_post_n.Goals as goal
 
@@ -8,7 +9,7 @@ returns-clause-all c = λ _ less. c.post_all.ensures.all (omega arith)
 
 pub returns-clause-nothing : goal.returns-clause-nothing
 returns-clause-nothing c = λ nothing some.
-    let none = c.told.ensures.none (λ done. (let lost : 0 ≡ 1 = sym done ∙ nothing in cc lost)) in
+    let none = c.told.ensures.none (not_ok c.told.result nothing) in
     subst (NoneToPost c.args.cqid) (no_call (PostsOne c.args.cqid) c.post_all.new.posts c.post_all.result (with_slots c.args.state.now.ctrl c.args.slots.now) (with_slots c.post_all.new.ctrl c.post_all.new.slots) none c.post_all.ensures.each)
     (c.post_all.ensures.all (omega arith))
 

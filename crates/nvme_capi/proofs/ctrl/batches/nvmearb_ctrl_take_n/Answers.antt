@@ -1,5 +1,6 @@
-use Rattle.std.proofs.Common.{◌≡◌, ◌∙◌, sym, subst, arith}
+use Rattle.std.proofs.Common.{◌∙◌, sym, subst, arith}
 use Rattle.nvme_capi.specs.Batches.{TakesOne, NoneToTake, with_slots}
+use Rattle.nvme_capi.proofs.Refusals.{not_ok}
 use Rattle.nvme_capi.proofs.Repeats.{no_call, all_rest}
 use Rattle.nvme_capi.proofs.ctrl.batches.nvmearb_ctrl_take_n.Goals as goal
 
@@ -8,7 +9,7 @@ returns-clause-all c = λ _ less. c.take_all.ensures.all (omega arith)
 
 pub returns-clause-nothing : goal.returns-clause-nothing
 returns-clause-nothing c = λ nothing some.
-    let none = c.told.ensures.none (λ done. (let lost : 0 ≡ 1 = sym done ∙ nothing in cc lost)) in
+    let none = c.told.ensures.none (not_ok c.told.result nothing) in
     subst NoneToTake (no_call TakesOne c.take_all.new.commands c.take_all.result (with_slots c.args.state.now.ctrl c.args.slots.now) (with_slots c.take_all.new.ctrl c.take_all.new.slots) none c.take_all.ensures.each)
     (c.take_all.ensures.all (omega arith))
 

@@ -1,14 +1,20 @@
-use Rattle.std.proofs.Common.{◌∙◌, sym}
+use Rattle.std.proofs.Common.{◌∙◌, sym, arith}
+use Rattle.nvme_capi.specs.Controllers.{is_ctrl, has_slots}
+use Rattle.nvme_capi.proofs.Refusals.{not_told, not_ok, no_state_refused, no_slots_refused}
 use Rattle.nvme_capi.proofs.ctrl.commands.nvmearb_ctrl_post.Goals as goal
 
-pub returns-then-post_one-clause-stands : goal.returns-then-post_one-clause-stands
-returns-then-post_one-clause-stands c = λ rules late notes s _. (c.post_one.ensures.posted c.if-post_one.true).stands rules late notes s
+pub returns-clause-stands : goal.returns-clause-stands
+returns-clause-stands c = λ rules late notes s done. (c.post_one.ensures.posted done).stands rules late notes s
 
-pub returns-else-post_one-clause-nothing : goal.returns-else-post_one-clause-nothing
-returns-else-post_one-clause-nothing c = λ rules late notes s _. (c.post_one.ensures.none c.if-post_one.false).none_postable rules late notes s
+pub returns-clause-nothing : goal.returns-clause-nothing
+returns-clause-nothing c = λ rules late notes s nothing. (c.post_one.ensures.none (not_ok c.post_one.result nothing)).none_postable rules late notes s
 
-pub returns-then-post_one-clause-kept : goal.returns-then-post_one-clause-kept
-returns-then-post_one-clause-kept c = λ k. record { front = λ m n. c.post_one.ensures.front (k.front m (sym c.has_slots.ensures ∙ c.if-not-has_slots.false)) }
+pub returns-clause-bad_state : goal.returns-clause-bad_state
+returns-clause-bad_state c = no_state_refused c.post_one.result (is_ctrl c.args.state.now) (not_told c.post_one.result 3 c.post_one.ensures.answer (omega arith)) (sym c.is_ctrl.ensures ∙ c.if-not-is_ctrl.false)
 
-pub returns-else-post_one-clause-kept : goal.returns-else-post_one-clause-kept
-returns-else-post_one-clause-kept c = λ k. record { front = λ m n. c.post_one.ensures.front (k.front m (sym c.has_slots.ensures ∙ c.if-not-has_slots.false)) }
+pub returns-clause-bad_argument : goal.returns-clause-bad_argument
+returns-clause-bad_argument c =
+    no_slots_refused c.post_one.result (is_ctrl c.args.state.now) (has_slots c.args.state.now c.args.slots.now) (not_told c.post_one.result 2 c.post_one.ensures.answer (omega arith)) (sym c.has_slots.ensures ∙ c.if-not-has_slots.false)
+
+pub returns-clause-kept : goal.returns-clause-kept
+returns-clause-kept c = λ k. record { front = λ m n. c.post_one.ensures.front (k.front m (sym c.has_slots.ensures ∙ c.if-not-has_slots.false)) }
