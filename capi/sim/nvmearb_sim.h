@@ -13,7 +13,7 @@
  *   2. nvmearb_sim_init.
  *   3. nvmearb_sim_step while it returns NVMEARB_OK. After NVMEARB_SIM_STARTED, and before the next step,
  *      nvmearb_sim_serve may set how long the command runs, or put off its end until nvmearb_sim_end.
- *   4. nvmearb_sim_numbers, at any time.
+ *   4. nvmearb_sim_numbers_of, at any time.
  *
  * Times are whole picoseconds. Everything is a function of the configuration, the queues, and what the calls say. No
  * call allocates, reads a clock or keeps a pointer. The caller sees to what the head of nvmearb.h says of pointers and
@@ -163,8 +163,8 @@ uint32_t nvmearb_sim_verify(const nvmearb_sim *sim, size_t bytes);
  * For a loop with events of its own `until` is the time of the next one of these, included, and else UINT64_MAX. So at
  * one time the simulation goes first.
  * NVMEARB_NONE if nothing more happens up to `until`; otherwise NVMEARB_SIM_ELONG, NVMEARB_SIM_EMANY,
- * NVMEARB_SIM_EBROKEN. `happening` isn't written then. Each of these is a step too: it ends the time for
- * nvmearb_sim_serve.
+ * NVMEARB_SIM_EBROKEN. `happening` isn't written then. Each of these is a step too, after which nvmearb_sim_serve comes
+ * too late; but with an `until` before the time of the last happening nothing is done.
  */
 uint32_t nvmearb_sim_step(nvmearb_sim *sim, uint64_t until, nvmearb_sim_happening *happening);
 
@@ -198,8 +198,8 @@ uint32_t nvmearb_sim_end(nvmearb_sim *sim, uint32_t channel, uint64_t at);
  * NVMEARB_EARG if the queue is none of these, `came` is before the time of the last happening or of the queue's last such
  * command, the operation is none, or a read or write hasn't 1 to 65536 blocks within the namespace; otherwise
  * NVMEARB_NONE if none may come at that time, or any more (`until`, `commands`); otherwise NVMEARB_NOROOM if
- * `outstanding` commands came, or are to come by this call, and aren't done. Where `commands` have come before it, a
- * command that was taken doesn't come.
+ * `outstanding` commands came, or are to come by this call, and aren't done; otherwise as nvmearb_sim_step. Where
+ * `commands` have come before it, a command that was taken doesn't come.
  */
 uint32_t nvmearb_sim_come(nvmearb_sim *sim, const nvmearb_sim_command *command);
 

@@ -369,6 +369,8 @@ uint32_t nvmearb_sim_come(nvmearb_sim *sim, const nvmearb_sim_command *given)
     fault = sim_plan(sim, given->came, ARRIVAL, given->queue);
     for (uint32_t at = 0; at < sim->config.channels && fault == NVMEARB_OK; at++)
         fault = plan_pause_again(sim, at);
+    if (fault != NVMEARB_OK)
+        sim->fault = fault;
     return fault;
 }
 
