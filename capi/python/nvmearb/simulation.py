@@ -1,8 +1,8 @@
 # SPDX-License-Identifier: MIT
 """A controller in virtual time, by step: hosts whose commands come at random times or as a test hands them in, the proved
 controller, and a device of channels, whose services a test may set. It is what `nvmearb simulate` does, over the library
-libnvmearb_sim, which stands beside libnvmearb. The header nvmearb_sim.h tells what each call does. Times are whole
-picoseconds.
+libnvmearb_sim, which stands beside libnvmearb and isn't proved but for the controller. The header nvmearb_sim.h tells what
+each call does. Times are whole picoseconds.
 
 >>> queues = [Queue(closed(8), read=exponential(80 * US), priority=it) for it in (Priority.HIGH, Priority.LOW)]
 >>> done = Simulation(Model(queues, channels=4, cdw11=0x07000000, commands=1000)).run()  # weights: high 8, low 1
