@@ -31,9 +31,10 @@ use Rattle.nvme_ctrl.specs.kept.Content.{Content, CqContent, Ready}
 use Rattle.nvme_ctrl.specs.kept.Standing.{Holds, IsReady, answer_in}
 use Rattle.nvme_ctrl.specs.inside.Steps.{done}
 use Rattle.nvme_ctrl.specs.kept.Kept.{Item, ReadyItem, Items, IsWaitingIn, IsOutIn, IsReadyIn, IsSqOf, IsCqOf, IsAmongOuts, HasNumbers, HasItems, HoldsDoorbells, HoldsTags, IsThrough, IsUnanswered, HasCookie, HasReadyCookie, HasFlags, HasEntry, StandsAt, tags_of, places_of, ready_tags, readies_of, untaken, is_free, IsDevices, IsReadyOf, DeleteItem}
-use Rattle.nvme_ctrl.specs.kept.Pool.{slot_at, item_at, put_item, bit, flags_in, IsChain, IsNew, AreApart, SameItems, SameLinks}
+use Rattle.nvme_ctrl.specs.kept.Pool.{slot_at, item_at, put_item, bit, flags_in, IsChain, IsNew, AreApart}
 use Rattle.nvme_ctrl.specs.kept.State.{no_cq_state, sq_at, cq_at}
 use Rattle.nvme_ctrl.proofs.Passed.{held_is_devices, devices_passed}
+use Rattle.nvme_ctrl.proofs.Chains.{IsPushed}
 use Rattle.nvme_ctrl.proofs.Cookies.{SameCookies, same_cookies-but, cookie_left, items_left, readies_left}
 use Rattle.nvme_ctrl.proofs.Pools.{length-put_item, item_at-put_item_same, item_at-put_item_other, chain-put_item, chain-other, length-apart, AreApart-others, IsNew-others}
 use Rattle.nvme_ctrl.proofs.PutFlags.{put_flags}
@@ -83,12 +84,6 @@ answered_controller c q chain = record c { cqs = slice_set c.cqs q (answered_cq 
 
 abbrev ready_item : Item → (sqid : ℕ) → Answer → StatusFlags → ReadyItem
 ready_item it sqid answer flags = record { tag = it.tag; ready = done sqid it.place it.entry.cid answer; was_out = true; flags = flags }
-
--- what a push of a slot to a chain of a pool made
-pub record IsPushed (slots : List Slot) (old : Chain) (tag : ℕ) (new : List Slot) (longer : Chain) : Type 0 where
-  pub items : SameItems slots new
-  pub links : (xs : List ℕ) → IsChain slots old xs → SameLinks xs slots new
-  pub chain : (xs : List ℕ) → IsChain slots old xs → tag < length slots → IsNew tag xs → length xs + 1 < 2 ^ 16 → IsChain new longer (xs ++ tag ∷ [])
 
 -- a command that the device has is answered
 module _ (rules : FrontRules) (late : Bool) (notes : Notes) (c : Controller) (slots : List Slot) (k : Content) (g : Items)

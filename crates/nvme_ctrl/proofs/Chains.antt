@@ -1,14 +1,14 @@
 -- What the steps of a chain leave: a slot behind the others, and the others where one was taken out.
-use Rattle.std.proofs.Common.{◌≡◌, ◌≢◌, ℕ, zero, suc, ◌+◌, ◌-◌, ◌<◌, ◌==◌, if◌then◌else◌, Bool, true, false, List, [], ◌∷◌, ◌++◌, length, drop, Some, None, refl, sym, ap, ◌∙◌, subst, arith}
+use Rattle.std.proofs.Common.{◌≡◌, ◌≢◌, ℕ, zero, suc, ◌+◌, ◌-◌, ◌<◌, ◌==◌, if◌then◌else◌, Bool, true, false, List, [], ◌∷◌, ◌++◌, length, drop, Some, None, refl, sym, ap, ◌∙◌, subst, arith, inl, inr}
 use Rattle.std.specs.List.{All}
-use Rattle.std.specs.Prelude.{option_map, slice_get}
-use Rattle.std.proofs.lemmas.Bool.{eq-eqb, ne_eqb}
+use Rattle.std.specs.Prelude.{◌^◌, option_map, slice_get}
+use Rattle.std.proofs.lemmas.Bool.{cases_eq, eq-eqb, ne_eqb}
 use Rattle.std.proofs.lemmas.Option.{same_Some}
 use Rattle.std.proofs.lemmas.List.{length-append, drop_more, nil_from_length}
 use Rattle.std.proofs.lemmas.List.Elements.{All-nil, All-cons, All-head, All-tail, All-push, All-weaker}
 use Rattle.nvme_ctrl.specs.declared.slot.Slot.{Slot}
 use Rattle.nvme_ctrl.specs.declared.chain.Chain.{Chain}
-use Rattle.nvme_ctrl.specs.kept.Pool.{slot_at, next_at, put_next, IsNew, AreApart, AreLinked, IsChain, SameLinks, named_in, without_named, found_in}
+use Rattle.nvme_ctrl.specs.kept.Pool.{slot_at, next_at, put_next, pushed, longer, first_of, shorter, IsNew, AreApart, AreLinked, IsChain, SameItems, SameLinks, named_in, without_named, found_in}
 use Rattle.nvme_ctrl.proofs.Pools.{All-without, AreApart-without, length-put_next, next_at-put_next_same, next_at-put_next_other, AreApart-push, linked-head, linked-tail, linked-last, linked-same}
 
 -- ---- a slot behind the others
@@ -59,6 +59,26 @@ last-links slots c (z ∷ zs) n h some y new =
     let other : c.last ≢ y = linked-last (λ (x : ℕ). x ≢ y) slots c.first c.last z zs new h.linked in
     next_at-put_next_other slots c.last n y (λ e. other (sym e))
 
+-- what a push of a slot to a chain of a pool made
+pub record IsPushed (slots : List Slot) (old : Chain) (tag : ℕ) (new : List Slot) (longer : Chain) : Type 0 where
+  pub items : SameItems slots new
+  pub links : (xs : List ℕ) → IsChain slots old xs → SameLinks xs slots new
+  pub chain : (xs : List ℕ) → IsChain slots old xs → tag < length slots → IsNew tag xs → length xs + 1 < 2 ^ 16 → IsChain new longer (xs ++ tag ∷ [])
+
+pub is_pushed : (slots new : List Slot) (c : Chain) (x : ℕ) → new ≡ pushed slots c x → SameItems slots new → IsPushed slots c x new (longer c x)
+is_pushed slots new c x is items = elim (cases_eq c.len 0) [
+  | inl none ↦ (let same : new ≡ slots = is ∙ rw none refl in record {
+      items = items;
+      links = λ xs h y other. ap (λ (p : List Slot). next_at p y) same;
+      chain = λ xs h within apart few. push-first slots new c xs x _ _ h none within same (rw none refl) (omega (arith, h.len_is, few));
+    })
+  | inr some ↦ (let put : new ≡ put_next slots c.last x = is ∙ rw (ne_eqb c.len 0 some) refl in record {
+      items = items;
+      links = λ xs h y other. ap (λ (p : List Slot). next_at p y) put ∙ last-links slots c xs x h some y other;
+      chain = λ xs h within apart few. push-behind slots new c xs x _ _ h some within apart put (rw (ne_eqb c.len 0 some) refl) (omega (arith, h.len_is, few));
+    })
+]
+
 -- ---- without the first one
 pub pop-rest : (slots : List Slot) (c : Chain) (x : ℕ) (xs : List ℕ) (m n : ℕ) → IsChain slots c (x ∷ xs) → m ≡ next_at slots c.first → n + 1 ≡ c.len
     → IsChain slots (record { first = m; last = c.last; len = n }) xs
@@ -69,6 +89,14 @@ pop-rest slots c x xs m n h next fewer = record {
   linked = subst (λ (f : ℕ). AreLinked slots f c.last xs) (sym (next ∙ ap (λ (y : ℕ). next_at slots y) (linked-head slots c.first c.last x xs h.linked)))
       (linked-tail slots c.first c.last x xs h.linked);
 }
+
+-- what a pop takes, and leaves
+pub pop-first : (slots : List Slot) (c : Chain) (x : ℕ) (xs : List ℕ) → IsChain slots c (x ∷ xs) → first_of c ≡ Some x
+pop-first slots c x xs h = rw (ne_eqb c.len 0 (λ e. absurd (omega (arith, h.len_is, e)))) (ap (λ (n : ℕ). Some n) (linked-head slots c.first c.last x xs h.linked))
+
+pub pop-shorter : (slots : List Slot) (c : Chain) (x : ℕ) (xs : List ℕ) → IsChain slots c (x ∷ xs) → IsChain slots (shorter slots c) xs
+pop-shorter slots c x xs h =
+    rw (ne_eqb c.len 0 (λ e. absurd (omega (arith, h.len_is, e)))) (pop-rest slots c x xs (next_at slots c.first) (c.len - 1) h refl (omega (arith, h.len_is)))
 
 -- ---- one after the other
 -- the slot from which those behind some are linked comes after these

@@ -268,15 +268,15 @@ module _ (rules : FrontRules) (notes : Notes) (a : Controller) (slots : List Slo
   }
 
   -- they are dropped, and the deletion is pending
-  pub begun_deleting : (w b : Controller) (mid pool : List Slot) (board : BoardFields) (s : Slot) (pending : ℕ) → HasDropped rules notes (dropped counted qid region c) slots tag w mid
-      → board_of board ≡ record (board_of w.board) { queues = slice_set (board_of w.board).queues qid None } → board.arbiter ≡ w.board.arbiter → s ≡ slot_at mid tag
-      → pool ≡ put_item mid tag (record s { state = 6 }) → pending ≡ min (w.pending_deletions + 1) 65535
+  pub begun_deleting : (w b : Controller) (mid pool : List Slot) (board : BoardFields) (pending : ℕ) → HasDropped rules notes (dropped counted qid region c) slots tag w mid
+      → board_of board ≡ record (board_of w.board) { queues = slice_set (board_of w.board).queues qid None } → board.arbiter ≡ w.board.arbiter
+      → pool ≡ put_item mid tag (record (slot_at mid tag) { state = 6 }) → pending ≡ min (w.pending_deletions + 1) 65535
       → b ≡ record w { board = board; deletions = slice_set w.deletions qid (record { pending = 1; tag = tag }); pending_deletions = pending }
       → HasBegun rules notes (deleting k qid region c candidate) b pool
-  begun_deleting w b mid pool board s pending e closed arbiter s_is pool_is pending_is b_is =
+  begun_deleting w b mid pool board pending e closed arbiter pool_is pending_is b_is =
       subst (λ (z : Controller). HasBegun rules notes (deleting k qid region c candidate) z pool) (sym b_is)
       (subst (λ (z : List Slot). HasBegun rules notes (deleting k qid region c candidate) (record w { board = board; deletions = slice_set w.deletions qid (record { pending = 1; tag = tag }); pending_deletions = pending }) z)
-      (sym (pool_is ∙ ap (λ (z : Slot). put_item mid tag (record z { state = 6 })) s_is))
+      (sym pool_is)
       (subst (λ (z : Content). HasBegun rules notes (record z { board = now; deletion = put_deletion k.deletion region (Some (record { place = place_at 0 candidate.index; cid = candidate.entry.cid; qid = qid; region = region })) })
       (record w { board = board; deletions = slice_set w.deletions qid (record { pending = 1; tag = tag }); pending_deletions = pending }) (put_item mid tag (record (slot_at mid tag) { state = 6 })))
       (dropped_counted k qid region c count)

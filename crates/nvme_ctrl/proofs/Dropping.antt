@@ -14,7 +14,6 @@ use Rattle.nvme_log.specs.Places.{is_aborted}
 use Rattle.nvme_ctrl.specs.Tags.{answer_of, cookie_of}
 use Rattle.nvme_ctrl.specs.Notes.{Notes, logged}
 use Rattle.nvme_ctrl.specs.declared.slot.Slot.{Slot}
-use Rattle.nvme_ctrl.specs.declared.chain.Chain.{Chain}
 use Rattle.nvme_ctrl.specs.declared.state.SqState.{SqState}
 use Rattle.nvme_ctrl.specs.declared.state.Controller.{Controller}
 use Rattle.nvme_ctrl.specs.kept.Content.{Attachment, Candidate, Ready, SqContent, CqContent, Content, put_sq, put_cq, with_sq, with_ready}
@@ -22,9 +21,10 @@ use Rattle.nvme_ctrl.specs.inside.Steps.{aborted}
 use Rattle.nvme_ctrl.specs.kept.Kept.{is_passed_at, Item, Items, IsWaitingIn, IsOutIn, IsUnanswered, IsThrough, tags_of, candidate_of, IsCookie, HasCookie, IsUnflagged}
 use Rattle.nvme_ctrl.specs.inside.Loose.{IsLoose, Keeps, MakesReady, ended, with_item}
 use Rattle.nvme_ctrl.specs.inside.Carrying.{IsDroppable, oldest_dropped, item_dropped, dropped, HasDropped}
-use Rattle.nvme_ctrl.specs.kept.Pool.{no_entry, slot_at, item_at, IsChain, IsNew}
+use Rattle.nvme_ctrl.specs.kept.Pool.{no_entry, slot_at, item_at, first_of, shorter, IsChain, IsNew}
 use Rattle.nvme_ctrl.specs.kept.State.{sq_at}
 use Rattle.nvme_ctrl.proofs.CarriedOut.{none_picked_of}
+use Rattle.nvme_ctrl.proofs.Chains.{pop-first, pop-shorter}
 use Rattle.nvme_ctrl.proofs.Ending.{new_to_ready, loose_ended}
 use Rattle.nvme_ctrl.proofs.PendingDeletions.{deletes_apart}
 use Rattle.nvme_ctrl.proofs.Lives.{one_life}
@@ -87,10 +87,10 @@ loose_windowed slots g region rest y h new = record {
   by false r = h.windows r
 
 -- the first of those that wait is the first of the chain
-pub first_there : (rules : FrontRules) (notes : Notes) (a : Controller) (slots : List Slot) (k : Content) (g : Items) (qid region : ℕ) (s : SqState) (x : Item) (rest : List Item) → Keeps rules notes a slots k g
-    → k.sq_life qid ≡ Some region → g.windows region ≡ x ∷ rest → s ≡ sq_at a.sqs qid → IsChain slots s.window (x.tag ∷ tags_of rest)
-first_there rules notes a slots k g qid region s x rest h life is same =
-    subst (λ (z : SqState). IsChain slots z.window (x.tag ∷ tags_of rest)) (sym same)
+pub first_there : (rules : FrontRules) (notes : Notes) (a : Controller) (slots : List Slot) (k : Content) (g : Items) (qid region : ℕ) (x : Item) (rest : List Item) → Keeps rules notes a slots k g
+    → k.sq_life qid ≡ Some region → g.windows region ≡ x ∷ rest → first_of (sq_at a.sqs qid).window ≡ Some x.tag
+first_there rules notes a slots k g qid region x rest h life is =
+    pop-first slots (sq_at a.sqs qid).window x.tag (tags_of rest)
     (subst (λ (its : List Item). IsChain slots (sq_at a.sqs qid).window (tags_of its)) is (h.has.window_chain qid region life))
 
 -- ---- the oldest candidate
@@ -136,11 +136,11 @@ module _ (rules : FrontRules) (notes : Notes) (a : Controller) (slots : List Slo
       (subst (All (λ (z : Candidate). is_aborted (logged notes) region z.index ≡ true)) window_is d.are_aborted))
 
   -- it is dropped
-  pub keeps_dropped : (sq : SqState) (chain : Chain) (m b : Controller) (pool : List Slot) (tag : ℕ) → sq ≡ sq_at a.sqs qid → IsChain slots chain (tags_of rest)
-      → m ≡ record a { sqs = slice_set a.sqs qid (record sq { window = chain }) } → tag ≡ x.tag → KeepsDrop m slots tag sq.cqid b pool
+  pub keeps_dropped : (m b : Controller) (pool : List Slot) (tag cqid : ℕ) → m ≡ record a { sqs = slice_set a.sqs qid (record (sq_at a.sqs qid) { window = shorter slots (sq_at a.sqs qid).window }) }
+      → tag ≡ x.tag → cqid ≡ (sq_at m.sqs qid).cqid → KeepsDrop m slots tag cqid b pool
       → Keeps rules notes b pool (oldest_dropped k qid region c x rest) (item_dropped g qid region c x rest)
-  keeps_dropped sq chain m b pool tag sq_is linked m_is tag_is drops =
-      subst (λ (z : ℕ). KeepsDrop m slots z sq.cqid b pool) tag_is drops rules notes mid (with_window g region rest) t keeps loose made is_through cookie (sym (rw d.io refl)) unflagged c to
+  keeps_dropped m b pool tag cqid m_is tag_is cqid_is drops =
+      subst (λ (z : ℕ). KeepsDrop m slots z cqid b pool) tag_is drops rules notes mid (with_window g region rest) t keeps loose made is_through cookie (sym (rw d.io refl)) unflagged c to
       (h.numbers.sq_ids.ids_are qid region d.there) where
         t : Ready
         t = aborted qid region (candidate_of x)
@@ -149,19 +149,18 @@ module _ (rules : FrontRules) (notes : Notes) (a : Controller) (slots : List Slo
         mid = with_sq k region (record (k.sq region) { window = map candidate_of rest })
 
         s : SqState
-        s = record (sq_at a.sqs qid) { window = chain }
-
-        to : k.cq_life sq.cqid ≡ Some c
-        to = ap (λ (z : SqState). k.cq_life z.cqid) sq_is ∙ posts_to rules notes a slots k g qid region c h d.there d.attached
+        s = record (sq_at a.sqs qid) { window = shorter slots (sq_at a.sqs qid).window }
 
         keeps : Keeps rules notes m slots mid (with_window g region rest)
         keeps =
-            subst (λ (z : Controller). Keeps rules notes z slots mid (with_window g region rest))
-            (sym (m_is ∙ ap (λ (z : SqState). record a { sqs = slice_set a.sqs qid (record z { window = chain }) }) sq_is))
+            subst (λ (z : Controller). Keeps rules notes z slots mid (with_window g region rest)) (sym m_is)
             (keeps_windowed rules notes a slots k g h none qid region d.there s (record (k.sq region) { window = map candidate_of rest }) rest slots k.held k.classed (h.numbers.sqs qid region d.there).held (λ z other. refl)
-            (record { size = refl; items = λ z. refl }) (λ z new. refl) refl refl refl (h.numbers.sqs qid region d.there).unposted refl linked (All-tail (IsWaitingIn slots qid region) x rest waits) refl
+            (record { size = refl; items = λ z. refl }) (λ z new. refl) refl refl refl (h.numbers.sqs qid region d.there).unposted refl (pop-shorter slots (sq_at a.sqs qid).window x.tag (tags_of rest) oldest_chain) (All-tail (IsWaitingIn slots qid region) x rest waits) refl
             (All-tail (λ (it : Item). IsUnanswered notes it.place) x rest (subst (All (λ (it : Item). IsUnanswered notes it.place)) is (h.tags.windows_unanswered region)))
             (All-tail (HasCookie notes slots) x rest cookies))
+
+        to : k.cq_life cqid ≡ Some c
+        to = ap k.cq_life cqid_is ∙ posts_to rules notes m slots mid (with_window g region rest) qid region c keeps d.there (rw (eq-eqb region region refl) d.attached)
 
         made : MakesReady slots x.tag 5 aborted_by_deletion 0 t
         made = record {

@@ -24,6 +24,7 @@ use Rattle.nvme_ctrl.specs.kept.Kept.{is_passed_at, IsReadyOf, Item, ReadyItem, 
 use Rattle.nvme_ctrl.specs.inside.Loose.{IsLoose, AreReadiesApart, Keeps, MakesReady, ended, with_item}
 use Rattle.nvme_ctrl.specs.kept.Pool.{slot_at, item_at, next_at, put_item, bit, flags_in, IsChain, IsNew, SameItems, SameLinks}
 use Rattle.nvme_ctrl.specs.kept.State.{no_cq_state, cq_at}
+use Rattle.nvme_ctrl.proofs.Chains.{IsPushed}
 use Rattle.nvme_ctrl.proofs.Cookies.{SameCookies, same_cookies-but, cookie_left, items_left, readies_left}
 use Rattle.nvme_ctrl.proofs.Lives.{put_cq-lives, put_cq-states}
 use Rattle.nvme_ctrl.proofs.PendingDeletions.{deletions_stay}
@@ -291,40 +292,36 @@ loose_ended slots pool g tag region t y size others differ loose =
 -- ---- as a slot is put, and pushed
 -- all is kept where its answer was put into the slot, and the slot pushed onto the chain of a completion queue
 pub keeps_end : (rules : FrontRules) (notes : Notes) (a b : Controller) (slots mid pool : List Slot) (k : Content) (g : Items) (t : Ready) (tag state cqid dw0 : ℕ) (status : StatusCode)
-    (s : Slot) (cq : CqState) (chain : Chain) → Keeps rules notes a slots k g
-    → s ≡ slot_at slots tag → mid ≡ put_item slots tag (record s { state = state; sct = status.sct; sc = status.sc; dw0 = dw0; more = bit (own_flags status).more; do_not_retry = bit (own_flags status).do_not_retry }) → cq ≡ cq_at a.cqs cqid
-    → ((xs : List ℕ) → IsChain mid cq.ready xs → tag < length mid → IsNew tag xs → length xs + 1 < 2 ^ 16 → IsChain pool chain (xs ++ tag ∷ []))
-    → SameItems mid pool → ((xs : List ℕ) → IsChain mid cq.ready xs → SameLinks xs mid pool)
-    → b ≡ record a { cqs = slice_set a.cqs cqid (record cq { ready = chain }); readied = with_queue a.readied cqid true } → status.sct < 8
+    (chain : Chain) → Keeps rules notes a slots k g
+    → mid ≡ put_item slots tag (record (slot_at slots tag) { state = state; sct = status.sct; sc = status.sc; dw0 = dw0; more = bit (own_flags status).more; do_not_retry = bit (own_flags status).do_not_retry })
+    → IsPushed mid (cq_at a.cqs cqid).ready tag pool chain → b ≡ record a { cqs = slice_set a.cqs cqid (record (cq_at a.cqs cqid) { ready = chain }); readied = with_queue a.readied cqid true } → status.sct < 8
     → IsLoose slots g tag → MakesReady slots tag state status dw0 t → IsThrough notes t → IsCookie notes slots tag t.place → t.passed ≡ is_passed_at notes t.place → IsUnflagged notes t.place
     → (region : ℕ) → k.cq_life cqid ≡ Some region → k.sq_id t.place.region ≡ Some t.sqid
     → Keeps rules notes b pool (with_ready k region t) (with_item g region (ended tag t))
-keeps_end rules notes a b slots mid pool k g t tag state cqid dw0 status s cq chain h slot_is put cq_is pushes same links is few loose makes through cookie passed_as unflagged region life of_queue =
-    subst (λ (c : Controller). Keeps rules notes c pool (with_ready k region t) (with_item g region (ended tag t)))
-    (sym (is ∙ ap (λ (c : CqState). record a { cqs = slice_set a.cqs cqid (record c { ready = chain }); readied = with_queue a.readied cqid true }) cq_is))
+keeps_end rules notes a b slots mid pool k g t tag state cqid dw0 status chain h put p is few loose makes through cookie passed_as unflagged region life of_queue =
+    subst (λ (c : Controller). Keeps rules notes c pool (with_ready k region t) (with_item g region (ended tag t))) (sym is)
     (keeps_ended rules notes a slots k g h tag loose cqid region life t through pool size others left chain
-    (pushes (ready_tags (g.readies region)) linked (subst (λ (n : ℕ). tag < n) (sym mid_size) loose.inside) (loose.readies region) room) ready
-    (same_cookies-but slots pool tag others (ap (λ (x : Slot). x.cookie) now ∙ ap (λ (x : Slot). x.cookie) slot_is)) cookie passed_as unflagged) where
+    (p.chain (ready_tags (g.readies region)) linked (subst (λ (n : ℕ). tag < n) (sym mid_size) loose.inside) (loose.readies region) room) ready
+    (same_cookies-but slots pool tag others (ap (λ (x : Slot). x.cookie) now)) cookie passed_as unflagged) where
       put_slot : Slot
-      put_slot = record s { state = state; sct = status.sct; sc = status.sc; dw0 = dw0; more = bit (own_flags status).more; do_not_retry = bit (own_flags status).do_not_retry }
+      put_slot = record (slot_at slots tag) { state = state; sct = status.sct; sc = status.sc; dw0 = dw0; more = bit (own_flags status).more; do_not_retry = bit (own_flags status).do_not_retry }
 
       mid_size : length mid ≡ length slots
       mid_size = ap (λ (xs : List Slot). length xs) put ∙ length-put_item slots tag put_slot
 
       size : length pool ≡ length slots
-      size = same.size ∙ mid_size
+      size = p.items.size ∙ mid_size
 
       others : (y : ℕ) → y ≢ tag → item_at pool y ≡ item_at slots y
-      others y differ = same.items y ∙ ap (λ (xs : List Slot). item_at xs y) put ∙ item_at-put_item_other slots tag put_slot y differ
+      others y differ = p.items.items y ∙ ap (λ (xs : List Slot). item_at xs y) put ∙ item_at-put_item_other slots tag put_slot y differ
 
-      linked : IsChain mid cq.ready (ready_tags (g.readies region))
+      linked : IsChain mid (cq_at a.cqs cqid).ready (ready_tags (g.readies region))
       linked =
-          subst (λ (xs : List Slot). IsChain xs cq.ready (ready_tags (g.readies region))) (sym put)
-          (chain-put_item slots cq.ready (ready_tags (g.readies region)) tag put_slot
-          (subst (λ (c : CqState). IsChain slots c.ready (ready_tags (g.readies region))) (sym cq_is) (h.has.ready_chain cqid region life)))
+          subst (λ (xs : List Slot). IsChain xs (cq_at a.cqs cqid).ready (ready_tags (g.readies region))) (sym put)
+          (chain-put_item slots (cq_at a.cqs cqid).ready (ready_tags (g.readies region)) tag put_slot (h.has.ready_chain cqid region life))
 
       left : SameLinks (ready_tags (g.readies region)) slots pool
-      left x new = links (ready_tags (g.readies region)) linked x new ∙ ap (λ (xs : List Slot). next_at xs x) put ∙ next_at-put_item slots tag put_slot x
+      left x new = p.links (ready_tags (g.readies region)) linked x new ∙ ap (λ (xs : List Slot). next_at xs x) put ∙ next_at-put_item slots tag put_slot x
 
       -- the chain and the slot are no more than the pool
       room : length (ready_tags (g.readies region)) + 1 < 2 ^ 16
@@ -336,17 +333,17 @@ keeps_end rules notes a b slots mid pool k g t tag state cqid dw0 status s cq ch
           omega arith
 
       now : item_at pool tag ≡ record put_slot { next = 0 }
-      now = same.items tag ∙ ap (λ (xs : List Slot). item_at xs tag) put ∙ item_at-put_item_same slots tag put_slot loose.inside
+      now = p.items.items tag ∙ ap (λ (xs : List Slot). item_at xs tag) put ∙ item_at-put_item_same slots tag put_slot loose.inside
 
       slot_queue : (slot_at pool tag).sqid ≡ t.sqid
-      slot_queue = ap (λ (x : Slot). x.sqid) now ∙ ap (λ (x : Slot). x.sqid) slot_is ∙ makes.sqid
+      slot_queue = ap (λ (x : Slot). x.sqid) now ∙ makes.sqid
 
       ready : IsReadyIn k.sq_id pool (ended tag t)
       ready = record {
         state = ap (λ (x : Slot). x.state) now ∙ makes.state_is;
         queue = of_queue ∙ sym (ap (λ (n : ℕ). Some n) slot_queue);
         sqid = slot_queue;
-        cid = ap (λ (x : Slot). x.entry.cid) now ∙ ap (λ (x : Slot). x.entry.cid) slot_is ∙ makes.cid;
+        cid = ap (λ (x : Slot). x.entry.cid) now ∙ makes.cid;
         sct = ap (λ (x : Slot). x.sct) now ∙ ap (λ (x : StatusCode). x.sct) makes.status_is;
         few_types = subst (λ (n : ℕ). n < 8) (sym (ap (λ (x : Slot). x.sct) now)) few;
         sc = ap (λ (x : Slot). x.sc) now ∙ ap (λ (x : StatusCode). x.sc) makes.status_is;

@@ -14,7 +14,7 @@ pub struct Chain {
 
 impl Chain {
     ghost use Rattle.std.specs.Prelude.{◌≡◌, ℕ, ◌+◌, ◌<◌, ◌^◌, List, [], ◌∷◌, ◌++◌, length, slice_get, Some, None};
-    ghost use Rattle.nvme_ctrl.specs.kept.Pool.{IsChain, IsNew, SameItems, SameLinks, pushed, named_in, without_named, found_in};
+    ghost use Rattle.nvme_ctrl.specs.kept.Pool.{IsChain, IsNew, SameItems, SameLinks, pushed, longer, first_of, shorter, named_in, without_named, found_in};
     ghost use Rattle.nvme_ctrl.specs.declared.slot.Slot.{Slot};
 
     /// The chain of no slot.
@@ -32,6 +32,7 @@ impl Chain {
     /// Puts a slot behind the others.
     pub fn push(&mut self, slots: &mut [Slot], x: u16)
         ensures chain { (xs : List ℕ) → IsChain slots.old self.old xs → x < length slots.old → IsNew x xs → length xs + 1 < 2 ^ 16 → IsChain slots.new self.new (xs ++ x ∷ []) }
+        ensures value { self.new ≡ longer self.old x }
         ensures slots { slots.new ≡ pushed slots.old self.old x }
         ensures items { SameItems slots.old slots.new }
         ensures links { (xs : List ℕ) → IsChain slots.old self.old xs → SameLinks xs slots.old slots.new }
@@ -47,6 +48,8 @@ impl Chain {
 
     /// Takes the first slot out.
     pub fn pop(&mut self, slots: &[Slot]) -> Option<u16>
+        ensures first { result ≡ first_of self.old }
+        ensures value { self.new ≡ shorter slots.now self.old }
         ensures none { result ≡ None → self.new ≡ self.old }
         ensures empty { IsChain slots.now self.old [] → result ≡ None }
         ensures some { (x : ℕ) (rest : List ℕ) → IsChain slots.now self.old (x ∷ rest) → result ≡ Some x }

@@ -1,8 +1,8 @@
 // The commands that the device takes, and its answers. (tags: profile)
 use crate::queue_set::with_queue;
-use crate::slot::{ANSWERED, OUT, Slot, put_item, put_out, slot_at};
+use crate::slot::{ANSWERED, OUT, Slot, put_ended, put_out, slot_at};
 use crate::state::Controller;
-use crate::status_flags::{StatusFlags, bit};
+use crate::status_flags::StatusFlags;
 use nvme_entry::Status;
 
 /// What the device answers to a command.
@@ -42,10 +42,7 @@ impl Controller {
         if self.picked == 0 {
             return None;
         }
-        let qid = self.picked_qid;
-        let mut sq = self.sq(qid);
-        let tag = sq.window.pop(slots)?;
-        self.put_sq(qid, sq);
+        let tag = self.pop_window(slots, self.picked_qid)?;
         put_out(slots, tag);
         self.picked -= 1;
         Some(tag)
@@ -67,23 +64,16 @@ impl Controller {
         if slot.state != OUT {
             return false;
         }
-        put_item(
+        put_ended(
             slots,
             tag,
-            Slot {
-                state: ANSWERED,
-                sct: answer.status.sct,
-                sc: answer.status.sc,
-                dw0: answer.dw0,
-                more: bit(answer.flags.more),
-                do_not_retry: bit(answer.flags.do_not_retry),
-                ..slot
-            },
+            ANSWERED,
+            answer.status,
+            answer.dw0,
+            answer.flags,
         );
         let cqid = self.sq(u16::from(slot.sqid)).cqid;
-        let mut cq = self.cq(cqid);
-        cq.ready.push(slots, tag);
-        self.put_cq(cqid, cq);
+        self.push_ready(slots, cqid, tag);
         self.readied = with_queue(self.readied, cqid, true);
         true
     }

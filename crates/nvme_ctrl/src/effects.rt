@@ -6,9 +6,9 @@ ghost use Rattle.nvme_ctrl.specs.Making.{slots_asked};
 use crate::board_counts::{hide, show_empty, went};
 use crate::queue_set::with_queue;
 use crate::ring::Ring;
-use crate::slot::{DELETING, DROPPED, ENDED, Slot, put_item, slot_at};
+use crate::slot::{DELETING, DROPPED, ENDED, Slot, put_ended, put_state, slot_at};
 use crate::state::{Controller, CqState, Deletion, SqState};
-use crate::status_flags::{StatusFlags, bit};
+use crate::status_flags::StatusFlags;
 use nvme_admin::Effect;
 use nvme_arbiter::{Class, Settings};
 use nvme_entry::{AdminCommand, Sqe, Status, admin_of};
@@ -69,24 +69,9 @@ impl Controller {
         ensures generations { SameGenerations slots.old slots.new }
         ensures others { (y : ℕ) → y ≢ tag → item_at slots.new y ≡ item_at slots.old y }
     {
-        let slot = slot_at(slots, tag);
         let flags = StatusFlags::of(status);
-        put_item(
-            slots,
-            tag,
-            Slot {
-                state,
-                sct: status.sct,
-                sc: status.sc,
-                dw0,
-                more: bit(flags.more),
-                do_not_retry: bit(flags.do_not_retry),
-                ..slot
-            },
-        );
-        let mut cq = self.cq(cqid);
-        cq.ready.push(slots, tag);
-        self.put_cq(cqid, cq);
+        put_ended(slots, tag, state, status, dw0, flags);
+        self.push_ready(slots, cqid, tag);
         self.readied = with_queue(self.readied, cqid, true);
     }
 
@@ -145,15 +130,7 @@ impl Controller {
         self.put_sq(qid, sq);
         self.drop_window(slots, qid);
         hide(&mut self.board, qid);
-        let slot = slot_at(slots, tag);
-        put_item(
-            slots,
-            tag,
-            Slot {
-                state: DELETING,
-                ..slot
-            },
-        );
+        put_state(slots, tag, DELETING);
         self.put_deletion(qid, Deletion { pending: 1, tag });
         self.pending_deletions = self.pending_deletions.saturating_add(1);
     }
@@ -178,13 +155,11 @@ impl Controller {
         ensures generations { SameGenerations slots.old slots.new }
         ensures left { self.new ≡ record self.old { sqs = self.new.sqs; cqs = self.new.cqs; readied = self.new.readied } }
     {
-        let mut sq = self.sq(qid);
-        let Some(x) = sq.window.pop(slots) else {
+        let Some(x) = self.pop_window(slots, qid) else {
             return;
         };
-        self.put_sq(qid, sq);
         let status = Status::ABORTED_BY_DELETION;
-        self.end(slots, x, DROPPED, status, 0, sq.cqid);
+        self.end(slots, x, DROPPED, status, 0, self.sq(qid).cqid);
     }
 
     // Aborts the oldest waiting command with a command identifier in an open I/O submission queue. False, which changes

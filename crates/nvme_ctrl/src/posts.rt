@@ -1,6 +1,6 @@
 // The posts of a controller. (Base Specification, Completion Queue Entry, Phase Tag)
 use crate::queue_set::{has_queue, with_queue};
-use crate::slot::{DROPPED, Slot, put_free, slot_at};
+use crate::slot::{DROPPED, FREE, Slot, put_state, slot_at};
 use crate::state::{Controller, CqState};
 use crate::status_flags::StatusFlags;
 use nvme_entry::{Cqe, Status};
@@ -126,7 +126,7 @@ impl Controller {
         self.put_cq(cqid, cq);
         self.readied = with_queue(self.readied, cqid, cq.ready.len != 0);
         self.count_post(&command);
-        put_free(slots, post.tag);
+        put_state(slots, post.tag, FREE);
         self.free.push(slots, post.tag);
         Some(post)
     }

@@ -1,8 +1,8 @@
 // The slots of a pool, each of which holds a command from its fetch until its completion is posted.
-ghost use Rattle.std.specs.Prelude.{◌≡◌, ◌+◌, ◌%◌, slice_set};
-ghost use Rattle.nvme_ctrl.specs.kept.Pool.{slot_at, put_next, put_item};
+ghost use Rattle.std.specs.Prelude.{◌≡◌, ◌+◌, ◌<◌, ◌%◌, slice_set};
+ghost use Rattle.nvme_ctrl.specs.kept.Pool.{bit, slot_at, put_next, put_item};
 
-use crate::status_flags::StatusFlags;
+use crate::status_flags::{StatusFlags, bit};
 use nvme_entry::{Sqe, Status};
 
 /// Nothing is in the slot.
@@ -136,13 +136,37 @@ pub fn put_item(slots: &mut [Slot], x: u16, slot: Slot)
     put(slots, x, Slot { next, ..slot });
 }
 
-/// The slot is free, and holds what it held.
-pub fn put_free(slots: &mut [Slot], x: u16)
-    ensures { slots.new ≡ put_item slots.old x (record (slot_at slots.old x) { state = 0 }) }
+/// The slot is used for something else, and holds what it held.
+pub fn put_state(slots: &mut [Slot], x: u16, state: u8)
+    ensures { slots.new ≡ put_item slots.old x (record (slot_at slots.old x) { state = state }) }
 {
     let x = usize::from(x);
     if x < slots.len() {
-        slots[x].state = FREE;
+        slots[x].state = state;
+    }
+}
+
+/// The command of the slot ended with this completion.
+pub fn put_ended(
+    slots: &mut [Slot],
+    x: u16,
+    state: u8,
+    status: Status,
+    dw0: u32,
+    flags: StatusFlags,
+)
+    ensures slots { slots.new ≡ put_item slots.old x (record (slot_at slots.old x) { state = state; sct = status.sct; sc = status.sc; dw0 = dw0; more = bit flags.more; do_not_retry = bit flags.do_not_retry }) }
+    ensures few_types { status.sct < 8 }
+{
+    let x = usize::from(x);
+    if x < slots.len() {
+        let slot = &mut slots[x];
+        slot.state = state;
+        slot.sct = status.sct;
+        slot.sc = status.sc;
+        slot.dw0 = dw0;
+        slot.more = bit(flags.more);
+        slot.do_not_retry = bit(flags.do_not_retry);
     }
 }
 

@@ -5,6 +5,7 @@ ghost use Rattle.nvme_ctrl.specs.kept.State.{sq_at, cq_at, deletion_at};
 use crate::chain::Chain;
 use crate::own::OwnCommands;
 use crate::ring::Ring;
+use crate::slot::Slot;
 use nvme_admin::MAX_REGIONS;
 use nvme_arbiter::BoardFields;
 use nvme_placing::PlacedTable;
@@ -137,8 +138,9 @@ impl Deletion {
 }
 
 impl Controller {
-    ghost use Rattle.std.specs.Prelude.{◌≡◌, slice_set};
+    ghost use Rattle.std.specs.Prelude.{◌≡◌, None, slice_set};
     ghost use Rattle.nvme_ctrl.specs.Calls.{depth_of};
+    ghost use Rattle.nvme_ctrl.specs.kept.Pool.{SameItems, pushed, longer, first_of, shorter};
     ghost use Rattle.nvme_ctrl.specs.kept.State.{sq_at, cq_at, deletion_at, picked_in};
 
     /// The state of a submission queue.
@@ -182,6 +184,32 @@ impl Controller {
         let cqid = usize::from(cqid);
         if cqid < MAX_REGIONS {
             self.cqs[cqid] = state;
+        }
+    }
+
+    /// Takes the first slot out of the window of a submission queue.
+    pub(crate) fn pop_window(&mut self, slots: &[Slot], qid: u16) -> Option<u16>
+        ensures first { result ≡ first_of (sq_at self.old.sqs qid).window }
+        ensures none { result ≡ None → self.new ≡ self.old }
+        ensures put { self.new ≡ record self.old { sqs = slice_set self.old.sqs qid (record (sq_at self.old.sqs qid) { window = shorter slots.now (sq_at self.old.sqs qid).window }) } }
+    {
+        let qid = usize::from(qid);
+        if qid < MAX_REGIONS {
+            self.sqs[qid].window.pop(slots)
+        } else {
+            None
+        }
+    }
+
+    /// Puts a slot behind those that are ready in a completion queue.
+    pub(crate) fn push_ready(&mut self, slots: &mut [Slot], cqid: u16, tag: u16)
+        ensures put { self.new ≡ record self.old { cqs = slice_set self.old.cqs cqid (record (cq_at self.old.cqs cqid) { ready = longer (cq_at self.old.cqs cqid).ready tag }) } }
+        ensures slots { slots.new ≡ pushed slots.old (cq_at self.old.cqs cqid).ready tag }
+        ensures items { SameItems slots.old slots.new }
+    {
+        let cqid = usize::from(cqid);
+        if cqid < MAX_REGIONS {
+            self.cqs[cqid].ready.push(slots, tag);
         }
     }
 

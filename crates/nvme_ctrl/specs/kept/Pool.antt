@@ -1,5 +1,5 @@
 -- A pool of slots, and the chains that link them (profile).
-use Rattle.std.specs.Prelude.{◌≡◌, ◌≢◌, ℕ, ◌<◌, ◌==◌, Bool, if◌then◌else◌, List, [], ◌∷◌, length, get_or, slice_set, Option, Some, None}
+use Rattle.std.specs.Prelude.{◌≡◌, ◌≢◌, ℕ, ◌+◌, ◌-◌, ◌<◌, ◌==◌, min, Bool, if◌then◌else◌, List, [], ◌∷◌, length, get_or, slice_set, Option, Some, None}
 use Rattle.std.specs.List.{All}
 use Rattle.nvme_entry.specs.declared.submission.Sqe.{Sqe}
 use Rattle.nvme_ctrl.specs.declared.status_flags.StatusFlags.{StatusFlags}
@@ -79,6 +79,17 @@ pub record IsChain (slots : List Slot) (chain : Chain) (xs : List ℕ) : Type 0 
 -- the pool after a slot was pushed onto a chain
 abbrev pub pushed : List Slot → Chain → ℕ → List Slot
 pushed slots chain x = if chain.len == 0 then slots else put_next slots chain.last x
+
+-- and that chain
+abbrev pub longer : Chain → ℕ → Chain
+longer chain x = record { first = if chain.len == 0 then x else chain.first; last = x; len = min (chain.len + 1) 65535 }
+
+-- the first slot of a chain, and the chain without it
+abbrev pub first_of : Chain → Option ℕ
+first_of chain = if chain.len == 0 then None else Some chain.first
+
+abbrev pub shorter : List Slot → Chain → Chain
+shorter slots chain = if chain.len == 0 then chain else record chain { first = next_at slots chain.first; len = chain.len - 1 }
 
 -- the oldest slot of a chain whose command has an identifier, and the others
 abbrev pub named_in : List Slot → (cid : ℕ) → List ℕ → Option ℕ

@@ -1,35 +1,33 @@
-use Rattle.std.proofs.Common.{◌≡◌, true, arith, ap, ◌∙◌}
-use Rattle.nvme_entry.specs.Status.{StatusCode}
+use Rattle.std.proofs.Common.{◌≡◌, true, ap, ◌∙◌, refl}
+use Rattle.nvme_ctrl.specs.declared.state.Controller.{Controller}
 use Rattle.nvme_ctrl.specs.declared.status_flags.StatusFlags.{StatusFlags}
-use Rattle.nvme_ctrl.specs.declared.slot.Slot.{Slot}
-use Rattle.nvme_ctrl.specs.kept.Pool.{bit, put_item}
+use Rattle.nvme_ctrl.specs.kept.Pool.{slot_at, put_item, bit}
+use Rattle.nvme_ctrl.specs.kept.QueueSets.{with_queue}
+use Rattle.nvme_ctrl.specs.kept.State.{cq_at}
+use Rattle.nvme_ctrl.proofs.Chains.{is_pushed}
 use Rattle.nvme_ctrl.proofs.Ending.{keeps_end}
 use Rattle.nvme_ctrl.proofs.Generations.{left_both, put_left, items_left}
-use Rattle.nvme_ctrl.specs.declared.state.Controller.{Controller}
-use Rattle.nvme_ctrl.specs.kept.QueueSets.{with_queue}
 use Rattle.nvme_ctrl.proofs.state.Controller.end.Goals as goal
 
 pub returns-clause-kept : goal.returns-clause-kept
 returns-clause-kept c = λ rules notes k g t h loose makes through cookie passed_as unflagged x life of_queue.
-    let more_is = c.bit.ensures ∙ ap (λ (m : StatusFlags). bit m.more) c.of-flags.ensures in
-    let do_not_retry_is = c.bit-2.ensures ∙ ap (λ (m : StatusFlags). bit m.do_not_retry) c.of-flags.ensures in
     let readied : c.with_queue-self.result ≡ with_queue c.args.self.now.readied c.args.cqid true =
-    c.with_queue-self.ensures ∙ ap (λ (y : Controller). with_queue y.readied c.args.cqid true) c.put_cq.ensures in
-    keeps_end rules notes c.args.self.now (record c.put_cq.new.self { readied = c.with_queue-self.result }) c.args.slots.now c.put_item.new.slots c.push.new.slots k g t c.args.tag c.args.state c.args.cqid c.args.dw0 c.args.status
-    c.slot_at-slot.result c.cq-cq.result c.push.new.self h c.slot_at-slot.ensures
-    (c.put_item.ensures ∙ (λ j. put_item c.args.slots.now c.args.tag (record c.slot_at-slot.result {
+    c.with_queue-self.ensures ∙ ap (λ (y : Controller). with_queue y.readied c.args.cqid true) c.push_ready.ensures.put in
+    keeps_end rules notes c.args.self.now (record c.push_ready.new.self { readied = c.with_queue-self.result }) c.args.slots.now c.put_ended.new.slots c.push_ready.new.slots k g t c.args.tag c.args.state c.args.cqid c.args.dw0 c.args.status _ h
+    (c.put_ended.ensures.slots ∙ ap (λ (f : StatusFlags). put_item c.args.slots.now c.args.tag (record (slot_at c.args.slots.now c.args.tag) {
       state = c.args.state;
-      sct = (c.status.view_is j).sct;
-      sc = (c.status.view_is j).sc;
+      sct = c.args.status.sct;
+      sc = c.args.status.sc;
       dw0 = c.args.dw0;
-      more = more_is j;
-      do_not_retry = do_not_retry_is j;
-    })))
-    c.cq-cq.ensures c.push.ensures.chain c.push.ensures.items c.push.ensures.links (λ j. record (c.put_cq.ensures j) { readied = readied j })
-    (omega (arith, c.status.invariant, ap (λ (x : StatusCode). x.sct) c.status.view_is)) loose makes through cookie passed_as unflagged x life of_queue
+      more = bit f.more;
+      do_not_retry = bit f.do_not_retry;
+    })) c.of-flags.ensures)
+    (is_pushed c.put_ended.new.slots c.push_ready.new.slots (cq_at c.args.self.now.cqs c.args.cqid).ready c.args.tag c.push_ready.ensures.slots c.push_ready.ensures.items)
+    (λ j. record (c.push_ready.ensures.put j) { readied = readied j })
+    c.put_ended.ensures.few_types loose makes through cookie passed_as unflagged x life of_queue
 
 pub returns-clause-generations : goal.returns-clause-generations
 returns-clause-generations c =
-    left_both c.args.slots.now c.put_item.new.slots c.push.new.slots
-    (put_left c.args.slots.now c.put_item.new.slots c.args.tag _ c.put_item.ensures (ap (λ (s : Slot). s.generation) c.slot_at-slot.ensures))
-    (items_left c.put_item.new.slots c.push.new.slots c.push.ensures.items)
+    left_both c.args.slots.now c.put_ended.new.slots c.push_ready.new.slots
+    (put_left c.args.slots.now c.put_ended.new.slots c.args.tag _ c.put_ended.ensures.slots refl)
+    (items_left c.put_ended.new.slots c.push_ready.new.slots c.push_ready.ensures.items)

@@ -32,7 +32,7 @@ there c =
     postable c.args.self.now c.args.slots.now c.cq-cq.result c.in_ok-post.post
     (some_is_in c.args.self.now c.args.slots.now c.args.cqid c.in_ok-post.post (sym c.in_ok-post.was ∙ c.next_post.ensures.value) ∙ ap (post_in c.args.self.now c.args.slots.now) (sym c.cq-cq.ensures))
 
-done : (c : goal.After-slots-2-1) → HasDone c.cq-cq.result c.count_post.new.self.free c.args.slots.now c.put_free.new.slots c.in_ok-post.post.tag c.write.new.self c.push.new.self c.push.new.slots
+done : (c : goal.After-slots-2-1) → HasDone c.cq-cq.result c.count_post.new.self.free c.args.slots.now c.put_state.new.slots c.in_ok-post.post.tag c.write.new.self c.push.new.self c.push.new.slots
 done c = record {
   room = (there c).room;
   some = chain-some c.args.slots.now c.cq-cq.result (there c).some;
@@ -58,9 +58,9 @@ posted c rules late notes stands =
     let cqe : post.cqe ≡ completion_of self c.slot_at-command.result (old.phase == 1) =
     entry_by_command self slots old post (there c).post_is ∙ ap (λ (s : Slot). completion_of self s (old.phase == 1)) (sym c.slot_at-command.ensures) in
     let here : HasPosted rules late notes c.args.cqid old.ring.tail post.cqe c.slot_at-command.result.cookie (flags_in c.slot_at-command.result) (after c) c.push.new.slots =
-    steps_post rules late notes self (put_back c) c.count_post.new.self slots c.put_free.new.slots c.args.cqid post.tag old c.write.new.self
+    steps_post rules late notes self (put_back c) c.count_post.new.self slots c.put_state.new.slots c.args.cqid post.tag old c.write.new.self
     c.slot_at-command.result c.push.new.self c.push.new.slots post.cqe c.cq-cq.ensures c.slot_at-command.ensures cqe (λ j. record (c.put_cq.ensures j) { readied = readied j }) c.count_post.ensures
-    (c.put_free.ensures ∙ ap (λ (s : Slot). put_item slots post.tag (record s { state = 0 })) (sym c.slot_at-command.ensures)) (done c) stands in
+    (c.put_state.ensures ∙ ap (λ (s : Slot). put_item slots post.tag (record s { state = 0 })) (sym c.slot_at-command.ensures)) (done c) stands in
     subst (λ (p : Post). HasPosted rules late notes c.args.cqid p.slot p.cqe p.cookie p.flags (after c) c.push.new.slots) (sym (by_command self slots old post (there c).post_is))
     (subst (λ (s : Slot). HasPosted rules late notes c.args.cqid old.ring.tail post.cqe s.cookie (flags_in s) (after c) c.push.new.slots) c.slot_at-command.ensures here)
 
@@ -81,6 +81,6 @@ returns-in_err-post-clause-told c rules late notes stands none x is =
 
 pub returns-clause-generations : goal.returns-clause-generations
 returns-clause-generations c =
-    left_both c.args.slots.now c.put_free.new.slots c.push.new.slots
-    (put_left c.args.slots.now c.put_free.new.slots c.in_ok-post.post.tag _ c.put_free.ensures refl)
-    (items_left c.put_free.new.slots c.push.new.slots c.push.ensures.items)
+    left_both c.args.slots.now c.put_state.new.slots c.push.new.slots
+    (put_left c.args.slots.now c.put_state.new.slots c.in_ok-post.post.tag _ c.put_state.ensures refl)
+    (items_left c.put_state.new.slots c.push.new.slots c.push.ensures.items)

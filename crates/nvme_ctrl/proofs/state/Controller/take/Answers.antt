@@ -1,14 +1,14 @@
 -- What was popped is the oldest picked command, which is taken then.
-use Rattle.std.proofs.Common.{◌≡◌, ℕ, ◌-◌, List, ◌∷◌, None, refl, sym, ap, subst, ◌∙◌}
-use Rattle.std.specs.Prelude.{slice_set}
+use Rattle.std.proofs.Common.{◌≡◌, ℕ, ◌-◌, List, ◌∷◌, Some, None, refl, sym, subst, ◌∙◌}
 use Rattle.nvme_ctrl.specs.Notes.{Taken}
 use Rattle.nvme_ctrl.specs.Calls.{HasTaken}
+use Rattle.nvme_ctrl.specs.declared.chain.Chain.{Chain}
 use Rattle.nvme_ctrl.specs.declared.slot.Slot.{Slot}
-use Rattle.nvme_ctrl.specs.declared.state.SqState.{SqState}
 use Rattle.nvme_ctrl.specs.declared.state.Controller.{Controller}
-use Rattle.nvme_ctrl.specs.kept.Pool.{slot_at, IsChain}
+use Rattle.nvme_ctrl.specs.kept.Pool.{slot_at, IsChain, shorter}
 use Rattle.nvme_ctrl.specs.kept.State.{sq_at}
-use Rattle.nvme_ctrl.proofs.TakeCall.{took, took_pool, took_slot, took_sq, take-stands, take-inside, take-first_there}
+use Rattle.nvme_ctrl.proofs.TakeCall.{took, took_pool, took_slot, take-stands, take-inside, take-first_there}
+use Rattle.nvme_ctrl.proofs.Chains.{pop-first, pop-shorter}
 use Rattle.nvme_ctrl.proofs.Generations.{put_next_generation}
 use Rattle.nvme_ctrl.proofs.state.Controller.take.Goals as goal
 
@@ -16,28 +16,25 @@ use Rattle.nvme_ctrl.proofs.state.Controller.take.Goals as goal
 its_pool : (c : goal.After-self-1) → c.put_out.new.slots ≡ took_pool c.args.slots.now c.in_ok-tag.tag
 its_pool c = c.put_out.ensures
 
+-- what was popped is the first of its queue's chain
+is_first : (c : goal.After-self-1) (x : ℕ) (rest : List ℕ) → IsChain c.args.slots.now (sq_at c.args.self.now.sqs c.args.self.now.picked_qid).window (x ∷ rest) → Some c.in_ok-tag.tag ≡ Some x
+is_first c x rest linked = c.in_ok-tag.ensures.first ∙ pop-first c.args.slots.now (sq_at c.args.self.now.sqs c.args.self.now.picked_qid).window x rest linked
+
 pub returns-clause-generation : goal.returns-clause-generation
 returns-clause-generation c rules late notes s =
     put_next_generation c.args.slots.now c.put_out.new.slots c.in_ok-tag.tag (took_slot (slot_at c.args.slots.now c.in_ok-tag.tag)) (its_pool c)
-    (take-inside rules late notes c.args.self.now c.args.slots.now s c.if-self-eq0.false c.in_ok-tag.tag
-    (λ x rest linked. c.in_ok-tag.ensures.some x rest (subst (λ (q : SqState). IsChain c.args.slots.now q.window (x ∷ rest)) (sym c.sq-sq.ensures) linked))) refl
+    (take-inside rules late notes c.args.self.now c.args.slots.now s c.if-self-eq0.false c.in_ok-tag.tag (is_first c)) refl
 
 pub returns-clause-stands : goal.returns-clause-stands
 returns-clause-stands c rules late notes s =
     let self : Controller = c.args.self.now in
     let slots : List Slot = c.args.slots.now in
+    let window : Chain = (sq_at self.sqs self.picked_qid).window in
     let tag : ℕ = c.in_ok-tag.tag in
-    let window : (x : ℕ) (rest : List ℕ) → IsChain slots (sq_at self.sqs self.picked_qid).window (x ∷ rest) → IsChain slots c.sq-sq.result.window (x ∷ rest) =
-    λ x rest linked. subst (λ (q : SqState). IsChain slots q.window (x ∷ rest)) (sym c.sq-sq.ensures) linked in
-    let done : HasTaken rules late notes tag (took self c.pop.new.self) (took_pool slots tag) =
-    take-stands rules late notes self slots s c.if-self-eq0.false c.pop.new.self tag
-    (λ x rest linked. c.in_ok-tag.ensures.some x rest (window x rest linked))
-    (λ x rest linked. c.pop.ensures.rest x rest (window x rest linked)) in
-    let pool = its_pool c in
-    let put : c.put_sq.new.self ≡ record self { sqs = slice_set self.sqs self.picked_qid (took_sq self c.pop.new.self) } =
-    c.put_sq.ensures ∙ ap (λ (q : SqState). record self { sqs = slice_set self.sqs self.picked_qid (record q { window = c.pop.new.self }) }) c.sq-sq.ensures in
-    subst (λ (x : Controller). HasTaken rules late notes tag (record x { picked = x.picked - 1 }) c.put_out.new.slots) (sym put)
-    (subst (λ (new : List Slot). HasTaken rules late notes tag (took self c.pop.new.self) new) (sym pool) done)
+    let done : HasTaken rules late notes tag (took self (shorter slots window)) (took_pool slots tag) =
+    take-stands rules late notes self slots s c.if-self-eq0.false (shorter slots window) tag (is_first c) (pop-shorter slots window) in
+    subst (λ (x : Controller). HasTaken rules late notes tag (record x { picked = x.picked - 1 }) c.put_out.new.slots) (sym c.pop_window.ensures.put)
+    (subst (λ (new : List Slot). HasTaken rules late notes tag (took self (shorter slots window)) new) (sym (its_pool c)) done)
 
 pub returns-clause-front : goal.returns-clause-front
 returns-clause-front c was =
@@ -47,4 +44,4 @@ returns-clause-front c was =
 pub returns-in_err-tag-clause-told : goal.returns-in_err-tag-clause-told
 returns-in_err-tag-clause-told c rules late notes s told =
     absurd (take-first_there rules late notes c.args.self.now c.args.slots.now s c.if-self-eq0.false None
-    (λ x rest linked. c.in_err-tag.ensures.some x rest (subst (λ (q : SqState). IsChain c.args.slots.now q.window (x ∷ rest)) (sym c.sq-sq.ensures) linked)) refl)
+    (λ x rest linked. c.in_err-tag.ensures.first ∙ pop-first c.args.slots.now (sq_at c.args.self.now.sqs c.args.self.now.picked_qid).window x rest linked) refl)
