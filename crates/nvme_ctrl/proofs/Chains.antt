@@ -68,15 +68,15 @@ pub record IsPushed (slots : List Slot) (old : Chain) (tag : ℕ) (new : List Sl
 pub is_pushed : (slots new : List Slot) (c : Chain) (x : ℕ) → new ≡ pushed slots c x → SameItems slots new → IsPushed slots c x new (longer c x)
 is_pushed slots new c x is items = elim (cases_eq c.len 0) [
   | inl none ↦ (let same : new ≡ slots = is ∙ rw none refl in record {
-      items = items;
-      links = λ xs h y other. ap (λ (p : List Slot). next_at p y) same;
-      chain = λ xs h within apart few. push-first slots new c xs x _ _ h none within same (rw none refl) (omega (arith, h.len_is, few));
-    })
+    items = items;
+    links = λ xs h y other. ap (λ (p : List Slot). next_at p y) same;
+    chain = λ xs h within apart few. push-first slots new c xs x _ _ h none within same (rw none refl) (omega (arith, h.len_is, few));
+  })
   | inr some ↦ (let put : new ≡ put_next slots c.last x = is ∙ rw (ne_eqb c.len 0 some) refl in record {
-      items = items;
-      links = λ xs h y other. ap (λ (p : List Slot). next_at p y) put ∙ last-links slots c xs x h some y other;
-      chain = λ xs h within apart few. push-behind slots new c xs x _ _ h some within apart put (rw (ne_eqb c.len 0 some) refl) (omega (arith, h.len_is, few));
-    })
+    items = items;
+    links = λ xs h y other. ap (λ (p : List Slot). next_at p y) put ∙ last-links slots c xs x h some y other;
+    chain = λ xs h within apart few. push-behind slots new c xs x _ _ h some within apart put (rw (ne_eqb c.len 0 some) refl) (omega (arith, h.len_is, few));
+  })
 ]
 
 -- ---- without the first one
