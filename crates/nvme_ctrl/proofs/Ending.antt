@@ -22,7 +22,7 @@ use Rattle.nvme_ctrl.specs.declared.state.Controller.{Controller}
 use Rattle.nvme_ctrl.specs.kept.Content.{Ready, CqContent, Content, with_ready}
 use Rattle.nvme_ctrl.specs.kept.Kept.{is_passed_at, IsReadyOf, Item, ReadyItem, Items, IsWaitingIn, IsOutIn, IsReadyIn, IsThrough, IsCookie, IsUnflagged, HasReadyCookie, HasFlags, HoldsCookies, HasNumbers, HasItems, HoldsDoorbells, HoldsTags, tags_of, ready_tags, readies_of, ready_state, is_free}
 use Rattle.nvme_ctrl.specs.inside.Loose.{IsLoose, AreReadiesApart, Keeps, MakesReady, ended, with_item}
-use Rattle.nvme_ctrl.specs.kept.Pool.{slot_at, item_at, next_at, put_item, bit, flags_in, IsChain, IsNew, SameItems, SameLinks}
+use Rattle.nvme_ctrl.specs.kept.Pool.{slot_at, item_at, next_at, put_item, bit, flags_in, IsChain, IsNew, SameLinks}
 use Rattle.nvme_ctrl.specs.kept.State.{no_cq_state, cq_at}
 use Rattle.nvme_ctrl.proofs.Chains.{IsPushed}
 use Rattle.nvme_ctrl.proofs.Cookies.{SameCookies, same_cookies-but, cookie_left, items_left, readies_left}

@@ -1,5 +1,5 @@
 -- What was answered is a command that the device has, whose slot is put behind those that are ready.
-use Rattle.std.proofs.Common.{◌≡◌, ℕ, ◌<◌, List, ◌∷◌, sym, ap, subst, ◌∙◌, refl, arith, true}
+use Rattle.std.proofs.Common.{◌≡◌, ℕ, List, ◌∷◌, sym, ap, subst, ◌∙◌, refl, true}
 use Rattle.nvme_log.specs.Answers.{Answer}
 use Rattle.nvme_ctrl.specs.Notes.{Answered, Flagged}
 use Rattle.nvme_ctrl.specs.Calls.{HasAnswered}
