@@ -65,6 +65,7 @@ pub record IsPushed (slots : List Slot) (old : Chain) (tag : ℕ) (new : List Sl
   pub links : (xs : List ℕ) → IsChain slots old xs → SameLinks xs slots new
   pub chain : (xs : List ℕ) → IsChain slots old xs → tag < length slots → IsNew tag xs → length xs + 1 < 2 ^ 16 → IsChain new longer (xs ++ tag ∷ [])
 
+-- it did so where the pool is the one after it
 pub is_pushed : (slots new : List Slot) (c : Chain) (x : ℕ) → new ≡ pushed slots c x → SameItems slots new → IsPushed slots c x new (longer c x)
 is_pushed slots new c x is items = elim (cases_eq c.len 0) [
   | inl none ↦ (let same : new ≡ slots = is ∙ rw none refl in record {
