@@ -6,7 +6,7 @@ use Rattle.nvme_model.specs.declared.device.Device.{Device}
 use Rattle.nvme_model.specs.declared.queue.Queue.{Queue}
 use Rattle.nvme_model_form.specs.Views.{Asking, Coming, ByPoisson, ByGap, InBursts, BehindOthers, Replayed, Resting, Running, Anywhere, Shares, Always, Exponentially, OneOfTwo, ByQuantiles, asking_of, running_of}
 use Rattle.nvme_simulate.specs.Loads.{capacity_of, mean_of, mean_service, offered_by, offered_in, part_of}
-use Rattle.nvme_simulate.specs.Scaling.{AreScaled, target_of}
+use Rattle.nvme_simulate.specs.Scaling.{AreScaled, HasLongGap, IsLongGapOf, IsTooLong, target_of}
 
 -- of 8 blocks. A read takes 40 us and 5 us for each block, a write 80 us or with 5 of 100 commands 2 ms, and 1 us for each block, and a flush 1 ms
 abbrev pub asking : Shares → Coming → Asking
@@ -64,3 +64,27 @@ pub record ScalingExamples : Type 0 where
       → map asking_of old ≡ reads (ByGap 50_000_000) ∷ reads (BehindOthers 8 0) ∷ reads bursts ∷ reads (ByPoisson 80_000_000) ∷ []
       → AreScaled 500_000 d old new
       → map asking_of new ≡ reads (ByGap 100_000_000) ∷ reads (BehindOthers 8 0) ∷ reads (InBursts 40_000_000 1_000_000_000 3_000_000_000) ∷ reads (ByPoisson 160_000_000) ∷ []
+
+-- doubled, the gaps of the first queue have 64 bits, and those of the second 65
+abbrev pub long_second : List Asking
+long_second = reads (ByGap 50_000_000) ∷ reads (ByGap 0x8000_0000_0000_0000) ∷ reads (BehindOthers 8 0) ∷ []
+
+-- the longest mean is 2^58 - 1 ps and the longest gap 2^64 - 1 ps: they stay as they are, and half of one more is too long where it is doubled. 2^63 times 2^63,
+-- doubled, and twice 2^126 make 2^128
+pub record LongExamples : Type 0 where
+  pub no_load : IsTooLong 1 0 0xffff_ffff_ffff_ffff 1
+  pub least_load : IsTooLong 1 1 0xffff_ffff_ffff_ffff 1 → ⊥
+  pub too_many_bits : IsTooLong 0x8000_0000_0000_0000 0x4000_0000_0000_0000_0000_0000_0000_0000 0xffff_ffff_ffff_ffff 0x8000_0000_0000_0000
+  pub all_bits : IsTooLong 0x8000_0000_0000_0000 0x3fff_ffff_ffff_ffff_ffff_ffff_ffff_ffff 0xffff_ffff_ffff_ffff 0x8000_0000_0000_0000 → ⊥
+  pub longest_mean : HasLongGap 1 1 (ByPoisson 0x03ff_ffff_ffff_ffff) → ⊥
+  pub mean_too_long : HasLongGap 2 1 (ByPoisson 0x0200_0000_0000_0000)
+  pub longest_in_bursts : HasLongGap 1 1 (InBursts 0x03ff_ffff_ffff_ffff 1_000_000_000 3_000_000_000) → ⊥
+  pub too_long_in_bursts : HasLongGap 2 1 (InBursts 0x0200_0000_0000_0000 1_000_000_000 3_000_000_000)
+  pub longest_gap : HasLongGap 1 1 (ByGap 0xffff_ffff_ffff_ffff) → ⊥
+  pub gap_too_long : HasLongGap 2 1 (ByGap 0x8000_0000_0000_0000)
+  pub behind_others : HasLongGap 2 0 (BehindOthers 8 0) → ⊥
+  pub replayed : HasLongGap 2 0 Replayed → ⊥
+  pub second : IsLongGapOf 2 1 2 long_second
+  pub not_first : IsLongGapOf 2 1 1 long_second → ⊥
+  pub not_third : IsLongGapOf 2 1 3 long_second → ⊥
+  pub no_fourth : IsLongGapOf 2 1 4 long_second → ⊥

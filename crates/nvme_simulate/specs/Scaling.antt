@@ -1,5 +1,6 @@
--- What queues ask for where their gaps are multiplied by a ratio. (profile)
-use Rattle.std.specs.Prelude.{◌≡◌, ℕ, ◌+◌, ◌*◌, ◌/◌, max, List, map, unwrap_or}
+-- What queues ask for where their gaps are multiplied by a ratio, and where a gap would be too long. (profile)
+use Rattle.std.specs.Prelude.{◌≡◌, ◌⊎◌, ℕ, ◌+◌, ◌*◌, ◌/◌, ◌^◌, ◌<◌, ◌≤◌, max, List, map, Some, slice_get, unwrap_or}
+use Rattle.nvme_clock.specs.declared.draws.TheConstants.{MAX_MEAN}
 use Rattle.nvme_model.specs.declared.device.Device.{Device}
 use Rattle.nvme_model.specs.declared.queue.Queue.{Queue}
 use Rattle.nvme_model_form.specs.Views.{Asking, Coming, ByPoisson, ByGap, InBursts, BehindOthers, Replayed, Running, asking_of, running_of}
@@ -37,3 +38,25 @@ target_of millionths device = part_of (capacity_of fine_parts device) millionths
 abbrev pub AreScaled : (millionths : ℕ) → Device → (old new : List Queue) → Type 0
 AreScaled millionths device old new =
     map asking_of new ≡ map (scaled_asking (offered_of old) (target_of millionths (running_of device))) (map asking_of old)
+
+-- ---- where a gap would be too long
+
+-- a scaled gap isn't answered: no load is to be reached, its reckoning (here with twice the target) has more than 128 bits, or it is longer than the most
+abbrev pub IsTooLong : (offered target most gap : ℕ) → Type 0
+IsTooLong offered target most gap = (target ≡ 0) ⊎ ((2 ^ 128 ≤ gap * offered * 2 + target * 2) ⊎ (most < scaled_gap offered target gap))
+
+-- the mean of exponential gaps has its limit, and a gap between two commands has 64 bits. Closed hosts and lists have nothing that is scaled
+abbrev pub HasLongGap : (offered target : ℕ) → Coming → Type 0
+HasLongGap offered target (ByPoisson mean) = IsTooLong offered target MAX_MEAN mean
+HasLongGap offered target (ByGap gap) = IsTooLong offered target 0xffff_ffff_ffff_ffff gap
+HasLongGap offered target (InBursts mean on off) = IsTooLong offered target MAX_MEAN mean
+HasLongGap offered target (BehindOthers depth think) = ⊥
+HasLongGap offered target Replayed = ⊥
+
+-- the queue of this number, from 1, has one
+pub record IsLongGapOf (offered target number : ℕ) (queues : List Asking) : Type 0 where
+  pub place : ℕ
+  pub number_is : number ≡ place + 1
+  pub queue : Asking
+  pub is_there : slice_get queues place ≡ Some queue
+  pub long : HasLongGap offered target queue.coming

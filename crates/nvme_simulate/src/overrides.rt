@@ -1,8 +1,8 @@
 // What a command line says in place of a simulation file.
-ghost use Rattle.std.specs.Prelude.{◌≡◌, ◌↔◌, None, Some, IfOk, IfSome, IsErrOf, OnSome, map, unwrap_or};
-ghost use Rattle.nvme_model_form.specs.Views.{asking_of};
+ghost use Rattle.std.specs.Prelude.{◌≡◌, ◌⊎◌, ◌↔◌, ℕ, None, Some, IfErr, IfOk, IfSome, IsErrOf, IsOk, OnSome, map, unwrap_or};
+ghost use Rattle.nvme_model_form.specs.Views.{asking_of, running_of};
 ghost use Rattle.nvme_simulate.specs.Loads.{offered_in};
-ghost use Rattle.nvme_simulate.specs.Scaling.{AreScaled, fine_parts};
+ghost use Rattle.nvme_simulate.specs.Scaling.{AreScaled, IsLongGapOf, fine_parts, offered_of, target_of};
 
 use crate::scaling::scaled;
 use crate::target::{Load, LoadFault};
@@ -151,7 +151,8 @@ impl Overrides {
     }
 
     /// The model with these in place of its own. Where they say a load, the gaps of its open queues are scaled to it
-    /// (`scaled`), and refused where that can't be.
+    /// (`scaled`), and refused where that can't be: where no queue is open, where the commands of the open queues take no
+    /// time, or where the gaps of the queue of the number that is told would be too long. Without a load nothing is refused.
     pub fn applied(&self, model: Model) -> Result<Model, LoadFault>
         ensures seed { IfOk result (λ m. m.seed ≡ unwrap_or self.now.seed model.seed) }
         ensures end { IfOk result (λ m. m.end ≡ unwrap_or self.now.end model.end) }
@@ -165,6 +166,10 @@ impl Overrides {
             (IsErrOf result LoadFault.NoOpenQueue ↔ (offered_in fine_parts (map asking_of model.queues.items) ≡ None)) }
         ensures no_service { OnSome self.now.load
             (IsErrOf result LoadFault.NoService ↔ (offered_in fine_parts (map asking_of model.queues.items) ≡ Some 0)) }
+        ensures taken { self.now.load ≡ None → IsOk result }
+        ensures refused { IfErr result (λ e. (e ≡ LoadFault.NoOpenQueue) ⊎ ((e ≡ LoadFault.NoService) ⊎ ((number : ℕ) × (e ≡ LoadFault.LongGap number)))) }
+        ensures long_gap { (number : ℕ) → IsErrOf result (LoadFault.LongGap number) → IfSome self.now.load (λ load.
+            IsLongGapOf (offered_of model.queues.items) (target_of load.millionths (running_of model.device)) number (map asking_of model.queues.items)) }
     {
         let model = self.replaced(model);
         match self.load {
