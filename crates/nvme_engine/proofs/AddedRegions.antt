@@ -163,6 +163,7 @@ module _ (kind : Kind) (a n : ℕ) (rules : FrontRules) (late : Bool) (notes : N
           cq_rings = cq_rings_with kind a n rules f.some s.cq_rings;
           served = s.served;
           named = s.named;
+          few = s.few;
           begun = s.begun;
           rung = λ r. submitted_with a n s.their s.their_late notes e.controller e.slots.items s.stands on kind r ∙ s.rung r;
           read = λ x. consumed_with a n s.their s.their_late notes e.controller e.slots.items s.stands on kind x ∙ s.read x;

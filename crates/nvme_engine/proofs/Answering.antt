@@ -16,7 +16,7 @@ use Rattle.nvme_ctrl.specs.declared.status_flags.StatusFlags.{StatusFlags}
 use Rattle.nvme_engine.specs.Standing.{StandsAt, AnswersByOutcome}
 use Rattle.nvme_engine.specs.Calls.{HasAnswered}
 use Rattle.nvme_engine.specs.declared.engine.Engine.{Engine}
-use Rattle.nvme_engine.proofs.Calls.{Leaves, same_pool}
+use Rattle.nvme_engine.proofs.Calls.{Leaves, same_pool, same_few}
 
 -- no tag is given out before the first event
 none_held : (notes : Notes) (tag : ℕ) (p : Place) → notes ≡ [] → holder notes tag ≡ Some p → ⊥
@@ -53,6 +53,7 @@ module _ (rules : FrontRules) (late : Bool) (notes : Notes) (e : Engine) (s : St
     cq_rings = s.cq_rings;
     served = s.served;
     named = s.named;
+    few = same_few e f (logged notes) left s.few;
     begun = λ none. absurd (none_held notes tag p (s.begun none) held);
     rung = s.rung;
     read = s.read;

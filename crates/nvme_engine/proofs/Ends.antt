@@ -23,7 +23,7 @@ use Rattle.nvme_engine.specs.Standing.{StandsAt, AnswersByOutcome, ServesItsQueu
 use Rattle.nvme_engine.specs.Calls.{HasFinished}
 use Rattle.nvme_engine.specs.declared.engine.Engine.{Engine}
 use Rattle.nvme_engine.proofs.OneDeletion.{deleting_is_pending}
-use Rattle.nvme_engine.proofs.Calls.{Leaves, same_pool}
+use Rattle.nvme_engine.proofs.Calls.{Leaves, same_pool, same_few}
 
 -- ---- a deletion in the log of a controller
 -- its queue has no command that waits, and isn't closed
@@ -109,6 +109,7 @@ module _ (rules : FrontRules) (late : Bool) (notes : Notes) (e : Engine) (s : St
     cq_rings = s.cq_rings;
     served = still_served past s.served d is;
     named = λ x none. absurd (cc none);
+    few = same_few e f past left s.few;
     begun = λ none. absurd (cc none);
     rung = s.rung;
     read = s.read;

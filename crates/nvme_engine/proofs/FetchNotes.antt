@@ -22,7 +22,6 @@ use Rattle.nvme_ctrl.specs.Doorbells.{gap, sq_slots, submitted}
 use Rattle.nvme_ctrl.specs.Tags.{answer_of, cookie_of, all_fetches, all_posts}
 use Rattle.nvme_ctrl.specs.Calls as calls
 use Rattle.nvme_ctrl.specs.Laws.{NoneDeleting}
-use Rattle.nvme_ctrl.specs.Own.{own_of}
 use Rattle.nvme_ctrl.specs.Standing.{Stands}
 use Rattle.nvme_ctrl.specs.declared.state.Controller.{Controller}
 use Rattle.nvme_ctrl.proofs.FewUnposted.{few_unposted}
@@ -33,6 +32,7 @@ use Rattle.nvme_engine.specs.Calls.{MayFetch, HasFetched}
 use Rattle.nvme_engine.specs.Standing.{StandsAt, HasPlaces, AnswersByOutcome, pool_size, queue_depth}
 use Rattle.nvme_engine.specs.declared.engine.Engine.{Engine}
 use Rattle.nvme_engine.proofs.Endings.{few_wait}
+use Rattle.nvme_engine.proofs.Calls.{Leaves, same_few, same_pool}
 use Rattle.nvme_engine.proofs.Places.{places_fetched}
 use Rattle.nvme_engine.proofs.OneDeletion.{none_deleting}
 use Rattle.nvme_engine.proofs.Turn.{gap-one}
@@ -190,9 +190,8 @@ module _ (rules : FrontRules) (late : Bool) (notes : Notes) (e : Engine) (s : St
   not_closed : is_closed_region (logged notes) m.queue.region ≡ false
   not_closed = not_closed_region s.their s.their_late (logged notes) s.stands.content s.stands.holds qid m.queue m.is_open
 
-  stands-fetch : (after : Engine) → Stands s.their s.their_late with_fetch after.controller after.slots.items → length after.slots.items ≡ length e.slots.items
-      → calls.depths_of after.controller ≡ calls.depths_of e.controller → own_of after.controller ≡ own_of e.controller → StandsAt rules late with_fetch after
-  stands-fetch after stands size depths own = record {
+  stands-fetch : (after : Engine) → Stands s.their s.their_late with_fetch after.controller after.slots.items → Leaves e after → StandsAt rules late with_fetch after
+  stands-fetch after stands left = record {
     their = s.their;
     their_late = s.their_late;
     alike = s.alike;
@@ -208,6 +207,7 @@ module _ (rules : FrontRules) (late : Bool) (notes : Notes) (e : Engine) (s : St
     cq_rings = s.cq_rings;
     served = s.served;
     named = s.named;
+    few = same_few e after (logged notes) left s.few;
     begun = λ none. absurd (cc none);
     rung = rung-fetch;
     read = s.read;
@@ -216,9 +216,9 @@ module _ (rules : FrontRules) (late : Bool) (notes : Notes) (e : Engine) (s : St
     untaken = s.untaken;
     lawful = s.lawful;
     places = places-fetch;
-    pool = subst (λ (x : ℕ). pool_size ≤ x) (sym size) s.pool;
-    depths = depths ∙ s.depths;
-    own = own ∙ s.own;
+    pool = same_pool e after left s.pool;
+    depths = left.depths ∙ s.depths;
+    own = left.own ∙ s.own;
   }
 
 -- ---- the call
@@ -232,9 +232,8 @@ module _ (rules : FrontRules) (late : Bool) (notes : Notes) (e : Engine) (s : St
 
   pub has_fetched : (entry : Sqe) (after : Engine)
       → calls.HasFetched s.their s.their_late (Tail m.queue.region ((index + 1) % slots) ∷ notes) qid entry index after.controller after.slots.items
-      → length after.slots.items ≡ length e.slots.items → calls.depths_of after.controller ≡ calls.depths_of e.controller
-      → own_of after.controller ≡ own_of e.controller → HasFetched rules late notes qid ((index + 1) % slots) index entry after
-  has_fetched entry after done size depths own =
+      → Leaves e after → HasFetched rules late notes qid ((index + 1) % slots) index entry after
+  has_fetched entry after done left =
       let n : ℕ = length (fetched (logged notes) m.queue.region) in
       let before : Notes = Tail m.queue.region ((index + 1) % slots) ∷ notes in
       let same : done.may.queue.region ≡ m.queue.region = ap (λ (q : Queue). q.region) (same_Some done.may.queue m.queue (sym done.may.is_open ∙ m.is_open)) in
@@ -245,5 +244,5 @@ module _ (rules : FrontRules) (late : Bool) (notes : Notes) (e : Engine) (s : St
         queue = m.queue;
         is_open = m.is_open;
         stands = subst (λ (i : ℕ). StandsAt rules late (Kept m.queue.region i i ∷ Logged (Fetch m.queue.region i entry) ∷ before) after) (sym m.next)
-            (stands-fetch rules late notes e s qid slots index m entry n refl after there size depths own);
+            (stands-fetch rules late notes e s qid slots index m entry n refl after there left);
       }

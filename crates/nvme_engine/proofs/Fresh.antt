@@ -1,6 +1,6 @@
 -- An engine that begins, with its admin regions alone.
 use Rattle.std.proofs.Common.{◌≡◌, ℕ, ◌≤◌, ◌==◌, ◌||◌, nat_lt, Bool, true, false, if◌then◌else◌, List, [], ◌∷◌, length, Some, None, refl, sym, ap, subst, arith}
-use Rattle.std.proofs.lemmas.Bool.{or_parts, ltb-false, eqb-true}
+use Rattle.std.proofs.lemmas.Bool.{or_parts, ltb-false, eqb-true, ne_eqb}
 use Rattle.nvme_arbiter.specs.Settings.{ArbitrationFields}
 use Rattle.nvme_arbiter.specs.declared.settings.Mechanism.{Mechanism}
 use Rattle.nvme_admin.specs.Accepted.{effects_of, queue_table}
@@ -9,13 +9,13 @@ use Rattle.nvme_admin.specs.declared.limits.Limits.{Limits}
 use Rattle.nvme_admin.specs.declared.region.Region.{Region}
 use Rattle.nvme_admin.specs.declared.region.AdminError.TheVariants.{Used, Size}
 use Rattle.nvme_log.specs.Rules.{FrontRules, sq_regions_of, cq_regions_of, slots_at}
-use Rattle.nvme_log.specs.Queues.{is_serving}
+use Rattle.nvme_log.specs.Queues.{admin_queue, is_serving}
 use Rattle.nvme_ctrl.specs.Calls.{depths_of, equal_depths}
 use Rattle.nvme_ctrl.specs.Making.{first_rules, admin_fault}
 use Rattle.nvme_ctrl.specs.Own.{no_own, own_of}
 use Rattle.nvme_ctrl.specs.Standing.{Stands}
 use Rattle.nvme_engine.proofs.Places.{no_places}
-use Rattle.nvme_engine.specs.Standing.{HaveRings, StandsAt, HasPool, ServesItsQueues, queue_depth}
+use Rattle.nvme_engine.specs.Standing.{HaveRings, OpensBelow, StandsAt, HasPool, ServesItsQueues, queue_depth}
 use Rattle.nvme_engine.specs.declared.engine.Engine.{Engine}
 
 -- the causes that don't hold where none does
@@ -38,6 +38,16 @@ first_served r q is not_closed = by (r == 0) refl is where
   by true first is = subst (λ (x : ℕ). is_serving [] x ≡ true) (sym (eqb-true r 0 first)) refl
   by false other is = absurd (cc is)
 
+-- and open
+first_few : OpensBelow [] 1
+first_few = (
+  omega arith,
+  λ q from. let other = ne_eqb q 0 (λ first. omega (arith, from, first)) in (
+    ap (λ (b : Bool). if b then Some admin_queue else None) other,
+    ap (λ (b : Bool). if b then Some 0 else None) other,
+  ),
+)
+
 module _ (mechanism : Mechanism) (settings : ArbitrationFields) (limits : Limits) (sq cq : Region) (sizes : List ℕ) where
   abbrev rules : FrontRules
   rules = first_rules mechanism settings limits sq cq sizes
@@ -51,9 +61,9 @@ module _ (mechanism : Mechanism) (settings : ArbitrationFields) (limits : Limits
   unfolding effects_of queue_table
   first_cqs = refl
 
-  pub begins : admin_fault sq cq ≡ None → (e : Engine) → Stands rules false [] e.controller e.slots.items → HasPool e → depths_of e.controller ≡ equal_depths queue_depth → own_of e.controller ≡ no_own
+  pub begins : admin_fault sq cq ≡ None → (e : Engine) → e.queues ≡ 1 → Stands rules false [] e.controller e.slots.items → HasPool e → depths_of e.controller ≡ equal_depths queue_depth → own_of e.controller ≡ no_own
       → StandsAt rules false [] e
-  begins none e stands pool depths own =
+  begins none e first stands pool depths own =
       let sizes_fit = causes Size Used Size _ _ _ none in
       record {
         their = rules;
@@ -74,6 +84,7 @@ module _ (mechanism : Mechanism) (settings : ArbitrationFields) (limits : Limits
         cq_rings = subst HaveRings (sym first_cqs) (one_ring cq sizes_fit.1);
         served = first_served;
         named = λ d none. absurd (cc none);
+        few = subst (OpensBelow []) (sym first) first_few;
         begun = λ none. refl;
         rung = λ r. refl;
         read = λ x. refl;

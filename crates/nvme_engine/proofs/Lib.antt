@@ -23,5 +23,7 @@ pub mod QuietNotes
 pub mod NoneOwn
 pub mod Endings
 pub mod AdminQueues
+pub mod OpenBounds
+pub mod Observed
 pub mod PickCalls
 pub mod Places

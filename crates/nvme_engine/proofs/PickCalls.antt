@@ -1,5 +1,5 @@
 -- The pick of an engine: of an I/O queue, and of the admin queue.
-use Rattle.std.proofs.Common.{◌≡◌, ◌≢◌, ℕ, ◌≤◌, false, option_and_then, ◌&&◌, ◌+◌, ◌<◌, Bool, true, List, [], ◌∷◌, ◌++◌, length, Option, Some, None, refl, sym, ap, ◌∙◌, subst, arith, append-nil, eq-eqb}
+use Rattle.std.proofs.Common.{◌≡◌, ◌≢◌, ℕ, ◌≤◌, false, option_and_then, ◌&&◌, ◌+◌, ◌<◌, Bool, true, List, [], ◌∷◌, ◌++◌, length, Option, Some, None, max, min, refl, sym, ap, ◌∙◌, subst, arith, append-nil, eq-eqb}
 use Rattle.std.specs.Prelude.{slice_get}
 use Rattle.nvme_entry.specs.AdminCommand.{admin_command_of}
 use Rattle.nvme_entry.specs.declared.admin.AdminCommand.{AdminCommand}
@@ -49,14 +49,15 @@ use Rattle.nvme_log.specs.Places.{observation_of}
 use Rattle.nvme_log.proofs.AbortEntries.{delete_is_no_abort}
 use Rattle.nvme_ctrl.proofs.Observing.{IsPickable}
 use Rattle.nvme_engine.proofs.MadePlaces.{picked_leaves, made_leave_places}
-use Rattle.nvme_engine.specs.Standing.{StandsAt, HasPlaces, BeginsAlone, ServesItsQueues, DeletesItsQueue}
+use Rattle.nvme_engine.specs.Standing.{OpensBelow, StandsAt, HasPlaces, BeginsAlone, ServesItsQueues, DeletesItsQueue}
 use Rattle.nvme_engine.specs.Calls.{MayPick, HasPicked, HasCarriedOut, seen_notes}
-use Rattle.nvme_engine.specs.Making.{made_in, dropped_in, IsEnding}
+use Rattle.nvme_engine.specs.Making.{made_in, dropped_in, above_opened, IsEnding}
 use Rattle.nvme_engine.specs.declared.admin.Ending.{Ending}
 use Rattle.nvme_engine.specs.declared.engine.Engine.{Engine}
 use Rattle.nvme_engine.proofs.Additions.{on_regions}
 use Rattle.nvme_engine.proofs.AdminQueues.{kept_made, begins_made}
-use Rattle.nvme_engine.proofs.Calls.{Leaves, same_pool}
+use Rattle.nvme_engine.proofs.Calls.{Leaves, same_few, same_pool}
+use Rattle.nvme_engine.proofs.OpenBounds.{few_made}
 use Rattle.nvme_engine.proofs.NoneOwn.{oldest_isnt_own}
 use Rattle.nvme_engine.proofs.NextPicks.{next_is, within_is, whole_next, observes, same_pick, same_notes, next_open, same_outstanding, due}
 use Rattle.nvme_engine.proofs.QuietNotes.{IsQuiet, quiet_more, quiet_effects, quiet_pick, quiet_answer, stands_quiet}
@@ -152,6 +153,7 @@ module _ (rules : FrontRules) (late : Bool) (notes : Notes) (e now : Engine) (s 
           cq_rings = s.cq_rings;
           served = s.served;
           named = s.named;
+          few = same_few e now past left s.few;
           begun = λ none. absurd (cc none);
           rung = s.rung;
           read = s.read;
@@ -239,11 +241,11 @@ module _ (rules : FrontRules) (late : Bool) (notes : Notes) (e now : Engine) (s 
       alone : Each BeginsAlone (logged later)
       alone = subst (Each BeginsAlone) (sym later_is) (begins_made past _ pick i v may.none_pending admin oldest s.plain.alone)
 
-      stands_later : ctrl.Stands s.their s.their_late later now.controller now.slots.items → StandsAt rules late later now
-      stands_later stands =
+      stands_later : (n : ℕ) → OpensBelow (logged later) n → ctrl.Stands s.their s.their_late later now.controller now.slots.items → StandsAt rules late later (record now { queues = n })
+      stands_later n few stands =
           let kept = kept_made s.their s.their_late past s.stands.content s.stands.holds s.served may.none_pending _ pick v s.their s.their_late stands.content
           (subst (λ (x : Past). Holds s.their s.their_late x stands.content) later_is stands.holds) in
-          stands_quiet rules late notes later [] e now s quiet follows alone (subst (λ (x : Past). ServesItsQueues x) (sym later_is) kept.0) (subst (λ (x : Past). DeletesItsQueue x) (sym later_is) kept.1)
+          stands_quiet rules late notes later [] e now s quiet n few follows alone (subst (λ (x : Past). ServesItsQueues x) (sym later_is) kept.0) (subst (λ (x : Past). DeletesItsQueue x) (sym later_is) kept.1)
           (subst (λ (x : Past). IsLawfulRun s.their.mechanism s.their.start.settings (arbitration_of x)) (sym later_is)
           (lawful_effects s.their (made_by past v) (logged picked) (made_are_effects past v) lawful_next))
           (subst (HasPlaces s.their) (sym later_is)
@@ -259,8 +261,8 @@ module _ (rules : FrontRules) (late : Bool) (notes : Notes) (e now : Engine) (s 
         ∙ ap (λ (x : Option ℕ). is_abort_entry (option_and_then (entry_at past 0) x)) oldest ∙ ap (λ (x : Option Sqe). is_abort_entry x) there
 
     pub carried : (did : Effect) (entry : Sqe) → HasDone s.their s.their_late notes did entry now.controller now.slots.items → NamesQueues past did → IsVerdictOf (admin_command_of entry) (verdict_in did)
-        → new ≡ old ++ made_in did ending → HasCarriedOut rules late notes pick old new now
-    carried did entry h names command log_is =
+        → new ≡ old ++ made_in did ending → (n : ℕ) → n ≡ max e.queues (min (above_opened did) 65535) → HasCarriedOut rules late notes pick old new (record now { queues = n })
+    carried did entry h names command log_is n bound =
         let v : Verdict = h.verdict in
         let done = h.carried_out in
         let told : verdict_in did ≡ v = subst (λ (p : Option Placing). IsToldBy p (verdict_in did) v) no_placing h.told in
@@ -272,11 +274,15 @@ module _ (rules : FrontRules) (late : Bool) (notes : Notes) (e now : Engine) (s 
         subst (λ (x : FrontRules). ctrl.Stands x s.their_late (later v done.index done.answer done.oldest no_abort) now.controller now.slots.items) (rules_left v entry)
         (subst (λ (x : Notes). ctrl.Stands (placed v entry s.their) s.their_late (with_answer done.index done.answer (with_logged (made_by past v) x)) now.controller now.slots.items)
         (same_notes rules late notes [] e s pick done.pick (same done.pick next)) done.stands) in
+        let is : logged (later v done.index done.answer done.oldest no_abort) ≡ with_events (made_in did ending) (logged (seen_notes notes pick)) =
+        later_is v done.index done.answer done.oldest no_abort ∙ ap (λ (es : List Event). with_events es (logged (seen_notes notes pick))) (sym made) in
+        let few : OpensBelow (logged (later v done.index done.answer done.oldest no_abort)) n =
+        few_made s.their s.their_late _ now.controller now.slots.items stands (logged (seen_notes notes pick)) did ending is e.queues s.few n bound in
         record {
           index = done.index;
           oldest = done.oldest;
           verdict = v;
           log_is = log_is ∙ ap (λ (es : List Event). old ++ es) made;
           answer = done.answer;
-          stands = stands_later v done.index done.answer done.oldest no_abort stands;
+          stands = stands_later v done.index done.answer done.oldest no_abort n few stands;
         }

@@ -31,7 +31,7 @@ use Rattle.nvme_engine.specs.Standing.{StandsAt}
 use Rattle.nvme_engine.specs.Calls.{HasPosted}
 use Rattle.nvme_engine.specs.declared.engine.Engine.{Engine}
 use Rattle.nvme_engine.proofs.Deleting.{not_deleter}
-use Rattle.nvme_engine.proofs.Calls.{Leaves, same_pool}
+use Rattle.nvme_engine.proofs.Calls.{Leaves, same_pool, same_few}
 use Rattle.nvme_engine.proofs.Reading.{consumed_next}
 
 -- a place that is posted once, and is counted once, was served and not posted before, and isn't in hand
@@ -159,6 +159,7 @@ module _ (rules : FrontRules) (late : Bool) (notes : Notes) (e : Engine) (s : St
         cq_rings = s.cq_rings;
         served = s.served;
         named = s.named;
+        few = same_few e f past left s.few;
         begun = λ none. absurd (cc none);
         rung = s.rung;
         read = read_after;

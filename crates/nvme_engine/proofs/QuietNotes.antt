@@ -26,7 +26,7 @@ use Rattle.nvme_ctrl.specs.Observation.{is_arrangement}
 use Rattle.nvme_ctrl.specs.Steps.{with_logged, with_answer}
 use Rattle.nvme_ctrl.specs.Standing as ctrl
 use Rattle.nvme_ctrl.proofs.EffectEvents.{AreEffects}
-use Rattle.nvme_engine.specs.Standing.{StandsBut, HasPlaces, IsPlain, BeginsAlone, ServesItsQueues, DeletesItsQueue}
+use Rattle.nvme_engine.specs.Standing.{OpensBelow, StandsBut, HasPlaces, IsPlain, BeginsAlone, ServesItsQueues, DeletesItsQueue}
 use Rattle.nvme_engine.specs.declared.engine.Engine.{Engine}
 use Rattle.nvme_engine.proofs.Calls.{Leaves, same_pool}
 
@@ -151,10 +151,10 @@ module _ (rules : FrontRules) (late : Bool) (notes later : Notes) (rest : List P
     alone = alone;
   }
 
-  -- an engine whose controller stands at later notes that are quiet stands at them
-  pub stands_quiet : Each Deletes (logged later) → Each BeginsAlone (logged later) → ServesItsQueues (logged later) → DeletesItsQueue (logged later)
-      → IsLawfulRun s.their.mechanism s.their.start.settings (arbitration_of (logged later)) → HasPlaces s.their (logged later) → ctrl.Stands s.their s.their_late later now.controller now.slots.items → Leaves e now → StandsBut rules late later rest now
-  stands_quiet deletes alone served named lawful places stands left = record {
+  -- an engine whose controller stands at later notes that are quiet stands at them, with a bound on the queues that are open then
+  pub stands_quiet : (n : ℕ) → OpensBelow (logged later) n → Each Deletes (logged later) → Each BeginsAlone (logged later) → ServesItsQueues (logged later) → DeletesItsQueue (logged later)
+      → IsLawfulRun s.their.mechanism s.their.start.settings (arbitration_of (logged later)) → HasPlaces s.their (logged later) → ctrl.Stands s.their s.their_late later now.controller now.slots.items → Leaves e now → StandsBut rules late later rest (record now { queues = n })
+  stands_quiet n few deletes alone served named lawful places stands left = record {
     their = s.their;
     their_late = s.their_late;
     alike = s.alike;
@@ -165,6 +165,7 @@ module _ (rules : FrontRules) (late : Bool) (notes later : Notes) (rest : List P
     cq_rings = s.cq_rings;
     served = served;
     named = named;
+    few = few;
     begun = quiet.longer.1 s.begun;
     rung = λ r. quiet.tails r ∙ s.rung r ∙ sym (ap length (quiet.fetches r));
     read = λ c. quiet.heads c ∙ s.read c ∙ sym (ap length (quiet.posts c));

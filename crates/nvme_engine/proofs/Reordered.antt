@@ -64,6 +64,7 @@ module _ (rules other : FrontRules) (h : AreReordered rules other) where
     cq_rings = subst HaveRings (sym h.cqs) s.cq_rings;
     served = s.served;
     named = s.named;
+    few = s.few;
     begun = s.begun;
     rung = s.rung;
     read = s.read;
@@ -94,6 +95,7 @@ module _ (rules other : FrontRules) (h : AreReordered rules other) where
         cq_rings = subst HaveRings (sym h.cqs) s.cq_rings;
         served = s.served;
         named = s.named;
+        few = s.few;
         begun = s.begun;
         rung = λ r. refl;
         read = λ x. refl;

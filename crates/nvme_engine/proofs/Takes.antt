@@ -17,7 +17,7 @@ use Rattle.nvme_ctrl.specs.declared.state.Controller.{Controller}
 use Rattle.nvme_engine.specs.Standing.{StandsBut}
 use Rattle.nvme_engine.specs.Calls.{HasTaken}
 use Rattle.nvme_engine.specs.declared.engine.Engine.{Engine}
-use Rattle.nvme_engine.proofs.Calls.{Leaves, same_pool}
+use Rattle.nvme_engine.proofs.Calls.{Leaves, same_pool, same_few}
 
 -- nothing is picked before the first event
 none_handed : (notes : Notes) (p : Place) (rest : List Place) → notes ≡ [] → handed notes ≡ taken notes ++ p ∷ rest → ⊥
@@ -63,6 +63,7 @@ module _ (rules : FrontRules) (late : Bool) (notes : Notes) (p : Place) (rest : 
     cq_rings = s.cq_rings;
     served = s.served;
     named = s.named;
+    few = same_few e f (logged notes) left s.few;
     begun = λ none. absurd (none_handed notes p rest (s.begun none) s.untaken);
     rung = s.rung;
     read = s.read;

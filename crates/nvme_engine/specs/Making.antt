@@ -1,5 +1,5 @@
 -- The events that the effect of an admin command makes, with the commands that it ends. (Base Specification, Admin Command Set)
-use Rattle.std.specs.Prelude.{◌≡◌, ℕ, List, [], ◌∷◌, map, Some}
+use Rattle.std.specs.Prelude.{◌≡◌, ℕ, ◌+◌, List, [], ◌∷◌, map, Some}
 use Rattle.nvme_entry.specs.declared.admin.AdminCommand.{AdminCommand}
 use Rattle.nvme_entry.specs.declared.admin.AdminCommand.TheVariants as command
 use Rattle.nvme_admin.specs.declared.effect.Effect.{Effect}
@@ -32,6 +32,12 @@ made_in (effect.BeginDelete qid region) ending = Closing qid region ∷ dropped_
 made_in (effect.CloseCq qid region) ending = ClosedCq qid region ∷ []
 made_in (effect.Abort sqid cid) ending = aborted_in ending
 made_in (effect.SetArbitration settings) ending = SetArbitration settings ∷ []
+
+-- one more than the identifier of the queue that it opens, 0 where it opens none
+abbrev pub above_opened : Effect → ℕ
+above_opened (effect.OpenSq qid region cqid cq_region class) = qid + 1
+above_opened (effect.OpenCq qid region) = qid + 1
+above_opened e = 0
 
 -- the commands that an admin command ends, if it takes effect: a Delete of an open submission queue those that wait in it, an Abort the oldest of that
 -- command identifier

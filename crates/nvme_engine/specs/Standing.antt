@@ -1,13 +1,13 @@
 -- When an engine stands at the log of a front, which keeps the events of the notes (profile).
 use Rattle.std.specs.Prelude.{◌≡◌, ℕ, ◌+◌, ◌*◌, ◌<◌, ◌≤◌, ◌==◌, Bool, true, false, List, [], ◌++◌, length, Some, None, is_some}
 use Rattle.nvme_entry.specs.declared.submission.Sqe.{Sqe}
-use Rattle.nvme_arbiter.specs.Limits.{highest_count}
+use Rattle.nvme_arbiter.specs.Limits.{highest_count, queue_limit}
 use Rattle.nvme_arbiter.specs.Lawful.{IsLawfulRun}
 use Rattle.nvme_admin.specs.declared.bounds.TheConstants.{MAX_REGIONS}
 use Rattle.nvme_admin.specs.declared.region.Region.{Region}
 use Rattle.nvme_log.specs.Limits.{max_outstanding}
 use Rattle.nvme_log.specs.Rules.{FrontRules, Past, Each, sq_regions_of, cq_regions_of, slots_at}
-use Rattle.nvme_log.specs.Queues.{Deletion, pending, is_serving, qid_of_region, is_closed_region}
+use Rattle.nvme_log.specs.Queues.{Deletion, open_sq, open_cq, pending, is_serving, qid_of_region, is_closed_region}
 use Rattle.nvme_log.specs.Places.{fetched, entry_at}
 use Rattle.nvme_log.specs.declared.place.Place.{Place}
 use Rattle.nvme_log.specs.Completions.{posted_to, outstanding}
@@ -73,6 +73,10 @@ ServesItsQueues past = (r q : ℕ) → qid_of_region past r ≡ Some q → is_cl
 abbrev pub DeletesItsQueue : Past → Type 0
 DeletesItsQueue past = (d : Deletion) → pending past ≡ Some d → qid_of_region past d.region ≡ Some d.qid
 
+-- each open queue of either kind has an identifier below this number, which is within the limit
+abbrev pub OpensBelow : Past → ℕ → Type 0
+OpensBelow past n = (n ≤ queue_limit) × ((q : ℕ) → n ≤ q → (open_sq past q ≡ None) × (open_cq past q ≡ None))
+
 -- an I/O command that was answered was answered with its outcome
 abbrev pub AnswersByOutcome : FrontRules → Notes → Type 0
 AnswersByOutcome rules notes =
@@ -97,6 +101,7 @@ pub record StandsBut (rules : FrontRules) (late : Bool) (notes : Notes) (rest : 
   pub cq_rings : HaveRings (cq_regions_of rules)
   pub served : ServesItsQueues (logged notes)
   pub named : DeletesItsQueue (logged notes)
+  pub few : OpensBelow (logged notes) e.queues
   -- no note is made before the first event
   pub begun : logged notes ≡ [] → notes ≡ []
   pub rung : (r : ℕ) → submitted their notes r ≡ length (fetched (logged notes) r)

@@ -1,7 +1,7 @@
 // The picks of the admin queue, and what its commands make. (Base Specification, Admin Command Set)
-ghost use Rattle.std.specs.Prelude.{◌≡◌, ℕ, ◌+◌, ◌≤◌, ◌++◌, length, map, vec_capacity};
+ghost use Rattle.std.specs.Prelude.{◌≡◌, ℕ, ◌+◌, ◌≤◌, ◌++◌, length, map, min, vec_capacity};
 ghost use Rattle.nvme_log.specs.declared.event.Event.TheVariants.{Abort};
-ghost use Rattle.nvme_engine.specs.Making.{made_in};
+ghost use Rattle.nvme_engine.specs.Making.{made_in, above_opened};
 
 use crate::engine::Engine;
 use arrayvec::ArrayVec;
@@ -70,6 +70,16 @@ fn log_effect(log: &mut Vec<Event>, effect: &Effect, ending: &Ending)
         Effect::SetArbitration(settings) => {
             log.push_reserved(Event::SetArbitration { settings });
         }
+    }
+}
+
+// One more than the identifier of the queue that an admin command opened, if that is a number; 0 where it opened none.
+fn bound_of(effect: &Effect) -> u16
+    ensures { result ≡ min (above_opened effect.now) 65535 }
+{
+    match *effect {
+        Effect::OpenSq { qid, .. } | Effect::OpenCq { qid, .. } => qid.saturating_add(1),
+        _ => 0,
     }
 }
 
@@ -156,5 +166,6 @@ impl Engine {
             return;
         };
         log_effect(log, &effect, &ending);
+        self.queues = self.queues.max(bound_of(&effect));
     }
 }

@@ -29,6 +29,8 @@ const NO_CQ: Region = Region {
 pub struct Engine {
     pub(crate) controller: Controller,
     pub(crate) slots: Vec<Slot>,
+    // Each open queue of either kind has an identifier below it.
+    pub(crate) queues: u16,
 }
 
 impl Engine {
@@ -57,6 +59,7 @@ impl Engine {
         Engine {
             controller,
             slots: Vec::new(alloc),
+            queues: 1,
         }
     }
 
@@ -105,6 +108,7 @@ impl Engine {
             unreachable!()
         };
         self.controller = controller;
+        self.queues = 1;
     }
 
     /// Adds a submission region, and answers its number, as `Controller::add_sq_region` does, with its refusals. A refusal

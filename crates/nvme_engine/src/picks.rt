@@ -36,7 +36,13 @@ impl Engine {
     pub fn observed(&self) -> ArrayVec<Seen, QUEUE_LIMIT>
         ensures { (rules : FrontRules) (late : Bool) (notes : Notes) → StandsAt rules late notes self.now → result.items ≡ observation_of (logged notes) }
     {
-        self.controller.observed()
+        let mut seen = ArrayVec::new();
+        for qid in 0..self.queues {
+            if let Some(queue) = self.controller.seen(qid) {
+                let _fits = seen.try_push(queue);
+            }
+        }
+        seen
     }
 
     /// Makes the next pick, which is of an I/O queue and has its places. Its commands are to be taken.

@@ -5,7 +5,6 @@ ghost use Rattle.nvme_lane.specs.View.{SamePut};
 use crate::front::FrontError;
 use crate::log::{make_room, note};
 use crate::state::FrontState;
-use nvme_admin::MAX_REGIONS;
 use nvme_entry::Cqe;
 use nvme_lane::PutEnd;
 use nvme_log::Event;
@@ -140,7 +139,7 @@ impl FrontState {
             return Ok(false);
         }
         let mut posted = false;
-        for cqid in 0..MAX_REGIONS as u16 {
+        for cqid in 0..self.engine.queues() {
             if self.post_queue(cqid)? {
                 posted = true;
             }

@@ -2,7 +2,6 @@
 use crate::front::FrontError;
 use crate::log::{make_room, note};
 use crate::state::FrontState;
-use nvme_arbiter::QUEUE_LIMIT;
 use nvme_log::{Event, window_of};
 
 impl FrontState {
@@ -106,7 +105,7 @@ impl FrontState {
         ensures no_stray { IfErr result (λ e. (e ≡ LogFull) ⊎ (e ≡ NoMemory)) }
     {
         let mut fetched = false;
-        for qid in 0..QUEUE_LIMIT as u16 {
+        for qid in 0..self.engine.queues() {
             if self.scan_queue(qid)? {
                 fetched = true;
             }

@@ -1,5 +1,4 @@
 use Rattle.std.proofs.Common.{◌≡◌, ℕ, ◌+◌, ◌%◌, true, List, ◌∷◌, length, sym, ap, ◌∙◌, subst}
-use Rattle.std.specs.Vec.{with_items}
 use Rattle.nvme_log.specs.Places.{fetched}
 use Rattle.nvme_ctrl.specs.Calls as calls
 use Rattle.nvme_ctrl.specs.Doorbells.{sq_slots}
@@ -7,7 +6,7 @@ use Rattle.nvme_ctrl.specs.Notes.{Notes, Tail, logged}
 use Rattle.nvme_ctrl.specs.Standing.{Stands}
 use Rattle.nvme_ctrl.specs.declared.slot.Slot.{Slot}
 use Rattle.nvme_engine.specs.declared.engine.Engine.{Engine}
-use Rattle.nvme_engine.proofs.Controllers.{items_are}
+use Rattle.nvme_engine.proofs.Calls.{written, slots_are, leaves}
 use Rattle.nvme_engine.proofs.FetchNotes.{is_tail, may_fetch, tail_is, has_fetched}
 use Rattle.nvme_engine.proofs.Turn.{next-slot}
 use Rattle.nvme_engine.proofs.engine.Engine.fetched.Goals as goal
@@ -35,9 +34,8 @@ returns c = record {
       (subst (λ (pool : List Slot). calls.MayFetch s.their before (calls.depth_of c.sq_tail.new.self c.args.qid) (length pool) qid next) (sym c.deref_mut.ensures.value)
       (may_fetch rules late notes self s qid slots index m c.sq_tail.new.self c.sq_tail.ensures.depths)) in
       let size : length c.fetched.new.slots ≡ length self.slots.items = c.fetched.ensures.size ∙ ap (λ (xs : List Slot). length xs) c.deref_mut.ensures.value in
-      let are : (with_items self.slots c.fetched.new.slots).items ≡ c.fetched.new.slots = items_are self.slots c.fetched.new.slots size in
-      has_fetched rules late notes self s qid slots index m c.args.entry.now (record { controller = c.fetched.new.self; slots = with_items self.slots c.fetched.new.slots })
-      (subst (λ (pool : List Slot). calls.HasFetched s.their s.their_late before qid c.args.entry.now index c.fetched.new.self pool) (sym are)
+      has_fetched rules late notes self s qid slots index m c.args.entry.now (written self c.fetched.new.self c.fetched.new.slots)
+      (subst (λ (pool : List Slot). calls.HasFetched s.their s.their_late before qid c.args.entry.now index c.fetched.new.self pool) (sym (slots_are self c.fetched.new.self c.fetched.new.slots size))
       (c.fetched.ensures.stands s.their s.their_late before there done))
-      (ap (λ (xs : List Slot). length xs) are ∙ size) (c.fetched.ensures.depths ∙ c.sq_tail.ensures.depths) (c.fetched.ensures.own ∙ c.sq_tail.ensures.own));
+      (leaves self c.fetched.new.self c.fetched.new.slots (c.fetched.ensures.depths ∙ c.sq_tail.ensures.depths) (c.fetched.ensures.own ∙ c.sq_tail.ensures.own) size));
 }

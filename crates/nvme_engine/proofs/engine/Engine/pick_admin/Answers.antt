@@ -1,5 +1,5 @@
 -- The command of the pick is carried out, and what it makes is logged.
-use Rattle.std.proofs.Common.{◌≡◌, List, [], length, sym, ap, ◌∙◌, subst}
+use Rattle.std.proofs.Common.{◌≡◌, ℕ, max, List, [], length, sym, ap, ◌∙◌, subst}
 use Rattle.nvme_arbiter.specs.Limits.{highest_count}
 use Rattle.nvme_ctrl.specs.Steps.{HasStepped}
 use Rattle.nvme_ctrl.specs.declared.picks.Step.{Step}
@@ -43,5 +43,6 @@ returns c = record {
       (subst (λ (xs : List Slot). HasStepped s.their s.their_late notes highest_count (step.Done did entry) c.pick.new.self xs) (sym (slots_are e c.pick.new.self c.pick.new.slots size))
       (subst (λ (z : Step). HasStepped s.their s.their_late notes highest_count z c.pick.new.self c.pick.new.slots) c.in-Done.is (c.pick.ensures.stands s.their s.their_late notes stands)))
       (c.pick.ensures.names s.their s.their_late notes stands (on_regions s.their s.alike.adds) did entry c.in-Done.is)
-      (c.pick.ensures.commanded s.their s.their_late notes stands did entry c.in-Done.is) c.log_effect.ensures;
+      (c.pick.ensures.commanded s.their s.their_late notes stands did entry c.in-Done.is) c.log_effect.ensures
+      c.max.result (c.max.ensures ∙ ap (λ (n : ℕ). max e.queues n) c.bound_of.ensures);
 }

@@ -1,4 +1,4 @@
-use Rattle.std.proofs.Common.{◌≡◌, ◌≤◌, ℕ, List, [], length, false, sym, ap, ◌∙◌, subst}
+use Rattle.std.proofs.Common.{◌≡◌, ◌≤◌, ℕ, List, [], length, false, refl, sym, ap, ◌∙◌, subst}
 use Rattle.std.specs.Vec.{with_items}
 use Rattle.nvme_ctrl.specs.Making.{first_rules}
 use Rattle.nvme_ctrl.specs.Standing.{Stands}
@@ -17,7 +17,7 @@ returns c = record {
       let size : length pool ≡ length self.slots.items = c.new.ensures.size ∙ ap (λ (xs : List Slot). length xs) c.deref_mut.ensures.value in
       let are : (with_items self.slots pool).items ≡ pool = items_are self.slots pool size in
       begins c.args.mechanism c.args.settings c.args.limits c.args.sq c.args.cq sizes c.requires.fit
-      (record { controller = c.in-Ok.controller; slots = with_items self.slots pool })
+      (record { controller = c.in-Ok.controller; slots = with_items self.slots pool; queues = 1 }) refl
       (subst (λ (xs : List Slot). Stands (first_rules c.args.mechanism c.args.settings c.args.limits c.args.sq c.args.cq sizes) false [] c.in-Ok.controller xs) (sym are) (c.in-Ok.ensures.stands sizes))
       (subst (λ (n : ℕ). pool_size ≤ n) (sym (ap (λ (xs : List Slot). length xs) are ∙ size)) c.requires.room)
       c.in-Ok.ensures.depths c.in-Ok.ensures.own);

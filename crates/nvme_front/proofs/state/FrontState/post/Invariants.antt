@@ -1,5 +1,6 @@
--- The front stays the same from queue to queue, and as long as nothing was posted nothing changed. The queues before have nothing to post.
-use Rattle.std.proofs.Common.{◌≡◌, ◌<◌, ℕ, length, Some, true, false}
+-- The front stays the same from queue to queue, and as long as nothing was posted nothing changed. The queues before have nothing to post,
+-- and none is open from the bound on.
+use Rattle.std.proofs.Common.{◌≡◌, ◌<◌, ◌≤◌, ℕ, length, Some, None, true, false}
 use Rattle.nvme_front.specs.inside.Room.{IsConsistent}
 use Rattle.nvme_front.specs.inside.Goes.{Goes, IsSame, HasAdmin, IsDrained}
 use Rattle.nvme_front.specs.inside.Loads.{PostsOnly}
@@ -19,4 +20,5 @@ invariant-loop-cqid l = record {
   more : l.posted ≡ true → length l.fn.self.log.items < length l.self.log.items;
   still : l.posted ≡ false → IsSame l.fn.self l.self;
   drained : (q : ℕ) → q < l.cqid → (x : ℕ) → open_cq (past_of l.self) q ≡ Some x → IsDrained l.self x;
+  beyond : (q : ℕ) → l.cqid-end ≤ q → open_cq (past_of l.self) q ≡ None;
 }

@@ -1,5 +1,9 @@
-use Rattle.std.proofs.Common.{◌≡◌, ◌∙◌, true, false, Ok, refl, ap, sym, arith, below_more}
+use Rattle.std.proofs.Common.{◌≡◌, ◌∙◌, true, false, Ok, refl, ap, sym, arith, below_more, inl, inr}
+use Rattle.std.proofs.lemmas.Bool.{cases_lt}
+use Rattle.nvme_log.specs.Queues.{open_sq}
+use Rattle.nvme_log.specs.Rules.{Past}
 use Rattle.nvme_front.specs.inside.Goes.{IsScanned}
+use Rattle.nvme_front.specs.inside.State.{rules_of}
 use Rattle.nvme_front.proofs.States.{Goes-refl, Goes-trans, IsSame-refl, IsSame-trans, admin-goes}
 use Rattle.nvme_front.proofs.Scans.{goes_longer}
 use Rattle.nvme_front.proofs.Loading.{loads-trans}
@@ -30,6 +34,7 @@ loop-qid-preserved c =
         | else-branch w ↦ λ h. IsSame-trans _ _ _ (i.still (sym w.fetched-is ∙ h)) (e.still (was ∙ ap Ok w.if-branch.false))
       ];
       scanned = below_more (λ q. IsScanned c.scan_queue.new.self q) c.loop-qid.qid (λ q below. e.others q (λ same. omega (arith, below, same)) (i.scanned q below)) c.in_ok-scan_queue.ensures.scanned;
+      beyond = λ q from. e.others q (λ same. omega (arith, c.loop-qid-test.true, from, same)) (i.beyond q from);
     }
 
 pub returns-in_err-scan_queue-clause-goes : goal.returns-in_err-scan_queue-clause-goes
@@ -57,10 +62,17 @@ loop-qid-init c =
       more = λ h. absurd (cc h);
       still = λ h. IsSame-refl a;
       scanned = λ q below. absurd (omega (arith, below));
+      beyond = λ q from queue opened. (
+          let k = c.requires.consistent.running c.requires.admin in
+          let none = c.queues-qid-end.ensures.sqs (rules_of a) a.late k.notes k.stands q from in
+          absurd (cc (none, ap (λ (p : Past). open_sq p q) k.past_is ∙ opened)));
     }
 
 pub returns-clause-scanned : goal.returns-clause-scanned
-returns-clause-scanned c = λ q within. c.loop-qid.invariant.scanned q (omega (arith, within, c.loop-qid-test.false))
+returns-clause-scanned c = λ q within. elim (cases_lt q c.loop-qid.qid) [
+  | inl before ↦ c.loop-qid.invariant.scanned q before
+  | inr from ↦ c.loop-qid.invariant.beyond q (omega (arith, from, c.loop-qid-test.false))
+]
 
 pub returns-in_err-scan_queue-clause-posted : goal.returns-in_err-scan_queue-clause-posted
 returns-in_err-scan_queue-clause-posted c = λ none. c.scan_queue.ensures.posted (c.loop-qid.invariant.posted none)

@@ -1,4 +1,4 @@
-use Rattle.std.proofs.Common.{◌≡◌, ℕ, ◌<◌, length, None, true, false}
+use Rattle.std.proofs.Common.{◌≡◌, ℕ, ◌<◌, ◌≤◌, length, None, true, false}
 use Rattle.nvme_front.specs.inside.Room.{IsConsistent}
 use Rattle.nvme_front.specs.inside.Goes.{Goes, IsSame, HasAdmin, IsScanned}
 use Rattle.nvme_front.specs.inside.Loads.{Loads}
@@ -22,4 +22,5 @@ invariant-loop-qid l = record {
   more : l.fetched ≡ true → length l.fn.self.log.items < length l.self.log.items;
   still : l.fetched ≡ false → IsSame l.fn.self l.self;
   scanned : (q : ℕ) → q < l.qid → IsScanned l.self q;
+  beyond : (q : ℕ) → l.qid-end ≤ q → IsScanned l.self q;
 }
