@@ -44,5 +44,5 @@ returns c = record {
       (subst (λ (z : Step). HasStepped s.their s.their_late notes highest_count z c.pick.new.self c.pick.new.slots) c.in-Done.is (c.pick.ensures.stands s.their s.their_late notes stands)))
       (c.pick.ensures.names s.their s.their_late notes stands (on_regions s.their s.alike.adds) did entry c.in-Done.is)
       (c.pick.ensures.commanded s.their s.their_late notes stands did entry c.in-Done.is) c.log_effect.ensures
-      c.max.result (c.max.ensures ∙ ap (λ (n : ℕ). max e.queues n) c.bound_of.ensures);
+      c.max-self.result (c.max-self.ensures ∙ ap (λ (n : ℕ). max e.queues n) c.bound_of.ensures);
 }
