@@ -42,7 +42,6 @@ loop-cqid-preserved c =
     let posts = posts-over c.args.self.now was now i.posts e.posts in
     let drained = below_more (λ q. (x : ℕ) → open_cq (past_of now) q ≡ Some x → IsDrained now x) c.loop-cqid.cqid
     (λ q below x is. ok.others x (i.drained q below x (sym (open_stays was now e.posts q) ∙ is))) ok.drained in
-    let beyond = λ q from. open_stays was now e.posts q ∙ i.beyond q from in
     elim c.if-branch.branch [
       | then-branch w ↦
           let r : c.post_queue.result ≡ Ok true = c.in_ok-post_queue.was ∙ ap Ok w.if-branch.true in
@@ -57,7 +56,7 @@ loop-cqid-preserved c =
             more = λ _. omega (arith, before, more);
             still = λ f. cc (f, w.posted-is);
             drained = drained;
-            beyond = beyond;
+            beyond = λ q from. open_stays was now e.posts q ∙ i.beyond q from;
           }
       | else-branch w ↦
           let r : c.post_queue.result ≡ Ok false = c.in_ok-post_queue.was ∙ ap Ok w.if-branch.false in
@@ -71,7 +70,7 @@ loop-cqid-preserved c =
             more = λ t. let before = i.more (sym w.posted-is ∙ t) in omega (arith, before, here);
             still = λ f. IsSame-trans c.args.self.now was now (i.still (sym w.posted-is ∙ f)) (e.still r);
             drained = drained;
-            beyond = beyond;
+            beyond = λ q from. open_stays was now e.posts q ∙ i.beyond q from;
           }
     ]
 
