@@ -47,8 +47,8 @@ module _ (notes : Notes) where
       (are.0 ∙ sym (append-nil (seen_below n)) ∙ sym (seen_next n None is) ∙ ap seen_below more, omega (arith, are.1))
 
   -- it is, and there is room for it
-  pub one_pushed : {T E : Type 0} (n : ℕ) (x : Seen) (old new : List Seen) (r : Result T E) → AreSeenBelow n old → Some x ≡ seen_in notes n → n < queue_limit
-      → (IsOk r ↔ (length old < queue_limit)) → OnOk r (new ≡ old ++ x ∷ []) → AreSeenBelow (n + 1) new
+  pub one_pushed : {T E : Type 0} (n : ℕ) (x : Seen) (old new : List Seen) (r : Result T E) → AreSeenBelow n old → Some x ≡ seen_in notes n
+      → n < queue_limit → (IsOk r ↔ (length old < queue_limit)) → OnOk r (new ≡ old ++ x ∷ []) → AreSeenBelow (n + 1) new
   one_pushed n x old new (Ok y) are is below variant ok =
       let more : suc n ≡ n + 1 = omega arith in
       let size = ap (λ (xs : List Seen). length xs) ok ∙ length_push old x in

@@ -37,10 +37,14 @@ closed false o none = none
 
 -- they leave the open queues below it
 few_more : (past : Past) (n : ℕ) (e : Event) → OpensUnder n e → OpensBelow past n → OpensBelow (e ∷ past) n
-few_more past n (event.OpenSq qid region cqid class) under few = (few.0, λ q from. (opened qid q n _ (open_sq past q) under from (few.1 q from).0, (few.1 q from).1))
-few_more past n (event.OpenCq qid region) under few = (few.0, λ q from. ((few.1 q from).0, opened qid q n region (open_cq past q) under from (few.1 q from).1))
-few_more past n (event.Closing qid region) under few = (few.0, λ q from. (closed (qid == q) (open_sq past q) (few.1 q from).0, (few.1 q from).1))
-few_more past n (event.ClosedCq qid region) under few = (few.0, λ q from. ((few.1 q from).0, closed (qid == q) (open_cq past q) (few.1 q from).1))
+few_more past n (event.OpenSq qid region cqid class) under few =
+    (few.0, λ q from. (opened qid q n _ (open_sq past q) under from (few.1 q from).0, (few.1 q from).1))
+few_more past n (event.OpenCq qid region) under few =
+    (few.0, λ q from. ((few.1 q from).0, opened qid q n region (open_cq past q) under from (few.1 q from).1))
+few_more past n (event.Closing qid region) under few =
+    (few.0, λ q from. (closed (qid == q) (open_sq past q) (few.1 q from).0, (few.1 q from).1))
+few_more past n (event.ClosedCq qid region) under few =
+    (few.0, λ q from. ((few.1 q from).0, closed (qid == q) (open_cq past q) (few.1 q from).1))
 few_more past n e under few = few
 
 few_events : (es : List Event) (past : Past) (n : ℕ) → AllUnder n es → OpensBelow past n → OpensBelow (with_events es past) n
@@ -69,25 +73,27 @@ made_under n (effect.CloseCq qid region) ending few = (tt, tt)
 made_under n (effect.Abort sqid cid) ending few = aborted_under n ending
 made_under n (effect.SetArbitration settings) ending few = (tt, tt)
 
-module _ (rules : FrontRules) (late : Bool) (later : Notes) (c : Controller) (slots : List Slot) (s : Stands rules late later c slots) (past : Past) (did : Effect) (ending : Ending)
-    (made : logged later ≡ with_events (made_in did ending) past) where
+module _ (rules : FrontRules) (late : Bool) (later : Notes) (c : Controller) (slots : List Slot) (s : Stands rules late later c slots) (past : Past) (ending : Ending) where
   -- the queue that it opens is within the limit
-  opened_few : (it : Effect) → did ≡ it → above_opened it ≤ queue_limit
-  opened_few (effect.OpenSq qid region cqid cq_region class) is =
+  opened_few : (did : Effect) → logged later ≡ with_events (made_in did ending) past → above_opened did ≤ queue_limit
+  opened_few (effect.OpenSq qid region cqid cq_region class) made =
       let queue : Queue = record { region = region; cqid = cqid; class = class } in
-      let few = s.holds.queues.few qid queue (ap (λ (p : Past). open_sq p qid) (made ∙ (λ i. with_events (made_in (is i) ending) past))
-      ∙ ap (λ (b : Bool). if b then Some queue else open_sq past qid) (eq-eqb qid qid refl)) in
+      let is : open_sq (logged later) qid ≡ Some queue =
+      ap (λ (p : Past). open_sq p qid) made ∙ ap (λ (b : Bool). if b then Some queue else open_sq past qid) (eq-eqb qid qid refl) in
+      let few = s.holds.queues.few qid queue is in
       omega (arith, few)
-  opened_few (effect.OpenCq qid region) is =
-      let few = s.numbers.few_cqs qid region (s.holds.lives.cqs qid ∙ ap (λ (p : Past). open_cq p qid) (made ∙ (λ i. with_events (made_in (is i) ending) past))
-      ∙ ap (λ (b : Bool). if b then Some region else open_cq past qid) (eq-eqb qid qid refl)) in
+  opened_few (effect.OpenCq qid region) made =
+      let is : open_cq (logged later) qid ≡ Some region =
+      ap (λ (p : Past). open_cq p qid) made ∙ ap (λ (b : Bool). if b then Some region else open_cq past qid) (eq-eqb qid qid refl) in
+      let few = s.numbers.few_cqs qid region (s.holds.lives.cqs qid ∙ is) in
       omega (arith, few)
-  opened_few it is = omega arith
+  opened_few did made = omega arith
 
   -- a bound that is raised above it is one
-  pub few_made : (n : ℕ) → OpensBelow past n → (m : ℕ) → m ≡ max n (min (above_opened did) 65535) → OpensBelow (logged later) m
-  few_made n few m bound =
-      let opens = opened_few did refl in
+  pub few_made : (did : Effect) → logged later ≡ with_events (made_in did ending) past → (n : ℕ) → OpensBelow past n → (m : ℕ)
+      → m ≡ max n (min (above_opened did) 65535) → OpensBelow (logged later) m
+  few_made did made n few m bound =
+      let opens = opened_few did made in
       let is : m ≡ max n (above_opened did) = omega (arith, bound, opens) in
       let more : n ≤ m = omega (arith, is) in
       let under : above_opened did ≤ m = omega (arith, is) in

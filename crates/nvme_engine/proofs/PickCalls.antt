@@ -277,7 +277,7 @@ module _ (rules : FrontRules) (late : Bool) (notes : Notes) (e now : Engine) (s 
         let is : logged (later v done.index done.answer done.oldest no_abort) ≡ with_events (made_in did ending) (logged (seen_notes notes pick)) =
         later_is v done.index done.answer done.oldest no_abort ∙ ap (λ (es : List Event). with_events es (logged (seen_notes notes pick))) (sym made) in
         let few : OpensBelow (logged (later v done.index done.answer done.oldest no_abort)) n =
-        few_made s.their s.their_late _ now.controller now.slots.items stands (logged (seen_notes notes pick)) did ending is e.queues s.few n bound in
+        few_made s.their s.their_late _ now.controller now.slots.items stands (logged (seen_notes notes pick)) ending did is e.queues s.few n bound in
         record {
           index = done.index;
           oldest = done.oldest;

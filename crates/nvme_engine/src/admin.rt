@@ -73,7 +73,7 @@ fn log_effect(log: &mut Vec<Event>, effect: &Effect, ending: &Ending)
     }
 }
 
-// One more than the identifier of the queue that an admin command opened, if that is a number; 0 where it opened none.
+// One more than the identifier of the queue that an admin command opened, or 65535; 0 where it opened none.
 fn bound_of(effect: &Effect) -> u16
     ensures { result ≡ min (above_opened effect.now) 65535 }
 {

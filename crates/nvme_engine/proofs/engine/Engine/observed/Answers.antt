@@ -17,7 +17,8 @@ loop-qid-preserved c rules late notes s =
     elim c.match-seen.branch [
       | in-Some w ↦
           rw w.seen-is (one_pushed notes qid w.in-Some.queue old w.try_push-fits.new.self.items w.try_push-fits.result are
-          (w.in-Some.ensures s.their s.their_late notes pool s.stands) (omega (arith, c.loop-qid-test.true, s.few.0)) w.try_push-fits.ensures.variant w.try_push-fits.ensures.ok)
+          (w.in-Some.ensures s.their s.their_late notes pool s.stands) (omega (arith, c.loop-qid-test.true, s.few.0))
+          w.try_push-fits.ensures.variant w.try_push-fits.ensures.ok)
       | in_default w ↦ rw w.seen-is (none_pushed notes qid old are (w.in_default.ensures s.their s.their_late notes pool s.stands))
     ]
 
