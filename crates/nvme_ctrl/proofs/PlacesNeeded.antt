@@ -1,10 +1,9 @@
 -- Whether the places of the next pick are free, whatever is picked and not taken.
-use Rattle.std.proofs.Common.{◌≡◌, ℕ, ◌+◌, ◌<◌, ◌≤◌, Bool, List, [], ◌∷◌, length, Some, None, refl, sym, ap, ◌∙◌, subst, arith}
-use Rattle.std.specs.Prelude.{option_and_then, slice_get, min}
+use Rattle.std.proofs.Common.{◌≡◌, ℕ, ◌+◌, ◌<◌, ◌≤◌, Bool, true, false, List, [], ◌∷◌, length, Some, None, refl, sym, ap, ◌∙◌, ltb-true, ltb-false, lt-ltb, arith}
+use Rattle.std.specs.Prelude.{option_and_then, slice_get, min, nat_lt}
+use Rattle.std.proofs.lemmas.Bool.{false_from_ne_true}
 use Rattle.std.proofs.lemmas.Option.{same_Some}
-use Rattle.nvme_arbiter.specs.declared.pick.Pick.{Pick}
 use Rattle.nvme_entry.specs.declared.submission.Sqe.{Sqe}
-use Rattle.nvme_log.specs.Aborts.{places_for}
 use Rattle.nvme_log.specs.Completions.{outstanding}
 use Rattle.nvme_log.specs.Histories.{admin_entry}
 use Rattle.nvme_log.specs.Limits.{max_outstanding}
@@ -12,12 +11,20 @@ use Rattle.nvme_log.specs.Places.{entry_at, waiting}
 use Rattle.nvme_log.specs.Queues.{Queue, admin_queue, open_sq}
 use Rattle.nvme_log.specs.Rules.{FrontRules}
 use Rattle.nvme_ctrl.specs.Notes.{Notes, logged}
-use Rattle.nvme_ctrl.specs.Steps.{IsNextPick, LacksPlaces}
 use Rattle.nvme_ctrl.specs.Waits.{WaitsAt}
 use Rattle.nvme_ctrl.specs.declared.slot.Slot.{Slot}
 use Rattle.nvme_ctrl.specs.declared.state.Controller.{Controller}
 use Rattle.nvme_ctrl.specs.kept.Kept.{StandsAt}
 use Rattle.nvme_ctrl.proofs.OpenQueues.{admin_is_open}
+
+-- a number above the limit is so where it is capped
+capped : (n : ℕ) → nat_lt max_outstanding (min n 65535) ≡ nat_lt max_outstanding n
+capped n = by (nat_lt max_outstanding n) refl where
+  by : (b : Bool) → nat_lt max_outstanding n ≡ b → nat_lt max_outstanding (min n 65535) ≡ b
+  by true e = let more = ltb-true max_outstanding n e in lt-ltb max_outstanding (min n 65535) (omega (arith, more))
+  by false e =
+      let few = ltb-false max_outstanding n e in
+      false_from_ne_true (nat_lt max_outstanding (min n 65535)) (λ x. let more = ltb-true max_outstanding (min n 65535) x in omega (arith, few, more))
 
 module _ (rules : FrontRules) (late : Bool) (notes : Notes) (c : Controller) (slots : List Slot) (s : StandsAt rules late notes c slots) where
   -- the admin queue is open
@@ -41,23 +48,7 @@ module _ (rules : FrontRules) (late : Bool) (notes : Notes) (c : Controller) (sl
     by [] few = refl
     by (i ∷ is) few = absurd (omega (arith, few))
 
-  -- the next pick lacks places where it needs more than are free
-  pub lacks : (pick : Pick) (places : ℕ) → IsNextPick rules notes (Some pick) → places ≡ places_for (logged notes) pick → max_outstanding < min (c.outstanding + places) 65535
-      → LacksPlaces rules notes
-  lacks pick places next is lacking = record {
-    pick = pick;
-    next = next;
-    places =
-        let count : c.outstanding ≡ outstanding rules (logged notes) = s.numbers.outstanding_is ∙ s.holds.counts.outstanding_is in
-        omega (arith, count, is, lacking);
-  }
-
-  -- and nowhere else
-  pub lacks_none : (pick : Pick) (places : ℕ) → IsNextPick rules notes (Some pick) → places ≡ places_for (logged notes) pick → min (c.outstanding + places) 65535 ≤ max_outstanding
-      → LacksPlaces rules notes → ⊥
-  lacks_none pick places next is fits lacking =
-      let count : c.outstanding ≡ outstanding rules (logged notes) = s.numbers.outstanding_is ∙ s.holds.counts.outstanding_is in
-      let same : lacking.pick ≡ pick = same_Some lacking.pick pick (lacking.next ∙ sym next) in
-      let more = subst (λ (p : Pick). max_outstanding < outstanding rules (logged notes) + places_for (logged notes) p) same lacking.places in
-      let kept = s.numbers.outstanding_is in
-      omega (arith, count, is, fits, more, kept)
+  -- places are lacked by the count that is kept where they are by that of the log
+  pub lacks : (places : ℕ) → nat_lt max_outstanding (min (c.outstanding + places) 65535) ≡ nat_lt max_outstanding (outstanding rules (logged notes) + places)
+  lacks places =
+      capped (c.outstanding + places) ∙ ap (λ (n : ℕ). nat_lt max_outstanding (n + places)) (s.numbers.outstanding_is ∙ s.holds.counts.outstanding_is)

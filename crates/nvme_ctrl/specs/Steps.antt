@@ -18,12 +18,10 @@ use Rattle.nvme_log.specs.Rules.{FrontRules, Past}
 use Rattle.nvme_log.specs.Queues.{Queue, open_sq, open_cq, qid_of_region}
 use Rattle.nvme_log.specs.Places.{waiting, entry_at}
 use Rattle.nvme_log.specs.Histories.{arbitration_of}
-use Rattle.nvme_log.specs.Aborts.{places_for}
 use Rattle.nvme_log.specs.Effects.{made_by}
 use Rattle.nvme_log.specs.Answers.{Answer}
-use Rattle.nvme_log.specs.Limits.{max_outstanding}
 use Rattle.nvme_ctrl.specs.Tags.{handed, taken}
-use Rattle.nvme_log.specs.Completions.{unposted_of, outstanding}
+use Rattle.nvme_log.specs.Completions.{unposted_of}
 use Rattle.nvme_ctrl.specs.Deletions.{deleting}
 use Rattle.nvme_ctrl.specs.Notes.{Notes, Logged, Passed, Answered, logged}
 use Rattle.nvme_ctrl.specs.Making.{placing_in, placed}
@@ -127,12 +125,6 @@ pub record HasPassed (rules : FrontRules) (late : Bool) (notes : Notes) (pick : 
 -- commands are picked that the device hasn't taken
 abbrev pub IsBusy : Notes → Type 0
 IsBusy notes = length (taken notes) < length (handed notes)
-
--- the next pick needs more places than are free
-pub record LacksPlaces (rules : FrontRules) (notes : Notes) : Type 0 where
-  pub pick : Pick
-  pub next : IsNextPick rules notes (Some pick)
-  pub places : max_outstanding < outstanding rules (logged notes) + places_for (logged notes) pick
 
 -- there is a next pick, but the device has room for no command
 pub record LacksRoom (rules : FrontRules) (notes : Notes) (room : ℕ) : Type 0 where

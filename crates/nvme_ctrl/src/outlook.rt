@@ -17,10 +17,12 @@ fn is_abort(entry: &Sqe) -> bool
 }
 
 impl Controller {
-    ghost use Rattle.std.specs.Prelude.{◌≡◌, ◌↔◌, ℕ, Bool, true, false, List, Some, None, IfSome, IsTrue, is_some};
+    ghost use Rattle.std.specs.Prelude.{◌≡◌, ◌↔◌, ℕ, ◌+◌, nat_lt, Bool, true, false, List, Some, None, IfSome, IsTrue, is_some};
     ghost use Rattle.nvme_log.specs.Rules.{FrontRules};
     ghost use Rattle.nvme_log.specs.Aborts.{is_abort_entry, places_for};
     ghost use Rattle.nvme_log.specs.Histories.{admin_entry};
+    ghost use Rattle.nvme_log.specs.Completions.{outstanding};
+    ghost use Rattle.nvme_log.specs.Limits.{max_outstanding};
     ghost use Rattle.nvme_log.specs.Queues.{is_closed_region, qid_of_region};
     ghost use Rattle.nvme_ctrl.specs.Notes.{Notes, logged};
     ghost use Rattle.nvme_ctrl.specs.Deletions.{IsDeletingSome};
@@ -28,8 +30,8 @@ impl Controller {
     ghost use Rattle.nvme_ctrl.specs.Making.{placing_in};
     ghost use Rattle.nvme_ctrl.specs.Observation.{observed_of};
     ghost use Rattle.nvme_ctrl.specs.Outlook.{IsAllDone};
-    ghost use Rattle.nvme_ctrl.specs.Standing.{Stands, IsController};
-    ghost use Rattle.nvme_ctrl.specs.Steps.{IsIdentifier, LacksPlaces};
+    ghost use Rattle.nvme_ctrl.specs.Standing.{Stands};
+    ghost use Rattle.nvme_ctrl.specs.Steps.{IsIdentifier};
     ghost use Rattle.nvme_ctrl.specs.declared.slot.Slot.{Slot};
 
     /// What the next pick is shown: the open queues by ascending identifier, each as `seen` tells it. (Base Specification,
@@ -62,20 +64,13 @@ impl Controller {
         }
     }
 
-    /// Whether the next pick would leave more commands outstanding than `MAX_OUTSTANDING`, with one more for an Abort
-    /// command: the one that it aborts. `pick` has no such limit: a caller that keeps to one asks here before. Where there
-    /// is no next pick, no place is lacked.
-    pub fn lacks_places(&self, slots: &[Slot]) -> bool
-        requires front { IsController self.now slots.now }
-        ensures lacks { (rules : FrontRules) (late : Bool) (notes : Notes) → Stands rules late notes self.now slots.now → result ≡ true → LacksPlaces rules notes }
-        ensures fits { (rules : FrontRules) (late : Bool) (notes : Notes) → Stands rules late notes self.now slots.now → result ≡ false → LacksPlaces rules notes → ⊥ }
+    /// Whether a pick would leave more commands outstanding than `MAX_OUTSTANDING`, where it comes next, as `next_pick` tells
+    /// it. An Abort command needs one place more, for the command that it aborts. `pick` has no such limit: a caller that
+    /// keeps to one asks here before.
+    pub fn lacks_places(&self, slots: &[Slot], pick: Pick) -> bool
+        ensures { (rules : FrontRules) (late : Bool) (notes : Notes) → Stands rules late notes self.now slots.now → result ≡ nat_lt max_outstanding (outstanding rules (logged notes) + places_for (logged notes) pick) }
     {
-        match self.board.peek() {
-            Some(pick) => {
-                self.outstanding.saturating_add(self.needs(slots, pick)) > MAX_OUTSTANDING
-            }
-            None => false,
-        }
+        self.outstanding.saturating_add(self.needs(slots, pick)) > MAX_OUTSTANDING
     }
 
     /// Whether the deletion of a submission queue began and isn't finished. (Base Specification, Delete I/O Submission
