@@ -1,7 +1,7 @@
 -- The next pick at the rules of an engine, and the places that it needs.
-use Rattle.std.proofs.Common.{◌≡◌, ℕ, ◌+◌, ◌<◌, ◌==◌, ◌&&◌, Bool, true, false, not, nat_lt, if◌then◌else◌, List, [], ◌∷◌, length, filter, find, Option, Some, refl, sym, ap, ◌∙◌, subst, arith, inl, inr}
+use Rattle.std.proofs.Common.{◌≡◌, ℕ, ◌+◌, ◌<◌, ◌==◌, ◌&&◌, Bool, true, false, not, if◌then◌else◌, List, [], ◌∷◌, length, filter, find, Option, Some, refl, sym, ap, ◌∙◌, subst, arith, inl, inr}
 use Rattle.std.specs.Prelude.{sum_by}
-use Rattle.std.proofs.lemmas.Bool.{eqb-true, lt-ltb, ltb-true}
+use Rattle.std.proofs.lemmas.Bool.{eqb-true}
 use Rattle.std.proofs.lemmas.Option.{same_Some}
 use Rattle.nvme_arbiter.specs.Limits.{highest_count}
 use Rattle.nvme_arbiter.specs.Observation.{IsObservation}
@@ -9,11 +9,9 @@ use Rattle.nvme_arbiter.specs.Lawful.{lawful_pick}
 use Rattle.nvme_arbiter.specs.declared.pick.Pick.{Pick}
 use Rattle.nvme_arbiter.specs.declared.pick.Seen.{Seen}
 use Rattle.nvme_arbiter.proofs.PickLaws.{picks_are_measured, wide_limits}
-use Rattle.nvme_log.specs.Limits.{max_outstanding}
 use Rattle.nvme_log.specs.Rules.{FrontRules, Past, upto}
 use Rattle.nvme_log.specs.Queues.{Queue, open_sq}
 use Rattle.nvme_log.specs.Places.{places, observation_of}
-use Rattle.nvme_log.specs.Aborts.{places_for}
 use Rattle.nvme_log.specs.Histories.{arbitration_of}
 use Rattle.nvme_log.specs.Completions.{takes_place, is_posted, outstanding}
 use Rattle.nvme_log.specs.declared.place.Place.{Place}
@@ -22,7 +20,7 @@ use Rattle.nvme_log.proofs.Members.{IsIn}
 use Rattle.nvme_log.specs.declared.event.Event.TheVariants as event
 use Rattle.nvme_ctrl.specs.Notes.{Notes, Logged, logged}
 use Rattle.nvme_ctrl.specs.Observation.{observed_of}
-use Rattle.nvme_ctrl.specs.Steps.{IsNextPick, IsNextWithin, LacksPlaces, picked_notes}
+use Rattle.nvme_ctrl.specs.Steps.{IsNextPick, IsNextWithin, picked_notes}
 use Rattle.nvme_ctrl.proofs.Arranged.{observed_as_in_the_log}
 use Rattle.nvme_ctrl.proofs.PickCall.{saw_board}
 use Rattle.nvme_arbiter.specs.Queues.{seen_of}
@@ -122,30 +120,3 @@ module _ (rules : FrontRules) (late : Bool) (notes : Notes) (rest : List Place) 
       ap (λ (xs : List Seen). lawful_pick s.their.mechanism s.their.start.settings (arbitration_of past) xs) (seen_is_observed notes k h.regions h.queues s.stands.shown) ∙ sym (next_was (Some pick) next) in
       pickable s.their.mechanism s.their.start.settings (arbitration_of past) past k pick h.queues h.arbitration.stands.observed
       (whole_is_limited s.their.mechanism s.their.start.settings (arbitration_of past) (seen_of k.board.queues) pick h.arbitration.stands.observed there)
-
-  -- ---- the places that the next pick needs
-  module _ (pick : Pick) (next : next_of rules notes ≡ Some pick) where
-    abbrev needed : ℕ
-    needed = outstanding rules past + places_for past pick
-
-    pub lacks : LacksPlaces s.their notes → max_outstanding < needed
-    lacks h =
-        let same = ap (places_for past) (same_pick pick h.pick next h.next) in
-        let few = h.places in
-        let count = same_outstanding in
-        omega (arith, few, same, count)
-
-    pub lacks_more : max_outstanding < needed → LacksPlaces s.their notes
-    lacks_more more = record {
-      pick = pick;
-      next = next_was (Some pick) next;
-      places = (let count = same_outstanding in omega (arith, more, count));
-    }
-
-    -- whether they are free
-    pub lacks_is : (result : Bool) → (result ≡ true → LacksPlaces s.their notes) → (result ≡ false → LacksPlaces s.their notes → ⊥) → result ≡ nat_lt max_outstanding needed
-    lacks_is true is not_is = sym (lt-ltb max_outstanding needed (lacks (is refl)))
-    lacks_is false is not_is = by (nat_lt max_outstanding needed) refl where
-      by : (b : Bool) → nat_lt max_outstanding needed ≡ b → false ≡ b
-      by false e = refl
-      by true e = absurd (not_is refl (lacks_more (ltb-true max_outstanding needed e)))

@@ -23,13 +23,12 @@ impl Engine {
         self.controller.next_pick(self.slots.as_slice())
     }
 
-    /// Whether the next pick needs more outstanding places than are free: one for each command, and for an Abort command a
-    /// second one, for the command that it aborts. (profile)
-    pub fn lacks_places(&self) -> bool
-        requires engine { IsEngine self.now }
-        ensures { (rules : FrontRules) (late : Bool) (notes : Notes) (pick : Pick) → StandsAt rules late notes self.now → next_of rules notes ≡ Some pick → result ≡ nat_lt max_outstanding (outstanding rules (logged notes) + places_for (logged notes) pick) }
+    /// Whether a pick needs more outstanding places than are free, where it comes next: one for each command, and for an
+    /// Abort command a second one, for the command that it aborts. (profile)
+    pub fn lacks_places(&self, pick: Pick) -> bool
+        ensures { (rules : FrontRules) (late : Bool) (notes : Notes) → StandsAt rules late notes self.now → result ≡ nat_lt max_outstanding (outstanding rules (logged notes) + places_for (logged notes) pick) }
     {
-        self.controller.lacks_places(self.slots.as_slice())
+        self.controller.lacks_places(self.slots.as_slice(), pick)
     }
 
     /// What arbitration sees: the open queues, each with its number of waiting commands.

@@ -156,12 +156,12 @@ module _ (s : FrontState) (k : IsRunning s) where
       sym (told (rules_of s) s.late k.notes k.stands
       ∙ ap (λ (p : Past). lawful_pick (rules_of s).mechanism (rules_of s).start.settings (arbitration_of p) (observation_of p)) k.past_is)
 
-  module _ (pick : Pick) (next : next_lawful (view_of s) ≡ Some pick) (b : Bool)
-      (told : (rules : FrontRules) (late : Bool) (notes : Notes) (x : Pick) → StandsAt rules late notes s.engine → next_of rules notes ≡ Some x
-      → b ≡ nat_lt max_outstanding (outstanding rules (logged notes) + places_for (logged notes) x)) where
+  module _ (pick : Pick) (b : Bool)
+      (told : (rules : FrontRules) (late : Bool) (notes : Notes) → StandsAt rules late notes s.engine
+      → b ≡ nat_lt max_outstanding (outstanding rules (logged notes) + places_for (logged notes) pick)) where
     lacks : b ≡ nat_lt max_outstanding (outstanding (rules_of s) (past_of s) + places_for (past_of s) pick)
     lacks =
-        told (rules_of s) s.late k.notes pick k.stands (next_is pick next)
+        told (rules_of s) s.late k.notes k.stands
         ∙ ap (λ (p : Past). nat_lt max_outstanding (outstanding (rules_of s) p + places_for p pick)) k.past_is
 
     pub told_lacks : b ≡ true → LacksPlaces (rules_of s) (past_of s) pick

@@ -150,7 +150,7 @@ impl FrontState {
         let Some(pick) = self.engine.next_pick() else {
             return Ok(Step::Idle);
         };
-        if self.engine.lacks_places() {
+        if self.engine.lacks_places(pick) {
             return Ok(Step::Stalled);
         }
         self.pick_next(pick)?;

@@ -9,9 +9,6 @@ use Rattle.nvme_front.proofs.state.FrontState.pick.Goals as goal
 pub next_pick-requires : goal.next_pick-requires
 next_pick-requires c = record { engine = has_engine c.args.self.now (c.requires.consistent.running c.requires.admin) }
 
-pub lacks_places-requires : goal.lacks_places-requires
-lacks_places-requires c = record { engine = has_engine c.args.self.now (c.requires.consistent.running c.requires.admin) }
-
 pub returns-in_default-clause-idle : goal.returns-in_default-clause-idle
 returns-in_default-clause-idle c = λ _.
     let s = c.args.self.now in
@@ -23,7 +20,7 @@ returns-then-lacks_places-clause-stalled c = λ _.
     let s = c.args.self.now in
     let k = c.requires.consistent.running c.requires.admin in
     let next = told_next s k c.next_pick.result c.next_pick.ensures ∙ c.in-Some.is in
-    (IsSame-refl s, needs_places s c.in-Some.pick next (told_lacks s k c.in-Some.pick next c.lacks_places.result c.lacks_places.ensures c.if-lacks_places.true))
+    (IsSame-refl s, needs_places s c.in-Some.pick next (told_lacks s k c.in-Some.pick c.lacks_places.result c.lacks_places.ensures c.if-lacks_places.true))
 
 pub pick_next-requires-clause-next : goal.pick_next-requires-clause-next
 pick_next-requires-clause-next c =
@@ -34,8 +31,7 @@ pub pick_next-requires-clause-places : goal.pick_next-requires-clause-places
 pick_next-requires-clause-places c =
     let s = c.args.self.now in
     let k = c.requires.consistent.running c.requires.admin in
-    let next = told_next s k c.next_pick.result c.next_pick.ensures ∙ c.in-Some.is in
-    told_has s k c.in-Some.pick next c.lacks_places.result c.lacks_places.ensures c.if-lacks_places.false
+    told_has s k c.in-Some.pick c.lacks_places.result c.lacks_places.ensures c.if-lacks_places.false
 
 pub returns-in_err-pick_next-clause-full : goal.returns-in_err-pick_next-clause-full
 returns-in_err-pick_next-clause-full c = λ e.
