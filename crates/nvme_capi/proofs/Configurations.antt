@@ -8,8 +8,8 @@ use Rattle.nvme_admin.specs.declared.bounds.TheConstants.{MAX_IO_QUEUES}
 use Rattle.nvme_admin.specs.declared.limits.Limits.{Limits}
 use Rattle.nvme_log.specs.Rules.{FrontRules}
 use Rattle.nvme_ctrl.specs.Standing.{Stands}
-use Rattle.nvme_ctrl.specs.Making.{first_regions}
-use Rattle.nvme_ctrl.specs.declared.slot.Slot.{Slot}
+use Rattle.nvme_ctrl_log.specs.Making.{first_regions}
+use Rattle.nvme_slots.specs.declared.slot.Slot.{Slot}
 use Rattle.nvme_ctrl.specs.declared.state.Controller.{Controller}
 use Rattle.nvme_capi.specs.Tables.{is_limit}
 use Rattle.nvme_admin.specs.History.{RegionAdded, PlacedAnywhere, Submission, Completion, Placing}

@@ -5,7 +5,7 @@ use Rattle.std.proofs.lemmas.List.{get_or-set_same, get_or-set_other, length-set
 use Rattle.nvme_entry.specs.Bits.{bits_of, bytes_at, dword}
 use Rattle.nvme_entry.specs.Completion.{IsCompletionEntry}
 use Rattle.nvme_entry.specs.declared.completion.Cqe.{Cqe}
-use Rattle.nvme_ctrl.specs.declared.status_flags.StatusFlags.{StatusFlags}
+use Rattle.nvme_ctrl_log.specs.declared.status_flags.StatusFlags.{StatusFlags}
 use Rattle.nvme_capi.specs.Controllers.{IsFlaggedEntry}
 
 -- a number in bytes that are left

@@ -2,11 +2,11 @@
 use Rattle.std.proofs.Common.{◌≡◌, ℕ, ◌==◌, Bool, true, false, if◌then◌else◌, List, Option, Some, None, sym, ap, ◌∙◌, subst, true≢false}
 use Rattle.std.specs.Prelude.{IsSomeAnd}
 use Rattle.std.proofs.lemmas.Option.{same_Some}
-use Rattle.nvme_ctrl.specs.Generations.{generation_at, tag_at, tag_of, slot_of}
-use Rattle.nvme_ctrl.specs.Notes.{Notes}
-use Rattle.nvme_ctrl.specs.Tags.{is_out}
-use Rattle.nvme_ctrl.specs.declared.slot.Slot.{Slot}
-use Rattle.nvme_ctrl.specs.declared.tag.Tag.{Tag}
+use Rattle.nvme_slots.specs.Generations.{generation_at, tag_at, tag_of, slot_of}
+use Rattle.nvme_ctrl_log.specs.Notes.{Notes}
+use Rattle.nvme_ctrl_log.specs.Tags.{is_out}
+use Rattle.nvme_slots.specs.declared.slot.Slot.{Slot}
+use Rattle.nvme_slots.specs.declared.tag.Tag.{Tag}
 use Rattle.nvme_capi.specs.Controllers.{IsOutUnder}
 
 -- the device has the command of a tag's slot
@@ -16,10 +16,6 @@ out_under notes slots tag slot is out = subst (λ (o : Option ℕ). IsSomeAnd o 
 -- or it has no such command
 pub not_out_under : (notes : Notes) (slots : List Slot) (tag slot : ℕ) → slot_of slots (tag_of tag) ≡ Some slot → is_out notes slot ≡ false → IsOutUnder notes slots tag → ⊥
 not_out_under notes slots tag slot is not_out under = true≢false (sym (subst (λ (o : Option ℕ). IsSomeAnd o (λ x. is_out notes x ≡ true)) is under) ∙ not_out)
-
--- a tag that is used up has none
-pub not_under : (notes : Notes) (slots : List Slot) (tag : ℕ) → slot_of slots (tag_of tag) ≡ None → IsOutUnder notes slots tag → ⊥
-not_under notes slots tag is under = subst (λ (o : Option ℕ). IsSomeAnd o (λ x. is_out notes x ≡ true)) is under
 
 -- the slot of a tag is its own
 pub slot_is : (slots : List Slot) (tag slot : ℕ) → slot_of slots (tag_of tag) ≡ Some slot → slot ≡ (tag_of tag).slot

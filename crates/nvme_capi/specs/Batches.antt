@@ -7,14 +7,16 @@ use Rattle.nvme_log.specs.Rules.{FrontRules}
 use Rattle.nvme_log.specs.Queues.{open_cq}
 use Rattle.nvme_log.specs.Places.{entry_at}
 use Rattle.nvme_log.specs.declared.place.Place.{Place}
-use Rattle.nvme_ctrl.specs.Notes.{Notes, logged}
+use Rattle.nvme_ctrl_log.specs.Notes.{Notes, logged}
 use Rattle.nvme_ctrl.specs.Standing.{Stands}
-use Rattle.nvme_ctrl.specs.Tags.{handed, taken, is_out, holder, cookie_of}
-use Rattle.nvme_ctrl.specs.Generations.{SameGenerations, IsNextGeneration, tag_of}
-use Rattle.nvme_ctrl.specs.Calls.{depth_of, MayFetch, HasFetched, HasTaken}
-use Rattle.nvme_ctrl.specs.Posts.{NonePostable, next_post_of}
+use Rattle.nvme_ctrl_log.specs.Tags.{handed, taken, is_out, holder, cookie_of}
+use Rattle.nvme_slots.specs.Generations.{SameGenerations, IsNextGeneration, tag_of}
+use Rattle.nvme_ctrl.specs.Calls.{depth_of, HasFetched, HasTaken}
+use Rattle.nvme_ctrl_log.specs.Calls.{MayFetch}
+use Rattle.nvme_ctrl_log.specs.Posts.{NonePostable}
+use Rattle.nvme_ctrl.specs.Posts.{next_post_of}
 use Rattle.nvme_ctrl.specs.NextQueue.{HasPost}
-use Rattle.nvme_ctrl.specs.declared.slot.Slot.{Slot}
+use Rattle.nvme_slots.specs.declared.slot.Slot.{Slot}
 use Rattle.nvme_ctrl.specs.declared.state.Controller.{Controller}
 use Rattle.nvme_capi.specs.Controllers.{IsCommandIn, HasPostedBytes, IsPostIn}
 use Rattle.nvme_capi.specs.declared.ctrl.state.CommandFields.{CommandFields}

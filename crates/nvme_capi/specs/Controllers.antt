@@ -10,14 +10,15 @@ use Rattle.nvme_admin.specs.declared.bounds.TheConstants.{MAX_IO_QUEUES, MAX_QSI
 use Rattle.nvme_admin.specs.declared.limits.Limits.{Limits}
 use Rattle.nvme_log.specs.Rules.{FrontRules}
 use Rattle.nvme_log.specs.Answers.{Answer}
-use Rattle.nvme_ctrl.specs.Notes.{Notes}
+use Rattle.nvme_ctrl_log.specs.Notes.{Notes}
 use Rattle.nvme_ctrl.specs.Standing.{Stands, IsController, has_arbiter}
-use Rattle.nvme_ctrl.specs.Tags.{is_out}
-use Rattle.nvme_ctrl.specs.Generations.{tag_at, tag_of, slot_of}
-use Rattle.nvme_ctrl.specs.Making.{first_rules, anywhere_rules, placing_in}
+use Rattle.nvme_ctrl_log.specs.Tags.{is_out}
+use Rattle.nvme_slots.specs.Generations.{tag_at, tag_of, slot_of}
+use Rattle.nvme_ctrl_log.specs.Making.{first_rules, anywhere_rules, placing_in}
 use Rattle.nvme_ctrl.specs.Calls.{HasPosted}
 use Rattle.nvme_ctrl.specs.Posts.{IsPostOf}
-use Rattle.nvme_ctrl.specs.Steps.{HasDone, NamesIdentifiers}
+use Rattle.nvme_ctrl.specs.Steps.{HasDone}
+use Rattle.nvme_ctrl_log.specs.Steps.{NamesIdentifiers}
 use Rattle.nvme_admin.specs.Effects.{verdict_in}
 use Rattle.nvme_admin.specs.Placing.{vector_of, interrupts_of}
 use Rattle.nvme_admin.specs.declared.effect.Effect.{Effect}
@@ -25,9 +26,9 @@ use Rattle.nvme_admin.specs.declared.effect.Effect.TheVariants.{OpenSq, OpenCq}
 use Rattle.nvme_entry.specs.declared.submission.Sqe.{Sqe}
 use Rattle.nvme_capi.specs.declared.ctrl.state.AskedFields.{AskedFields}
 use Rattle.nvme_capi.specs.declared.ctrl.state.PlacementFields.{PlacementFields}
-use Rattle.nvme_ctrl.specs.kept.Pool.{slot_at}
-use Rattle.nvme_ctrl.specs.declared.status_flags.StatusFlags.{StatusFlags}
-use Rattle.nvme_ctrl.specs.declared.slot.Slot.{Slot}
+use Rattle.nvme_slots.specs.Pool.{slot_at}
+use Rattle.nvme_ctrl_log.specs.declared.status_flags.StatusFlags.{StatusFlags}
+use Rattle.nvme_slots.specs.declared.slot.Slot.{Slot}
 use Rattle.nvme_ctrl.specs.declared.state.Controller.{Controller}
 use Rattle.nvme_capi.specs.Fields.{code_of}
 use Rattle.nvme_capi.specs.Tables.{is_limit, answer_of}

@@ -1,7 +1,6 @@
 -- An Abort command takes the oldest candidate that it names out of a window: its completion is ready.
-use Rattle.std.specs.Prelude.{option_map}
+use Rattle.std.specs.Prelude.{option_map, slice_set, min, IsTrue, IsSome, IsSomeAnd, IfSome}
 use Rattle.std.proofs.Common.{◌≡◌, ◌≢◌, ℕ, ◌+◌, ◌-◌, ◌<◌, ◌==◌, Bool, true, false, if◌then◌else◌, List, [], ◌∷◌, ◌++◌, length, map, drop, Option, Some, None, refl, sym, ap, ◌∙◌, subst, arith, inl}
-use Rattle.std.specs.Prelude.{slice_set, min, IsTrue, IsSome, IsSomeAnd, IfSome}
 use Rattle.std.specs.List.{All}
 use Rattle.std.proofs.lemmas.List.{map-append}
 use Rattle.std.proofs.lemmas.List.Elements.{All-head, All-tail, All-append}
@@ -24,25 +23,26 @@ use Rattle.nvme_entry.specs.Status.{abort_requested}
 use Rattle.nvme_entry.specs.declared.submission.Sqe.{Sqe}
 use Rattle.nvme_log.specs.Rules.{FrontRules}
 use Rattle.nvme_ctrl.proofs.Cookies.{cookie_left, same_cookies}
-use Rattle.nvme_ctrl.specs.Tags.{answer_of, cookie_of}
-use Rattle.nvme_ctrl.specs.Notes.{Notes}
-use Rattle.nvme_ctrl.specs.declared.slot.Slot.{Slot}
-use Rattle.nvme_ctrl.specs.declared.chain.Chain.{Chain}
+use Rattle.nvme_ctrl_log.specs.Tags.{answer_of, cookie_of}
+use Rattle.nvme_ctrl_log.specs.Notes.{Notes}
+use Rattle.nvme_slots.specs.declared.slot.Slot.{Slot}
+use Rattle.nvme_slots.specs.declared.chain.Chain.{Chain}
 use Rattle.nvme_ctrl.specs.declared.state.SqState.{SqState}
 use Rattle.nvme_ctrl.specs.declared.state.Controller.{Controller}
-use Rattle.nvme_ctrl.specs.kept.Content.{Candidate, Ready, SqContent, Content, with_sq, with_ready}
-use Rattle.nvme_ctrl.specs.inside.Steps.{requested, oldest_named, without_oldest}
+use Rattle.nvme_ctrl_content.specs.Content.{Candidate, Ready, SqContent, Content, with_sq, with_ready}
+use Rattle.nvme_ctrl_content.specs.Steps.{requested, oldest_named, without_oldest}
 use Rattle.nvme_ctrl.specs.kept.Kept.{is_passed_at, Item, Items, IsWaitingIn, IsUnanswered, IsThrough, IsSqOf, HasNumbers, tags_of, candidate_of, IsCookie, HasCookie, IsUnflagged}
 use Rattle.nvme_ctrl.specs.inside.Loose.{IsLoose, Keeps, MakesReady, ended, with_item}
-use Rattle.nvme_ctrl.specs.inside.Carrying.{queue_in, IsAbortableIn, HasRequested}
-use Rattle.nvme_ctrl.specs.kept.Standing.{counted_on, on_board}
-use Rattle.nvme_ctrl.specs.kept.Pool.{slot_at, item_at, IsChain, IsNew, SameItems, SameLinks, named_in, without_named}
+use Rattle.nvme_ctrl_content.specs.Carrying.{queue_in, IsAbortableIn}
+use Rattle.nvme_ctrl.specs.inside.Carrying.{HasRequested}
+use Rattle.nvme_ctrl_content.specs.Standing.{counted_on, on_board}
+use Rattle.nvme_slots.specs.Pool.{slot_at, item_at, IsChain, IsNew, SameItems, SameLinks, named_in, without_named}
 use Rattle.nvme_ctrl.specs.kept.State.{sq_at}
 use Rattle.nvme_ctrl.proofs.CarriedOut.{none_picked_of}
 use Rattle.nvme_ctrl.proofs.Dropping.{posts_to, loose_waited, loose_windowed}
 use Rattle.nvme_ctrl.proofs.Ending.{loose_ended}
-use Rattle.nvme_ctrl.proofs.Named.{found_one}
-use Rattle.nvme_ctrl.proofs.Pools.{IsNew-others, IsNew-left, IsNew-right, IsNew-append}
+use Rattle.nvme_ctrl_content.proofs.Named.{found_one}
+use Rattle.nvme_slots.proofs.Pools.{IsNew-others, IsNew-left, IsNew-right, IsNew-append}
 use Rattle.nvme_ctrl.proofs.SlotItems.{All-parts}
 use Rattle.nvme_ctrl.proofs.Windowed.{with_window, keeps_windowed, keeps_outstanding}
 
@@ -312,18 +312,6 @@ module _ (rules : FrontRules) (notes : Notes) (a : Controller) (slots : List Slo
         ∙ ap (λ (v : BoardView). slice_set v.queues sqid (Some (counted_on k (queue_in entry) (length (without_oldest cid (k.sq region).window))))) h.numbers.board_is
 
 -- ---- the queue in the table
--- a queue that some content has is on its region in all that a controller keeps
-pub kept_life : (a : Controller) (k m : Content) → HasNumbers a k → HasNumbers a m → (q r : ℕ) → m.sq_life q ≡ Some r → (entry : SqEntry) → k.table.sq q ≡ Some entry
-    → k.sq_life q ≡ Some entry.region
-kept_life a k m h n q r is entry in_table = by (k.sq_life q) refl where
-  s : IsSqOf a m q r
-  s = n.sqs q r is
-
-  by : (o : Option ℕ) → k.sq_life q ≡ o → o ≡ Some entry.region
-  by None none = absurd (let slots = ap (λ (z : SqState). z.ring.slots) (h.no_sqs q none) in let some = s.some in let same = s.slots in omega (arith, slots, some, same))
-  by (Some x) there =
-      let t = h.sqs q x there in
-      ap (λ (y : ℕ). Some y) (sym t.on ∙ ap (λ (e : SqEntry). e.region) (same_Some t.entry entry (sym t.in_table ∙ in_table)))
 
 -- a queue of the code's table is one of the table that it tells, wherever it lies
 pub record IsToldOf (queue : SqEntry) (o : Option SqEntry) : Type 0 where

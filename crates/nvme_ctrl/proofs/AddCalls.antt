@@ -15,24 +15,24 @@ use Rattle.nvme_admin.specs.declared.region.AdminError.{AdminError}
 use Rattle.nvme_log.specs.Rules.{FrontRules, sq_regions_of, cq_regions_of, slots_at}
 use Rattle.nvme_log.specs.Places.{fetched}
 use Rattle.nvme_log.specs.Completions.{posted_to}
-use Rattle.nvme_ctrl.specs.Notes.{Notes, logged}
-use Rattle.nvme_ctrl.specs.Rings.{HasCounts}
-use Rattle.nvme_ctrl.specs.Making.{with_region, is_late, adding_fault, placing_in}
-use Rattle.nvme_ctrl.specs.Account.{IsAccount}
-use Rattle.nvme_ctrl.specs.declared.slot.Slot.{Slot}
+use Rattle.nvme_ctrl_log.specs.Notes.{Notes, logged}
+use Rattle.nvme_slots.specs.Rings.{HasCounts}
+use Rattle.nvme_ctrl_log.specs.Making.{with_region, is_late, adding_fault, placing_in}
+use Rattle.nvme_ctrl_log.specs.Account.{IsAccount}
+use Rattle.nvme_slots.specs.declared.slot.Slot.{Slot}
 use Rattle.nvme_ctrl.specs.Standing.{IsController}
 use Rattle.nvme_ctrl.specs.declared.state.Controller.{Controller}
-use Rattle.nvme_ctrl.specs.kept.Content.{Attachment, Content}
-use Rattle.nvme_ctrl.specs.kept.Standing.{HoldsOwn}
+use Rattle.nvme_ctrl_content.specs.Content.{Attachment, Content}
+use Rattle.nvme_ctrl_content.specs.Standing.{HoldsOwn}
 use Rattle.nvme_ctrl.specs.kept.Kept.{HasNumbers, HasItems, HoldsDoorbells, HoldsTags, StandsAt}
 use Rattle.nvme_ctrl.specs.kept.State.{sq_at, cq_at}
-use Rattle.nvme_ctrl.proofs.AddedTables.{sq-added, sq-leaves, cq-added, cq-leaves, slots_other, sq-same_placing, cq-same_placing, sq-more, sq-same, cq-more, cq-same, sq-same_sq, sq-same_cq, sq-same_used, sq-same_cq_used, sq-more_sqs, sq-same_cqs, cq-same_cq, cq-same_sq, cq-same_used, cq-same_cq_used, cq-same_sqs, cq-more_cqs}
-use Rattle.nvme_ctrl.proofs.DoorbellCounts.{submitted_same, submitted_none, consumed_same, consumed_none}
-use Rattle.nvme_ctrl.proofs.FurtherAccounts.{sound-notes, account-stays}
+use Rattle.nvme_ctrl_log.proofs.AddedTables.{sq-added, sq-leaves, cq-added, cq-leaves, slots_other, sq-same_placing, cq-same_placing, sq-more, sq-same, cq-more, cq-same, sq-same_sq, sq-same_cq, sq-same_used, sq-same_cq_used, sq-more_sqs, sq-same_cqs, cq-same_cq, cq-same_sq, cq-same_used, cq-same_cq_used, cq-same_sqs, cq-more_cqs}
+use Rattle.nvme_ctrl_log.proofs.DoorbellCounts.{submitted_same, submitted_none, consumed_same, consumed_none}
+use Rattle.nvme_ctrl_log.proofs.FurtherAccounts.{sound-notes, account-stays}
 use Rattle.nvme_ctrl.proofs.DoorbellCalls.{has_none}
-use Rattle.nvme_ctrl.proofs.FurtherHistories.{region-placing}
-use Rattle.nvme_ctrl.proofs.FurtherStanding.{in_time, has_history, own-holds}
-use Rattle.nvme_ctrl.proofs.Growing.{Grows, grown, holds_when_grown}
+use Rattle.nvme_ctrl_log.proofs.FurtherHistories.{region-placing}
+use Rattle.nvme_ctrl_content.proofs.FurtherStanding.{in_time, has_history, own-holds}
+use Rattle.nvme_ctrl_content.proofs.Growing.{Grows, grown, holds_when_grown}
 use Rattle.nvme_ctrl.proofs.QueueStates.{IsSqWith, sq_of_with}
 
 -- ---- a controller that stands

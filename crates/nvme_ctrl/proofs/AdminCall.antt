@@ -33,30 +33,30 @@ use Rattle.nvme_log.specs.Rules.{FrontRules, sq_regions_of, cq_regions_of}
 use Rattle.nvme_log.specs.Places.{entry_at, waiting}
 use Rattle.nvme_log.specs.Histories.{arbitration_of}
 use Rattle.nvme_log.specs.Queues.{Queue, admin_queue, open_sq}
-use Rattle.nvme_ctrl.specs.Account.{IsAccount}
-use Rattle.nvme_ctrl.specs.Making.{with_region, slots_asked, placing_in, placed, placed_by}
-use Rattle.nvme_ctrl.specs.Notes.{Notes, logged}
-use Rattle.nvme_ctrl.specs.Tags.{answer_of, cookie_of}
-use Rattle.nvme_ctrl.specs.declared.slot.Slot.{Slot}
-use Rattle.nvme_ctrl.specs.declared.chain.Chain.{Chain}
+use Rattle.nvme_ctrl_log.specs.Account.{IsAccount}
+use Rattle.nvme_ctrl_log.specs.Making.{with_region, slots_asked, placing_in, placed, placed_by}
+use Rattle.nvme_ctrl_log.specs.Notes.{Notes, logged}
+use Rattle.nvme_ctrl_log.specs.Tags.{answer_of, cookie_of}
+use Rattle.nvme_slots.specs.declared.slot.Slot.{Slot}
+use Rattle.nvme_slots.specs.declared.chain.Chain.{Chain}
 use Rattle.nvme_ctrl.specs.declared.state.SqState.{SqState}
 use Rattle.nvme_ctrl.specs.declared.state.Controller.{Controller}
-use Rattle.nvme_ctrl.specs.kept.Content.{Candidate, Content}
-use Rattle.nvme_ctrl.specs.kept.Standing.{Holds, FewQueues}
-use Rattle.nvme_ctrl.specs.inside.Steps.{HasNextRegion, CanPick, CanApply, verdict_at, picked_sq, applied_to}
-use Rattle.nvme_ctrl.specs.kept.Kept.{Item, Items, IsWaitingIn, IsUnanswered, HasCookie, HoldsShown, HasRegionsMade, StandsAt, tags_of, candidate_of}
+use Rattle.nvme_ctrl_content.specs.Content.{Candidate, Content}
+use Rattle.nvme_ctrl_content.specs.Standing.{Holds, FewQueues}
+use Rattle.nvme_ctrl_content.specs.Steps.{HasNextRegion, CanPick, CanApply, verdict_at, picked_sq, applied_to}
+use Rattle.nvme_ctrl.specs.kept.Kept.{Item, Items, IsWaitingIn, IsUnanswered, HasCookie, StandsAt, tags_of, candidate_of}
+use Rattle.nvme_ctrl_content.specs.Shown.{HoldsShown, HasRegionsMade}
 use Rattle.nvme_ctrl.specs.inside.Loose.{IsLoose, Keeps}
 use Rattle.nvme_ctrl.specs.inside.Carrying.{IsApplied}
-use Rattle.nvme_ctrl.specs.kept.Pool.{slot_at, IsChain}
+use Rattle.nvme_slots.specs.Pool.{slot_at, IsChain}
 use Rattle.nvme_ctrl.specs.kept.State.{sq_at}
 use Rattle.nvme_ctrl.proofs.CarriedOut.{none_picked_of}
 use Rattle.nvme_ctrl.proofs.ComingRegions.{Comes, with_next, region_comes}
-use Rattle.nvme_ctrl.proofs.CountedCreates.{IsCounted, OpensNext, sqs_with, cqs_with, counted}
+use Rattle.nvme_ctrl_log.proofs.CountedCreates.{IsCounted, OpensNext, sqs_with, cqs_with, counted}
 use Rattle.nvme_ctrl.proofs.Dropping.{loose_waited}
-use Rattle.nvme_ctrl.proofs.LifeLaws.{applied_stays}
+use Rattle.nvme_ctrl_content.proofs.LifeLaws.{applied_stays}
 use Rattle.nvme_ctrl.proofs.PoolBounds.{unposted_held, window_held}
-use Rattle.nvme_ctrl.proofs.Observing.{pickable}
-use Rattle.nvme_ctrl.proofs.OpenQueues.{admin_is_open}
+use Rattle.nvme_ctrl_content.proofs.OpenQueues.{admin_is_open}
 use Rattle.nvme_ctrl.proofs.PickCall.{board_stands, due, can}
 use Rattle.nvme_ctrl.proofs.Standable.{keeps_standing}
 use Rattle.nvme_ctrl.proofs.Windowed.{with_window, keeps_windowed, keeps_outstanding, keeps_table}
@@ -76,15 +76,6 @@ split (x ∷ xs) some = record { first = x; rest = xs; is = refl }
 pub length-candidates : (its : List Item) → length (map candidate_of its) ≡ length its
 length-candidates [] = refl
 length-candidates (it ∷ its) = let rest = length-candidates its in omega arith
-
--- it is of one command
-pub admin_one : (rules : FrontRules) (late : Bool) (notes : Notes) (c : Controller) (slots : List Slot) (s : StandsAt rules late notes c slots) (pick : Pick)
-    → ((m : Mechanism) (first : ArbitrationFields) (h : History) → BoardStandsAt m first h (board_of c.board) → IsLimitedPick m first h (seen_of (board_of c.board).queues) pick)
-    → pick.qid ≡ 0 → pick.n ≡ 1
-admin_one rules late notes c slots s pick lawful first_is =
-    (pickable rules.mechanism rules.start.settings (arbitration_of (logged notes)) (logged notes) s.content pick s.holds.queues s.holds.arbitration.stands.observed
-    (subst (λ (b : BoardView). IsLimitedPick rules.mechanism rules.start.settings (arbitration_of (logged notes)) (seen_of b.queues) pick) s.numbers.board_is
-    ((lawful rules.mechanism rules.start.settings (arbitration_of (logged notes)) (board_stands rules late notes c slots s))))).one_of_admin first_is
 
 module _ (rules : FrontRules) (late : Bool) (notes : Notes) (c : Controller) (slots : List Slot) (s : StandsAt rules late notes c slots)
     (none : c.picked ≡ 0) (pick : Pick) (board : BoardFields)

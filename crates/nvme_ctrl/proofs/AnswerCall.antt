@@ -1,6 +1,5 @@
 -- The device answers a command: the controller stands at its log afterwards.
-use Rattle.std.proofs.Common.{◌&&◌, eqb-true}
-use Rattle.std.proofs.Common.{◌≡◌, ◌≢◌, ℕ, ◌+◌, ◌<◌, ◌≤◌, ◌^◌, ◌==◌, ◌&&◌, Bool, true, false, if◌then◌else◌, List, [], ◌∷◌, ◌++◌, length, drop, get_or, Option, Some, None, refl, sym, ap, ◌∙◌, subst, arith, inl, inr}
+use Rattle.std.proofs.Common.{◌&&◌, eqb-true, ◌≡◌, ◌≢◌, ℕ, ◌+◌, ◌<◌, ◌≤◌, ◌^◌, ◌==◌, Bool, true, false, if◌then◌else◌, List, [], ◌∷◌, ◌++◌, length, drop, get_or, Option, Some, None, refl, sym, ap, ◌∙◌, subst, arith, inl, inr}
 use Rattle.std.specs.Prelude.{slice_set, is_none, unwrap_or}
 use Rattle.std.specs.List.{All}
 use Rattle.std.proofs.lemmas.Bool.{cases_eq, eq-eqb, ne_eqb}
@@ -15,33 +14,33 @@ use Rattle.nvme_log.specs.Completions.{posted_to, phase_after}
 use Rattle.nvme_log.specs.Places.{fetched, is_aborted}
 use Rattle.nvme_log.specs.Dispatches.{place_at}
 use Rattle.nvme_log.specs.declared.place.Place.{Place}
-use Rattle.nvme_ctrl.specs.Notes.{Notes, Answered, Flagged, logged}
-use Rattle.nvme_ctrl.specs.Doorbells.{consumed}
-use Rattle.nvme_ctrl.specs.Rings.{HasCounts}
-use Rattle.nvme_ctrl.specs.Tags.{holder, answer_of, flags_of, is_unanswered, is_out, all_posts, is_of_device}
-use Rattle.nvme_ctrl.specs.Account.{IsAccount, IsAnswer, IsFlagged}
+use Rattle.nvme_ctrl_log.specs.Notes.{Notes, Answered, Flagged, logged}
+use Rattle.nvme_ctrl_log.specs.Doorbells.{consumed}
+use Rattle.nvme_slots.specs.Rings.{HasCounts}
+use Rattle.nvme_ctrl_log.specs.Tags.{holder, answer_of, flags_of, is_unanswered, is_out, all_posts, is_of_device}
+use Rattle.nvme_ctrl_log.specs.Account.{IsAccount, IsAnswer, IsFlagged}
 use Rattle.nvme_ctrl.specs.Calls.{HasAnswered}
-use Rattle.nvme_ctrl.specs.declared.status_flags.StatusFlags.{StatusFlags}
-use Rattle.nvme_ctrl.specs.declared.slot.Slot.{Slot}
-use Rattle.nvme_ctrl.specs.declared.chain.Chain.{Chain}
-use Rattle.nvme_ctrl.specs.declared.ring.Ring.{Ring}
+use Rattle.nvme_ctrl_log.specs.declared.status_flags.StatusFlags.{StatusFlags}
+use Rattle.nvme_slots.specs.declared.slot.Slot.{Slot}
+use Rattle.nvme_slots.specs.declared.chain.Chain.{Chain}
+use Rattle.nvme_slots.specs.declared.ring.Ring.{Ring}
 use Rattle.nvme_ctrl.specs.declared.state.CqState.{CqState}
 use Rattle.nvme_ctrl.specs.declared.state.Controller.{Controller}
-use Rattle.nvme_ctrl.specs.kept.Content.{Content, CqContent, Ready}
-use Rattle.nvme_ctrl.specs.kept.Standing.{Holds, IsReady, answer_in}
-use Rattle.nvme_ctrl.specs.inside.Steps.{done}
+use Rattle.nvme_ctrl_content.specs.Content.{Content, CqContent, Ready}
+use Rattle.nvme_ctrl_content.specs.Standing.{Holds, IsReady, answer_in}
+use Rattle.nvme_ctrl_content.specs.Steps.{done}
 use Rattle.nvme_ctrl.specs.kept.Kept.{Item, ReadyItem, Items, IsWaitingIn, IsOutIn, IsReadyIn, IsSqOf, IsCqOf, IsAmongOuts, HasNumbers, HasItems, HoldsDoorbells, HoldsTags, IsThrough, IsUnanswered, HasCookie, HasReadyCookie, HasFlags, HasEntry, StandsAt, tags_of, places_of, ready_tags, readies_of, untaken, is_free, IsDevices, IsReadyOf, DeleteItem}
-use Rattle.nvme_ctrl.specs.kept.Pool.{slot_at, item_at, put_item, bit, flags_in, IsChain, IsNew, AreApart}
+use Rattle.nvme_slots.specs.Pool.{slot_at, item_at, put_item, bit, flags_in, IsChain, IsNew, AreApart}
 use Rattle.nvme_ctrl.specs.kept.State.{no_cq_state, sq_at, cq_at}
 use Rattle.nvme_ctrl.proofs.Passed.{held_is_devices, devices_passed}
-use Rattle.nvme_ctrl.proofs.Chains.{IsPushed}
+use Rattle.nvme_slots.proofs.Chains.{IsPushed}
 use Rattle.nvme_ctrl.proofs.Cookies.{SameCookies, same_cookies-but, cookie_left, items_left, readies_left}
-use Rattle.nvme_ctrl.proofs.Pools.{length-put_item, item_at-put_item_same, item_at-put_item_other, chain-put_item, chain-other, length-apart, AreApart-others, IsNew-others}
+use Rattle.nvme_slots.proofs.Pools.{length-put_item, item_at-put_item_same, item_at-put_item_other, chain-put_item, chain-other, length-apart, AreApart-others, IsNew-others}
 use Rattle.nvme_ctrl.proofs.PutFlags.{put_flags}
-use Rattle.nvme_ctrl.proofs.OwnStatus.{All-unmap}
-use Rattle.nvme_ctrl.proofs.ReadyHand.{All-taken}
+use Rattle.nvme_ctrl_content.proofs.OwnStatus.{All-unmap}
+use Rattle.nvme_ctrl_content.proofs.ReadyHand.{All-taken}
 use Rattle.nvme_ctrl.proofs.Lives.{put_cq-lives, put_cq-states}
-use Rattle.nvme_ctrl.proofs.OutTags.{still_not_out-answered, still_not_out-flagged}
+use Rattle.nvme_ctrl_log.proofs.OutTags.{still_not_out-answered, still_not_out-flagged}
 use Rattle.nvme_ctrl.proofs.SlotItems.{All-both, at_put, ready_state-range, out_stays, all_waiting_stay, all_ready_stay, all_free_stay}
 use Rattle.nvme_ctrl.proofs.AnsweredPlaces.{IsOther, is_other, at_hand, has_entries, has_it, queue_is, goes_to, answered, holds_answered, was_fetched, others_out, others_in_windows}
 use Rattle.nvme_ctrl.proofs.PendingDeletions.{deletions_stay}

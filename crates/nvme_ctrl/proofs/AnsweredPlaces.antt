@@ -10,19 +10,19 @@ use Rattle.nvme_log.specs.Rules.{FrontRules}
 use Rattle.nvme_log.specs.Answers.{Answer}
 use Rattle.nvme_log.specs.Places.{fetched, fate_of, is_waiting, one_if}
 use Rattle.nvme_log.specs.declared.place.Place.{Place}
-use Rattle.nvme_ctrl.specs.Notes.{Notes, logged}
-use Rattle.nvme_ctrl.specs.declared.slot.Slot.{Slot}
+use Rattle.nvme_ctrl_log.specs.Notes.{Notes, logged}
+use Rattle.nvme_slots.specs.declared.slot.Slot.{Slot}
 use Rattle.nvme_ctrl.specs.declared.state.Controller.{Controller}
-use Rattle.nvme_ctrl.specs.kept.Content.{Candidate, Ready, Content}
-use Rattle.nvme_ctrl.specs.kept.Standing.{Holds, IsInHand, times_held, held_upto, hand_of}
-use Rattle.nvme_ctrl.specs.inside.Steps.{done}
+use Rattle.nvme_ctrl_content.specs.Content.{Candidate, Ready, Content}
+use Rattle.nvme_ctrl_content.specs.Standing.{Holds, IsInHand, times_held, held_upto, hand_of}
+use Rattle.nvme_ctrl_content.specs.Steps.{done}
 use Rattle.nvme_ctrl.specs.kept.Kept.{Item, Items, IsWaitingIn, IsOutIn, IsSqOf, HasNumbers, HasItems, HoldsTags, HasEntry, places_of, candidate_of, untaken, picked_region, picked_of}
-use Rattle.nvme_ctrl.specs.kept.Pool.{slot_at}
+use Rattle.nvme_slots.specs.Pool.{slot_at}
 use Rattle.nvme_ctrl.specs.kept.State.{picked_in}
-use Rattle.nvme_ctrl.proofs.AfterSteps.{CanAnswer, after_answer}
-use Rattle.nvme_ctrl.proofs.OwnStatus.{All-unmap, IsAnswerable, ready_is_answerable, answerable_is_done, candidates_wait}
-use Rattle.nvme_ctrl.proofs.ReadyHand.{All-taken, times_held-append}
-use Rattle.nvme_ctrl.proofs.Standing.{holds-answer}
+use Rattle.nvme_ctrl_content.proofs.AfterSteps.{CanAnswer, after_answer}
+use Rattle.nvme_ctrl_content.proofs.OwnStatus.{All-unmap, IsAnswerable, ready_is_answerable, answerable_is_done, candidates_wait}
+use Rattle.nvme_ctrl_content.proofs.ReadyHand.{All-taken, times_held-append}
+use Rattle.nvme_ctrl_content.proofs.Standing.{holds-answer}
 use Rattle.nvme_ctrl.proofs.SlotItems.{All-both, All-parts}
 
 -- ---- other places

@@ -20,21 +20,26 @@ use Rattle.nvme_log.specs.Rules.{FrontRules, upto, sq_regions_of, cq_regions_of}
 use Rattle.nvme_log.specs.Queues.{admin_queue, open_cq, cq_region_of}
 use Rattle.nvme_log.specs.Places.{fate_of, fetched, is_waiting}
 use Rattle.nvme_log.specs.Completions.{is_posted, unposted_of}
-use Rattle.nvme_ctrl.specs.Notes.{Notes, logged}
-use Rattle.nvme_ctrl.specs.declared.slot.Slot.{Slot}
+use Rattle.nvme_ctrl_log.specs.Notes.{Notes, logged}
+use Rattle.nvme_slots.specs.declared.slot.Slot.{Slot}
 use Rattle.nvme_ctrl.specs.declared.state.Controller.{Controller}
-use Rattle.nvme_ctrl.specs.kept.Content.{Attachment, PendingDelete, SqContent, Content, Ready}
+use Rattle.nvme_ctrl_content.specs.Content.{Attachment, PendingDelete, SqContent, Content, Ready}
 use Rattle.nvme_ctrl.specs.kept.Kept.{ReadyItem, IsSqOf}
-use Rattle.nvme_ctrl.specs.kept.Standing.{is_on, is_opened_cq}
-use Rattle.nvme_ctrl.specs.inside.Steps.{applied_to, picked_sq}
-use Rattle.nvme_ctrl.specs.inside.Carrying.{IsApplied, IsOpenable, IsCqOpenable, IsUnattached, closing_cq}
-use Rattle.nvme_ctrl.specs.Making.{slots_asked}
-use Rattle.nvme_ctrl.proofs.AfterSteps.{closing_from}
+use Rattle.nvme_ctrl_content.specs.Standing.{is_on}
+use Rattle.nvme_ctrl_log.specs.Regions.{is_opened_cq}
+use Rattle.nvme_ctrl_content.specs.Steps.{applied_to, picked_sq}
+use Rattle.nvme_ctrl.specs.inside.Carrying.{IsApplied}
+use Rattle.nvme_ctrl_content.specs.Carrying.{IsOpenable, IsCqOpenable, IsUnattached, closing_cq}
+use Rattle.nvme_ctrl_log.specs.Making.{slots_asked}
+use Rattle.nvme_ctrl_content.proofs.AfterSteps.{closing_from}
 use Rattle.nvme_ctrl.proofs.AppliedQueues.{tells, sqs_now, there_is, opens_to, opens_for, opens_within}
-use Rattle.nvme_ctrl.proofs.AskedSlots.{HasAsked, asked_sq, asked_cq}
-use Rattle.nvme_ctrl.proofs.LifeLaws.{opened_was, none_ready_unattached, closes_io, none_attached}
-use Rattle.nvme_ctrl.proofs.QueueWords.{at_same, at_other, put-queue}
-use Rattle.nvme_ctrl.proofs.ReadyAdmin.{unused_unnamed}
+use Rattle.nvme_ctrl_log.proofs.AskedSlots.{HasAsked}
+use Rattle.nvme_ctrl_content.proofs.AskedSlots.{asked_sq, asked_cq}
+use Rattle.nvme_ctrl_log.proofs.LifeLaws.{opened_was}
+use Rattle.nvme_ctrl_content.proofs.LifeLaws.{none_ready_unattached, closes_io, none_attached}
+use Rattle.nvme_ctrl_log.proofs.QueueWords.{at_same, at_other}
+use Rattle.nvme_ctrl_content.proofs.QueueWords.{put-queue}
+use Rattle.nvme_ctrl_content.proofs.ReadyAdmin.{unused_unnamed}
 
 -- ---- a submission queue is opened
 module _ (rules : FrontRules) (late : Bool) (notes : Notes) (a : Controller) (slots : List Slot) (tag qid region cqid : ℕ) (class : Class) (did : Effect)

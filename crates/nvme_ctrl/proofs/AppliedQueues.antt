@@ -18,15 +18,15 @@ use Rattle.nvme_admin.proofs.Changed.{TellsChange-entry}
 use Rattle.nvme_log.specs.Rules.{FrontRules}
 use Rattle.nvme_log.specs.Queues.{Queue, open_sq, open_cq}
 use Rattle.nvme_log.specs.Laws.{as_open}
-use Rattle.nvme_ctrl.specs.Notes.{Notes, logged}
-use Rattle.nvme_ctrl.specs.declared.slot.Slot.{Slot}
+use Rattle.nvme_ctrl_log.specs.Notes.{Notes, logged}
+use Rattle.nvme_slots.specs.declared.slot.Slot.{Slot}
 use Rattle.nvme_ctrl.specs.declared.state.Controller.{Controller}
-use Rattle.nvme_ctrl.specs.kept.Content.{Content}
-use Rattle.nvme_ctrl.specs.kept.Standing.{IsAttached, on_board}
-use Rattle.nvme_ctrl.specs.inside.Steps.{picked_sq, applied_to}
+use Rattle.nvme_ctrl_content.specs.Content.{Content}
+use Rattle.nvme_ctrl_content.specs.Standing.{IsAttached, on_board}
+use Rattle.nvme_ctrl_content.specs.Steps.{picked_sq, applied_to}
 use Rattle.nvme_ctrl.specs.inside.Carrying.{IsApplied}
-use Rattle.nvme_ctrl.proofs.AdminPick.{other_region}
-use Rattle.nvme_ctrl.proofs.QueueWords.{at_same, at_other}
+use Rattle.nvme_ctrl_content.proofs.AdminPick.{other_region}
+use Rattle.nvme_ctrl_log.proofs.QueueWords.{at_same, at_other}
 use Rattle.nvme_admin.specs.Checks.{is_open}
 
 -- a queue of the table, as an open queue of the log

@@ -1,5 +1,5 @@
 -- An admin command was carried out: the controller stands at the notes of its pick, of what it makes, and of its answer.
-use Rattle.nvme_ctrl.specs.Account.{PostsOwn}
+use Rattle.nvme_ctrl_log.specs.Account.{PostsOwn, IsLawfulEvent, IsLawful, IsAccount, IsCarriedOut, FetchesSubmitted, PostsOnFreeSlot, PostsWhatIsThrough, PicksOnObservation}
 use Rattle.std.proofs.Common.{◌≡◌, ℕ, suc, ◌<◌, ◌==◌, ◌&&◌, Bool, true, false, if◌then◌else◌, List, [], ◌∷◌, ◌++◌, length, map, drop, Option, Some, None, refl, sym, ap, ◌∙◌, subst, arith, inl, inr}
 use Rattle.std.specs.Prelude.{slice_get, nat_lt, All, is_some}
 use Rattle.std.specs.List.{AllPairs}
@@ -27,37 +27,38 @@ use Rattle.nvme_log.specs.Places.{fetched, is_aborted, fate_of, is_waiting, is_p
 use Rattle.nvme_log.specs.Answers.{Answer}
 use Rattle.nvme_log.specs.Effects.{made_by, is_effect, target_of}
 use Rattle.nvme_log.specs.Dispatches.{place_at}
-use Rattle.nvme_ctrl.specs.kept.Pool.{slot_at}
-use Rattle.nvme_ctrl.specs.Notes.{Notes, Logged, Answered, EachNote, logged}
-use Rattle.nvme_ctrl.specs.Tags.{answer_of, cookie_of, is_passed, flags_of}
-use Rattle.nvme_ctrl.specs.Account.{IsLawfulEvent, IsLawful, IsAccount, IsCarriedOut, FetchesSubmitted, PostsOnFreeSlot, PostsWhatIsThrough, PicksOnObservation}
-use Rattle.nvme_ctrl.specs.Observation.{observed_of}
-use Rattle.nvme_ctrl.specs.Steps.{with_logged, picked_notes, IsNextPick, IsAnswerOf, HasCarriedOut}
-use Rattle.nvme_ctrl.specs.declared.slot.Slot.{Slot}
+use Rattle.nvme_slots.specs.Pool.{slot_at}
+use Rattle.nvme_ctrl_log.specs.Notes.{Notes, Logged, Answered, EachNote, logged}
+use Rattle.nvme_ctrl_log.specs.Tags.{answer_of, cookie_of, is_passed, flags_of}
+use Rattle.nvme_ctrl_log.specs.Observation.{observed_of}
+use Rattle.nvme_ctrl_log.specs.Steps.{with_logged, picked_notes, IsNextPick}
+use Rattle.nvme_ctrl.specs.Steps.{IsAnswerOf, HasCarriedOut}
+use Rattle.nvme_slots.specs.declared.slot.Slot.{Slot}
 use Rattle.nvme_ctrl.specs.declared.state.Controller.{Controller}
-use Rattle.nvme_ctrl.specs.kept.Content.{Candidate, Ready, Content, with_ready}
-use Rattle.nvme_ctrl.specs.kept.Standing.{Holds, HasOwnStatus, hand_of, answer_in, HasItsStatus}
-use Rattle.nvme_ctrl.specs.inside.Steps.{applied_to, told, oldest_named}
-use Rattle.nvme_ctrl.specs.inside.Next.{IsNext, EachNext}
-use Rattle.nvme_ctrl.specs.kept.Kept.{Item, Items, IsWaitingIn, candidate_of, picked_of, untaken, IsDevices, HoldsShown, HasRegionsMade, DeleteItem, deletion_in}
+use Rattle.nvme_ctrl_content.specs.Content.{Candidate, Ready, Content, with_ready}
+use Rattle.nvme_ctrl_content.specs.Standing.{Holds, HasOwnStatus, hand_of, answer_in, HasItsStatus}
+use Rattle.nvme_ctrl_content.specs.Steps.{applied_to, told, oldest_named}
+use Rattle.nvme_ctrl_log.specs.Next.{IsNext, EachNext}
+use Rattle.nvme_ctrl.specs.kept.Kept.{Item, Items, IsWaitingIn, candidate_of, picked_of, untaken, IsDevices, DeleteItem, deletion_in}
+use Rattle.nvme_ctrl_content.specs.Shown.{HoldsShown, HasRegionsMade}
 use Rattle.nvme_ctrl.specs.inside.Loose.{Keeps}
 use Rattle.nvme_ctrl.specs.inside.Carrying.{IsApplied, HasBegun}
 use Rattle.nvme_ctrl.specs.kept.State.{picked_in}
 use Rattle.nvme_ctrl.proofs.Passed.{not_passed, hand_is_devices}
-use Rattle.nvme_ctrl.proofs.AfterSteps.{IsChosen, after_admin, admin_past, deleting_from, aborting_in, aborting_from}
-use Rattle.nvme_ctrl.proofs.DeletedQueues.{deletion_done, unheld_undeleting}
+use Rattle.nvme_ctrl_content.proofs.AfterSteps.{IsChosen, after_admin, admin_past, deleting_from, aborting_in, aborting_from}
+use Rattle.nvme_ctrl_content.proofs.DeletedQueues.{deletion_done, unheld_undeleting}
 use Rattle.nvme_ctrl.proofs.PendingDeletions.{deletion_item}
-use Rattle.nvme_ctrl.proofs.Standing.{holds-admin}
-use Rattle.nvme_ctrl.proofs.AdminEvents.{next-admin}
-use Rattle.nvme_ctrl.proofs.AdminPick.{deleted_region, target_region}
+use Rattle.nvme_ctrl_content.proofs.Standing.{holds-admin}
+use Rattle.nvme_ctrl_content.proofs.AdminEvents.{next-admin}
+use Rattle.nvme_ctrl_content.proofs.AdminPick.{deleted_region, target_region}
 use Rattle.nvme_log.proofs.AdminPicks.{admin_is_whole}
-use Rattle.nvme_ctrl.proofs.Observing.{seen_is_observed}
-use Rattle.nvme_ctrl.proofs.Showing.{OpensApart, shown_verdict}
-use Rattle.nvme_ctrl.proofs.EffectEvents.{AreEffects, made_are_effects, made_leave_region, effects_leave_fetched}
+use Rattle.nvme_ctrl_content.proofs.Observing.{seen_is_observed}
+use Rattle.nvme_ctrl_content.proofs.Showing.{OpensApart, shown_verdict}
+use Rattle.nvme_ctrl_log.proofs.EffectEvents.{AreEffects, made_are_effects, made_leave_region, effects_leave_fetched}
 use Rattle.nvme_ctrl.proofs.LaterNotes.{logged-with, answer_of-logged, cookie_of-logged, keeps-picked, IsOther, keeps-answered, is_passed-logged}
-use Rattle.nvme_ctrl.proofs.OwnStatus.{IsAnswerable, ready_is_answerable, answerable_is_done, candidates_wait, oldest_waits, waiting_is_unaborted, All-unmap}
+use Rattle.nvme_ctrl_content.proofs.OwnStatus.{IsAnswerable, ready_is_answerable, answerable_is_done, candidates_wait, oldest_waits, waiting_is_unaborted, All-unmap}
 use Rattle.nvme_ctrl.proofs.SlotItems.{All-parts}
-use Rattle.nvme_ctrl.proofs.Windows.{window-below, window-ascending}
+use Rattle.nvme_ctrl_content.proofs.Windows.{window-below, window-ascending}
 
 -- ---- lawful events
 own_of-effect : (rules : FrontRules) (notes : Notes) (e : Event) → is_effect e ≡ true → PostsOwn rules notes e

@@ -1,9 +1,8 @@
 -- The effect of an Abort command, carried out.
-use Rattle.nvme_ctrl.proofs.OpenQueues.{io_region}
+use Rattle.nvme_ctrl_content.proofs.OpenQueues.{io_region}
 use Rattle.std.proofs.lemmas.Bool.{ne_eqb}
 use Rattle.std.proofs.Common.{◌≡◌, ℕ, ◌==◌, ◌&&◌, ◌||◌, ◌≤◌, Bool, true, false, if◌then◌else◌, List, [], ◌∷◌, length, Option, Some, None, refl, sym, ap, ◌∙◌, subst, arith, eq-eqb}
 use Rattle.std.specs.Prelude.{slice_set}
-use Rattle.std.proofs.lemmas.Bool.{ne_eqb}
 use Rattle.std.proofs.lemmas.Option.{same_Some}
 use Rattle.nvme_admin.specs.declared.verdict.SqEntry.{SqEntry}
 use Rattle.nvme_admin.specs.declared.verdict.Verdict.{Verdict}
@@ -16,23 +15,25 @@ use Rattle.nvme_log.specs.Rules.{FrontRules, Past}
 use Rattle.nvme_log.specs.Queues.{Queue, admin_queue, open_sq}
 use Rattle.nvme_log.specs.Places.{is_aborted}
 use Rattle.nvme_log.specs.Effects.{abort_in, target_of}
-use Rattle.nvme_ctrl.specs.Notes.{Notes, logged}
-use Rattle.nvme_ctrl.specs.Observation.{observed_of}
+use Rattle.nvme_ctrl_log.specs.Notes.{Notes, logged}
+use Rattle.nvme_ctrl_log.specs.Observation.{observed_of}
 use Rattle.nvme_ctrl.specs.Steps.{HasCarriedOut}
-use Rattle.nvme_ctrl.specs.declared.slot.Slot.{Slot}
+use Rattle.nvme_slots.specs.declared.slot.Slot.{Slot}
 use Rattle.nvme_ctrl.specs.declared.state.Controller.{Controller}
-use Rattle.nvme_ctrl.specs.kept.Content.{Candidate, SqContent, Content, with_ready}
-use Rattle.nvme_ctrl.specs.inside.Steps.{oldest_named, without_oldest}
+use Rattle.nvme_ctrl_content.specs.Content.{Candidate, SqContent, Content, with_ready}
+use Rattle.nvme_ctrl_content.specs.Steps.{oldest_named, without_oldest}
 use Rattle.nvme_ctrl.specs.kept.Kept.{Items}
-use Rattle.nvme_ctrl.specs.kept.Standing.{counted_on}
+use Rattle.nvme_ctrl_content.specs.Standing.{counted_on}
 use Rattle.nvme_ctrl.specs.inside.Loose.{IsLoose, Keeps}
-use Rattle.nvme_ctrl.specs.inside.Carrying.{IsApplied, HasNoneNamed, IsAbortableIn, IsAbortable, requesting, HasRequested}
-use Rattle.nvme_ctrl.proofs.AfterSteps.{IsChosen, IsAbortChosen, after_admin, with_events, told_abort, aborting_from, aborting_in}
+use Rattle.nvme_ctrl.specs.inside.Carrying.{IsApplied, HasRequested}
+use Rattle.nvme_ctrl_content.specs.Carrying.{HasNoneNamed, IsAbortableIn, IsAbortable, requesting}
+use Rattle.nvme_ctrl_content.proofs.AfterSteps.{IsChosen, IsAbortChosen, after_admin, told_abort, aborting_from, aborting_in}
+use Rattle.nvme_ctrl_log.proofs.LaterEvents.{with_events}
 use Rattle.nvme_ctrl.proofs.AppliedQueues.{queue_of, IsOpenEntry, open_entry, named_region, named_attached, named_on_board, aborts_is, aborts_open}
 use Rattle.nvme_ctrl.proofs.CarriedOut.{applied, logged_is, keeps_told}
 use Rattle.nvme_ctrl.proofs.CarryOut.{KeepsEnd, told_notes, ended_told}
 use Rattle.nvme_ctrl.proofs.PoolBounds.{beside_held, windows_held}
-use Rattle.nvme_ctrl.proofs.Named.{made_abort}
+use Rattle.nvme_ctrl_content.proofs.Named.{made_abort}
 
 -- the queue that it names is an open one, and not the admin queue
 target_open : (past : Past) (sqid : ℕ) (queue : Queue) → target_of past sqid ≡ Some queue → (sqid ≡ 0 → ⊥) × (open_sq past sqid ≡ Some queue)

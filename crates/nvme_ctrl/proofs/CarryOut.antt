@@ -16,21 +16,21 @@ use Rattle.nvme_entry.specs.declared.admin.AdminCommand.TheVariants.{DeleteSq, C
 use Rattle.nvme_entry.specs.Status.{StatusCode, success}
 use Rattle.nvme_entry.specs.declared.submission.Sqe.{Sqe}
 use Rattle.nvme_log.specs.Rules.{FrontRules}
-use Rattle.nvme_ctrl.specs.Making.{slots_asked}
-use Rattle.nvme_ctrl.specs.Notes.{Notes, Answered, logged}
+use Rattle.nvme_ctrl_log.specs.Making.{slots_asked}
+use Rattle.nvme_ctrl_log.specs.Notes.{Notes, Answered, logged}
 use Rattle.nvme_ctrl.specs.Steps.{IsAnswerOf, HasCarriedOut}
-use Rattle.nvme_ctrl.specs.declared.slot.Slot.{Slot}
+use Rattle.nvme_slots.specs.declared.slot.Slot.{Slot}
 use Rattle.nvme_ctrl.specs.declared.state.Controller.{Controller}
-use Rattle.nvme_ctrl.specs.kept.Content.{Ready, Content, with_ready}
-use Rattle.nvme_ctrl.specs.inside.Steps.{told}
+use Rattle.nvme_ctrl_content.specs.Content.{Ready, Content, with_ready}
+use Rattle.nvme_ctrl_content.specs.Steps.{told}
 use Rattle.nvme_ctrl.specs.kept.Kept.{Items, IsThrough, IsCookie, is_passed_at, IsUnflagged}
 use Rattle.nvme_ctrl.specs.inside.Loose.{IsLoose, Keeps, MakesReady, ended, with_item}
-use Rattle.nvme_ctrl.specs.inside.Carrying.{IsApplied, IsOpenable, IsCqOpenable, IsUnattached, opening, opening_cq, closing_cq}
-use Rattle.nvme_ctrl.specs.kept.Pool.{slot_at, item_at}
-use Rattle.nvme_ctrl.proofs.AfterSteps.{IsChosen, after_admin}
+use Rattle.nvme_ctrl.specs.inside.Carrying.{IsApplied}
+use Rattle.nvme_ctrl_content.specs.Carrying.{IsOpenable, IsCqOpenable, IsUnattached, opening, opening_cq, closing_cq}
+use Rattle.nvme_slots.specs.Pool.{slot_at, item_at}
+use Rattle.nvme_ctrl_content.proofs.AfterSteps.{IsChosen, after_admin}
 use Rattle.nvme_ctrl.proofs.CarriedOut.{made_notes, applied, cookie_kept, not_passed_on, unflagged, keeps_told, keeps_told_of, carried_told}
 use Rattle.nvme_ctrl.proofs.AppliedQueues.{opens_to, opens_for}
-use Rattle.nvme_ctrl.proofs.ToldVerdicts.{told_plain, told_sq}
 use Rattle.nvme_ctrl.proofs.AppliedLives.{opens_openable, opens_cq_openable, closes_region, closes_is, closes_open, closes_unattached, closes_ready}
 
 -- a Create asks for some slots
@@ -160,21 +160,3 @@ applied_as rules late notes a slots tag did v this is = subst (IsApplied rules l
 pub carried_by : (rules : FrontRules) (late : Bool) (notes : Notes) (b : Controller) (pool : List Slot) (v this : Verdict) → v ≡ this → HasCarriedOut rules late notes this b pool
     → HasCarriedOut rules late notes v b pool
 carried_by rules late notes b pool v this is = subst (λ (w : Verdict). HasCarriedOut rules late notes w b pool) (sym is)
-
--- the verdict of an effect
-pub applied_sq : (rules : FrontRules) (late : Bool) (notes : Notes) (a : Controller) (slots : List Slot) (tag qid region cqid cq_region : ℕ) (class : Class) (v : Verdict)
-    → IsApplied rules late notes a slots tag (effect.OpenSq qid region cqid cq_region class) v
-    → (r : ℕ) × IsApplied rules late notes a slots tag (effect.OpenSq qid region cqid cq_region class) (verdict.OpenSq qid r cqid class)
-applied_sq rules late notes a slots tag qid region cqid cq_region class v h =
-    let t = told_sq h.before.table.placing qid region cqid class v h.told in
-    (t.0, applied_as rules late notes a slots tag (effect.OpenSq qid region cqid cq_region class) v (verdict.OpenSq qid t.0 cqid class) t.1 h)
-
-pub applied_delete : (rules : FrontRules) (late : Bool) (notes : Notes) (a : Controller) (slots : List Slot) (tag qid region : ℕ) (v : Verdict)
-    → IsApplied rules late notes a slots tag (effect.BeginDelete qid region) v → IsApplied rules late notes a slots tag (effect.BeginDelete qid region) (verdict.BeginDelete qid)
-applied_delete rules late notes a slots tag qid region v h =
-    applied_as rules late notes a slots tag (effect.BeginDelete qid region) v (verdict.BeginDelete qid) (told_plain h.before.table.placing (verdict.BeginDelete qid) v refl h.told) h
-
-pub applied_abort : (rules : FrontRules) (late : Bool) (notes : Notes) (a : Controller) (slots : List Slot) (tag sqid cid : ℕ) (v : Verdict)
-    → IsApplied rules late notes a slots tag (effect.Abort sqid cid) v → IsApplied rules late notes a slots tag (effect.Abort sqid cid) (verdict.Abort sqid cid)
-applied_abort rules late notes a slots tag sqid cid v h =
-    applied_as rules late notes a slots tag (effect.Abort sqid cid) v (verdict.Abort sqid cid) (told_plain h.before.table.placing (verdict.Abort sqid cid) v refl h.told) h

@@ -1,6 +1,6 @@
 -- The beginning of a deletion, carried out.
-use Rattle.nvme_ctrl.proofs.OpenQueues.{io_region}
-use Rattle.nvme_ctrl.proofs.DeletedQueues.{open_undeleted}
+use Rattle.nvme_ctrl_content.proofs.OpenQueues.{io_region}
+use Rattle.nvme_ctrl_content.proofs.DeletedQueues.{open_undeleted}
 use Rattle.std.proofs.lemmas.Bool.{ne_eqb}
 use Rattle.std.proofs.Common.{◌≡◌, ℕ, ◌+◌, ◌<◌, ◌^◌, Bool, true, List, ◌∷◌, length, map, Some, None, refl, sym, ap, ◌∙◌, subst, arith, false}
 use Rattle.std.specs.Prelude.{IsSome, All}
@@ -19,22 +19,24 @@ use Rattle.nvme_log.specs.Queues.{Queue, open_sq}
 use Rattle.nvme_log.specs.Places.{is_aborted, waiting}
 use Rattle.nvme_log.specs.Effects.{closing_of}
 use Rattle.nvme_log.specs.Dispatches.{place_at}
-use Rattle.nvme_ctrl.specs.Notes.{Notes, logged}
-use Rattle.nvme_ctrl.specs.Observation.{observed_of}
-use Rattle.nvme_ctrl.specs.Tags.{answer_of, is_passed}
+use Rattle.nvme_ctrl_log.specs.Notes.{Notes, logged}
+use Rattle.nvme_ctrl_log.specs.Observation.{observed_of}
+use Rattle.nvme_ctrl_log.specs.Tags.{answer_of, is_passed}
 use Rattle.nvme_ctrl.specs.Steps.{HasCarriedOut}
-use Rattle.nvme_ctrl.specs.declared.slot.Slot.{Slot}
+use Rattle.nvme_slots.specs.declared.slot.Slot.{Slot}
 use Rattle.nvme_ctrl.specs.declared.state.Controller.{Controller}
-use Rattle.nvme_ctrl.specs.kept.Content.{Candidate, SqContent, Content}
+use Rattle.nvme_ctrl_content.specs.Content.{Candidate, SqContent, Content}
 use Rattle.nvme_ctrl.specs.kept.Kept.{Items, IsCookie}
 use Rattle.nvme_ctrl.specs.inside.Loose.{IsLoose, Keeps}
-use Rattle.nvme_ctrl.specs.inside.Carrying.{IsApplied, IsDroppable, deleting, HasBegun}
-use Rattle.nvme_ctrl.specs.kept.Pool.{slot_at}
-use Rattle.nvme_ctrl.proofs.AfterSteps.{with_events, deleting_from}
+use Rattle.nvme_ctrl.specs.inside.Carrying.{IsApplied, HasBegun}
+use Rattle.nvme_ctrl_content.specs.Carrying.{IsDroppable, deleting}
+use Rattle.nvme_slots.specs.Pool.{slot_at}
+use Rattle.nvme_ctrl_log.proofs.LaterEvents.{with_events}
+use Rattle.nvme_ctrl_content.proofs.AfterSteps.{deleting_from}
 use Rattle.nvme_ctrl.proofs.AppliedQueues.{named_region, named_attached, named_on_board, begins_queue, begins_open, begins_io}
 use Rattle.nvme_ctrl.proofs.CarriedOut.{made_notes, applied, logged_is, unanswered, cookie_kept, not_passed_on, keeps_made, carried_later}
 use Rattle.nvme_ctrl.proofs.PoolBounds.{unposted_held}
-use Rattle.nvme_ctrl.proofs.OwnStatus.{All-unmap, aborts_all}
+use Rattle.nvme_ctrl_content.proofs.OwnStatus.{All-unmap, aborts_all}
 
 -- ---- the deletion of a submission queue begins
 module _ (rules : FrontRules) (late : Bool) (notes : Notes) (a : Controller) (slots : List Slot) (tag qid : ℕ) (did : Effect)

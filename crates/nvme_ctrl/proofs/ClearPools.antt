@@ -15,23 +15,23 @@ use Rattle.nvme_log.specs.Laws.{count_of}
 use Rattle.nvme_log.specs.declared.place.Place.{Place}
 use Rattle.nvme_log.proofs.Counting.{count_of-push}
 use Rattle.nvme_log.proofs.Posts.{all_below, posts_of-none}
-use Rattle.nvme_ctrl.specs.Notes.{Notes, logged}
+use Rattle.nvme_ctrl_log.specs.Notes.{Notes, logged}
 use Rattle.nvme_ctrl.specs.Outlook.{IsAllDone}
-use Rattle.nvme_ctrl.specs.declared.slot.Slot.{Slot}
+use Rattle.nvme_slots.specs.declared.slot.Slot.{Slot}
 use Rattle.nvme_ctrl.specs.declared.state.Controller.{Controller}
-use Rattle.nvme_ctrl.specs.kept.Content.{Candidate, Ready, Content}
+use Rattle.nvme_ctrl_content.specs.Content.{Candidate, Ready, Content}
 use Rattle.nvme_ctrl.specs.kept.Kept.{Item, DeleteItem, Items, IsWaitingIn, IsOutIn, IsReadyIn, StandsAt, candidate_of, deletion_in, is_free, picked_of, picked_region, places_of, readies_of, ready_state, untaken}
-use Rattle.nvme_ctrl.specs.kept.Pool.{IsNew, no_slot, slot_at}
-use Rattle.nvme_ctrl.specs.kept.Standing.{held_upto, times_held, times_in}
+use Rattle.nvme_slots.specs.Pool.{IsNew, no_slot, slot_at}
+use Rattle.nvme_ctrl_content.specs.Standing.{held_upto, times_held, times_in}
 use Rattle.nvme_ctrl.proofs.HeldSlots.{fetches-by, posts-by, fetched_none}
-use Rattle.nvme_ctrl.proofs.PendingDeletions.{held-none}
-use Rattle.nvme_ctrl.proofs.Pools.{IsNew-by, length-apart, length-chain}
-use Rattle.nvme_ctrl.proofs.ReadyHand.{times_held-append}
-use Rattle.nvme_ctrl.proofs.Readying.{over_none}
+use Rattle.nvme_ctrl_content.proofs.DeletingRegions.{held-none}
+use Rattle.nvme_slots.proofs.Pools.{IsNew-by, length-apart, length-chain}
+use Rattle.nvme_ctrl_content.proofs.ReadyHand.{times_held-append}
+use Rattle.nvme_ctrl_content.proofs.Readying.{over_none}
 use Rattle.nvme_ctrl.proofs.SlotItems.{ready_state-range}
 use Rattle.nvme_ctrl.proofs.SomeDeleting.{kept_none}
-use Rattle.nvme_ctrl.proofs.Sums.{sum_same}
-use Rattle.nvme_ctrl.proofs.Windows.{served-or_window}
+use Rattle.nvme_ctrl_log.proofs.Sums.{sum_same}
+use Rattle.nvme_ctrl_content.proofs.Windows.{served-or_window}
 
 -- ---- lists
 -- a list has none where what holds of all holds of none

@@ -13,25 +13,26 @@ use Rattle.nvme_log.specs.Rules.{FrontRules, sq_regions_of, cq_regions_of, slots
 use Rattle.nvme_log.specs.Histories.{table_history}
 use Rattle.nvme_log.specs.Places.{fetched}
 use Rattle.nvme_log.specs.Completions.{posted_to}
-use Rattle.nvme_ctrl.specs.Notes.{Notes, logged}
-use Rattle.nvme_ctrl.specs.Rings.{HasCounts}
-use Rattle.nvme_ctrl.specs.Making.{with_region, regions_of, placing_in}
-use Rattle.nvme_ctrl.specs.Account.{IsAccount}
-use Rattle.nvme_ctrl.specs.declared.slot.Slot.{Slot}
+use Rattle.nvme_ctrl_log.specs.Notes.{Notes, logged}
+use Rattle.nvme_slots.specs.Rings.{HasCounts}
+use Rattle.nvme_ctrl_log.specs.Making.{with_region, regions_of, placing_in}
+use Rattle.nvme_ctrl_log.specs.Account.{IsAccount}
+use Rattle.nvme_slots.specs.declared.slot.Slot.{Slot}
 use Rattle.nvme_ctrl.specs.declared.state.Controller.{Controller}
-use Rattle.nvme_ctrl.specs.kept.Content.{Attachment, Content}
-use Rattle.nvme_ctrl.specs.kept.Standing.{Holds, HoldsOwn}
-use Rattle.nvme_ctrl.specs.kept.Kept.{Items, HasNumbers, HasItems, HoldsDoorbells, HoldsTags, HoldsShown, IsSqOf, IsCqOf}
+use Rattle.nvme_ctrl_content.specs.Content.{Attachment, Content}
+use Rattle.nvme_ctrl_content.specs.Standing.{Holds, HoldsOwn}
+use Rattle.nvme_ctrl.specs.kept.Kept.{Items, HasNumbers, HasItems, HoldsDoorbells, HoldsTags, IsSqOf, IsCqOf}
+use Rattle.nvme_ctrl_content.specs.Shown.{HoldsShown}
 use Rattle.nvme_ctrl.specs.kept.State.{sq_at, cq_at}
-use Rattle.nvme_ctrl.proofs.AddedTables.{slots_last, slots_other, sq-more, sq-same, cq-more, cq-same}
-use Rattle.nvme_ctrl.proofs.DoorbellCounts.{submitted_same, submitted_none, consumed_same, consumed_none}
-use Rattle.nvme_ctrl.proofs.FurtherAccounts.{sound-notes, account-stays}
-use Rattle.nvme_ctrl.proofs.FurtherHistories.{IsPassedBy, history-further, placing-stays, region-placing, anywhere-passes}
-use Rattle.nvme_ctrl.proofs.FurtherRegion.{sqs_with, cqs_with}
-use Rattle.nvme_ctrl.proofs.FurtherStanding.{placing-is, own-holds}
-use Rattle.nvme_ctrl.proofs.FurtherTables.{IsFurther, table_with, table-further, verdict-further}
-use Rattle.nvme_ctrl.proofs.Growing.{Grows, grown, holds_when_grown}
-use Rattle.nvme_ctrl.proofs.NotedRegions.{leaves_regions}
+use Rattle.nvme_ctrl_log.proofs.AddedTables.{slots_last, slots_other, sq-more, sq-same, cq-more, cq-same}
+use Rattle.nvme_ctrl_log.proofs.DoorbellCounts.{submitted_same, submitted_none, consumed_same, consumed_none}
+use Rattle.nvme_ctrl_log.proofs.FurtherAccounts.{sound-notes, account-stays}
+use Rattle.nvme_ctrl_log.proofs.FurtherHistories.{IsPassedBy, history-further, placing-stays, region-placing, anywhere-passes}
+use Rattle.nvme_ctrl_log.proofs.FurtherRegion.{sqs_with, cqs_with}
+use Rattle.nvme_ctrl_content.proofs.FurtherStanding.{placing-is, own-holds}
+use Rattle.nvme_ctrl_log.proofs.FurtherTables.{IsFurther, table_with, table-further, verdict-further}
+use Rattle.nvme_ctrl_content.proofs.Growing.{Grows, grown, holds_when_grown}
+use Rattle.nvme_ctrl_log.proofs.NotedRegions.{leaves_regions}
 
 -- ---- a content with a region more
 -- the number of the region

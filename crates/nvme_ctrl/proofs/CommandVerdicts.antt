@@ -17,8 +17,8 @@ use Rattle.nvme_placing.specs.Telling.{IsToldBy}
 use Rattle.nvme_admin.specs.Effects.{verdict_in}
 use Rattle.nvme_ctrl.specs.declared.picks.Step.{Step}
 use Rattle.nvme_ctrl.specs.declared.picks.Step.TheVariants as step
-use Rattle.nvme_ctrl.specs.Steps.{IsVerdictOf}
-use Rattle.nvme_ctrl.proofs.ToldVerdicts.{told_plain}
+use Rattle.nvme_ctrl_log.specs.Steps.{IsVerdictOf}
+use Rattle.nvme_ctrl_log.proofs.ToldVerdicts.{told_plain}
 
 -- one that opens a queue is of any command
 of_opened_sq : (c : AdminCommand) (q : ℕ) (o : Option SqEntry) → IsVerdictOf c (opened_sq q o)

@@ -6,11 +6,11 @@ use Rattle.std.proofs.lemmas.List.Elements.{All-weaker}
 use Rattle.nvme_entry.specs.declared.submission.Sqe.{Sqe}
 use Rattle.nvme_log.specs.Places.{fetched}
 use Rattle.nvme_log.specs.declared.place.Place.{Place}
-use Rattle.nvme_ctrl.specs.Notes.{Notes, logged}
-use Rattle.nvme_ctrl.specs.Tags.{cookie_of}
-use Rattle.nvme_ctrl.specs.declared.slot.Slot.{Slot}
+use Rattle.nvme_ctrl_log.specs.Notes.{Notes, logged}
+use Rattle.nvme_ctrl_log.specs.Tags.{cookie_of}
+use Rattle.nvme_slots.specs.declared.slot.Slot.{Slot}
 use Rattle.nvme_ctrl.specs.kept.Kept.{Item, ReadyItem, Items, IsCookie, HasCookie, HasReadyCookie, HoldsCookies}
-use Rattle.nvme_ctrl.specs.kept.Pool.{slot_at, item_at, SameItems}
+use Rattle.nvme_slots.specs.Pool.{slot_at, item_at, SameItems}
 
 -- each slot has the cookie that it had
 abbrev pub SameCookies : (slots pool : List Slot) → Type 0

@@ -11,25 +11,27 @@ use Rattle.nvme_arbiter.specs.declared.arbiter_fields.ArbiterFields.{ArbiterFiel
 use Rattle.nvme_entry.specs.declared.submission.Sqe.{Sqe}
 use Rattle.nvme_log.specs.Rules.{FrontRules}
 use Rattle.nvme_log.specs.Dispatches.{place_at}
-use Rattle.nvme_ctrl.specs.Notes.{Notes, logged}
-use Rattle.nvme_ctrl.specs.Tags.{answer_of, holder, all_posts, is_passed}
-use Rattle.nvme_ctrl.specs.declared.slot.Slot.{Slot}
+use Rattle.nvme_ctrl_log.specs.Notes.{Notes, logged}
+use Rattle.nvme_ctrl_log.specs.Tags.{answer_of, holder, all_posts, is_passed}
+use Rattle.nvme_slots.specs.declared.slot.Slot.{Slot}
 use Rattle.nvme_ctrl.specs.declared.state.SqState.{SqState}
 use Rattle.nvme_ctrl.specs.declared.state.Controller.{Controller}
-use Rattle.nvme_ctrl.specs.kept.Content.{Candidate, PendingDelete, SqContent, Content, put_sq, put_cq, put_deletion, with_sq}
-use Rattle.nvme_ctrl.specs.inside.Steps.{aborted}
+use Rattle.nvme_ctrl_content.specs.Content.{Candidate, PendingDelete, SqContent, Content, put_sq, put_cq, put_deletion, with_sq}
+use Rattle.nvme_ctrl_content.specs.Steps.{aborted}
 use Rattle.nvme_ctrl.specs.kept.Kept.{Item, ReadyItem, DeleteItem, Items, deletion_in, put_delete, HasDeletions, IsUnanswered, IsWaitingIn, IsOutIn, IsReadyIn, IsCookie, HoldsCookies, HasItems, HoldsTags, candidate_of, is_free}
 use Rattle.nvme_ctrl.specs.inside.Loose.{IsLoose, Keeps}
-use Rattle.nvme_ctrl.specs.inside.Carrying.{IsDroppable, dropped, HasDropped, deleting, HasBegun}
-use Rattle.nvme_ctrl.specs.kept.Pool.{slot_at, item_at, put_item}
+use Rattle.nvme_ctrl_content.specs.Carrying.{IsDroppable, dropped, deleting}
+use Rattle.nvme_ctrl.specs.inside.Carrying.{HasDropped, HasBegun}
+use Rattle.nvme_slots.specs.Pool.{slot_at, item_at, put_item}
 use Rattle.nvme_ctrl.specs.kept.State.{sq_at}
 use Rattle.nvme_ctrl.proofs.CarriedOut.{none_picked_of}
 use Rattle.nvme_ctrl.proofs.Cookies.{SameCookies, same_cookies-but, cookie_left, items_left, readies_left}
-use Rattle.nvme_ctrl.proofs.PendingDeletions.{Here, Elsewhere, is_put, deletions_stay, none_deletes, deletions_begun}
+use Rattle.nvme_ctrl_content.proofs.DeletingRegions.{Here, Elsewhere, is_put}
+use Rattle.nvme_ctrl.proofs.PendingDeletions.{deletions_stay, none_deletes, deletions_begun}
 use Rattle.nvme_ctrl.proofs.Dropping.{put_sq-twice, window_length}
 use Rattle.nvme_ctrl.proofs.Lives.{one_id}
-use Rattle.nvme_ctrl.proofs.OwnStatus.{All-unmap}
-use Rattle.nvme_ctrl.proofs.Pools.{length-put_item, slot_at-put_item_same, item_at-put_item_other, chain-put_item}
+use Rattle.nvme_ctrl_content.proofs.OwnStatus.{All-unmap}
+use Rattle.nvme_slots.proofs.Pools.{length-put_item, slot_at-put_item_same, item_at-put_item_other, chain-put_item}
 use Rattle.nvme_ctrl.proofs.SlotItems.{All-both, same_state, waiting_stays, out_stays, ready_stays}
 use Rattle.nvme_ctrl.proofs.Windowed.{keeps_region, keeps_board}
 

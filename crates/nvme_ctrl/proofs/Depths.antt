@@ -1,10 +1,9 @@
 -- The sum of the depths of the queues suffices.
-use Rattle.std.proofs.Common.{◌≡◌, ℕ, zero, suc, ◌+◌, ◌-◌, ◌<◌, ◌≤◌, ◌==◌, ◌||◌, not, Bool, true, false, if◌then◌else◌, List, [], ◌∷◌, length, map, sum_by, Option, Some, None, option_map, refl, sym, ap, ◌∙◌, subst, arith, inl, inr}
+use Rattle.std.proofs.Common.{◌≡◌, ℕ, zero, suc, ◌+◌, ◌-◌, ◌<◌, ◌≤◌, ◌==◌, ◌||◌, not, Bool, true, false, if◌then◌else◌, List, [], ◌∷◌, length, map, sum_by, Option, Some, None, option_map, refl, sym, ap, ◌∙◌, subst, arith, inl, inr, add-one}
 use Rattle.std.proofs.lemmas.Bool.{cases_eq, ne_eqb, eq-eqb, cases_Bool, cond-true, cond-false}
 use Rattle.std.proofs.lemmas.Option.{same_Some}
 use Rattle.std.proofs.lemmas.List.{length_push}
 use Rattle.std.proofs.lemmas.List.Sums.{sum_by_push}
-use Rattle.std.proofs.Common.{add-one}
 use Rattle.nvme_entry.specs.declared.submission.Sqe.{Sqe}
 use Rattle.nvme_arbiter.specs.Limits.{queue_limit}
 use Rattle.nvme_log.specs.declared.event.Event.TheVariants.{Fetch, Post}
@@ -16,17 +15,17 @@ use Rattle.nvme_log.specs.Laws.{count_of}
 use Rattle.nvme_log.proofs.Counting.{count_of-push, counts_all, counts_less}
 use Rattle.nvme_log.proofs.Fates.{length-upto}
 use Rattle.nvme_log.proofs.Waiting.{fetched-fetch, fetched-fetch_other}
-use Rattle.nvme_ctrl.specs.Notes.{Notes, Logged, EachNote, logged}
-use Rattle.nvme_ctrl.specs.Tags.{all_fetches, all_posts}
+use Rattle.nvme_ctrl_log.specs.Notes.{Notes, Logged, EachNote, logged}
+use Rattle.nvme_ctrl_log.specs.Tags.{all_fetches, all_posts}
 use Rattle.nvme_ctrl.specs.Depths.{held_in, IsFetchedInDepth, HasDepths, DepthsSuffice, DepthsLeaveRoom, HeldWaitOrAreUnposted}
-use Rattle.nvme_ctrl.specs.kept.Content.{Attachment, Candidate, Content}
-use Rattle.nvme_ctrl.specs.kept.Standing.{hand_of}
+use Rattle.nvme_ctrl_content.specs.Content.{Attachment, Candidate, Content}
+use Rattle.nvme_ctrl_content.specs.Standing.{hand_of}
 use Rattle.nvme_ctrl.specs.kept.Kept.{StandsAt}
-use Rattle.nvme_ctrl.specs.declared.slot.Slot.{Slot}
+use Rattle.nvme_slots.specs.declared.slot.Slot.{Slot}
 use Rattle.nvme_ctrl.specs.declared.state.Controller.{Controller}
 use Rattle.nvme_ctrl.proofs.HeldSlots.{fetches-by, posts-by, fetched_none}
-use Rattle.nvme_ctrl.proofs.PostedPlaces.{posted_served, unposted_by}
-use Rattle.nvme_ctrl.proofs.Sums.{sum_same, sum_add, sum_more, at_most}
+use Rattle.nvme_ctrl_content.proofs.PostedPlaces.{posted_served, unposted_by}
+use Rattle.nvme_ctrl_log.proofs.Sums.{sum_same, sum_add, sum_more, at_most}
 
 -- ---- sums by identifier
 abbrev without : (ℕ → ℕ) → ℕ → ℕ → ℕ

@@ -14,27 +14,28 @@ use Rattle.nvme_log.specs.Queues.{Queue, open_sq, open_cq}
 use Rattle.nvme_log.specs.Places.{fetched}
 use Rattle.nvme_log.specs.Completions.{posted_to, phase_after}
 use Rattle.nvme_log.specs.Laws.{as_open}
-use Rattle.nvme_ctrl.specs.Notes.{Notes, Tail, Head, logged}
-use Rattle.nvme_ctrl.specs.Doorbells.{gap, sq_slots, cq_slots, submitted, consumed}
-use Rattle.nvme_ctrl.specs.Rings.{HasCounts}
-use Rattle.nvme_ctrl.specs.Account.{IsTail, IsHead, is_open_cq_region}
-use Rattle.nvme_ctrl.specs.Calls.{IsTailOf, TailRung, IsHeadOf, HeadRung}
-use Rattle.nvme_ctrl.specs.declared.ring.Ring.{Ring}
-use Rattle.nvme_ctrl.specs.declared.slot.Slot.{Slot}
+use Rattle.nvme_ctrl_log.specs.Notes.{Notes, Tail, Head, logged}
+use Rattle.nvme_ctrl_log.specs.Doorbells.{gap, sq_slots, cq_slots, submitted, consumed}
+use Rattle.nvme_slots.specs.Rings.{HasCounts}
+use Rattle.nvme_ctrl_log.specs.Account.{IsTail, IsHead, is_open_cq_region}
+use Rattle.nvme_ctrl_log.specs.Calls.{IsTailOf, IsHeadOf}
+use Rattle.nvme_ctrl.specs.Calls.{TailRung, HeadRung}
+use Rattle.nvme_slots.specs.declared.ring.Ring.{Ring}
+use Rattle.nvme_slots.specs.declared.slot.Slot.{Slot}
 use Rattle.nvme_ctrl.specs.declared.state.SqState.{SqState}
 use Rattle.nvme_ctrl.specs.declared.state.CqState.{CqState}
 use Rattle.nvme_ctrl.specs.declared.state.Controller.{Controller}
-use Rattle.nvme_ctrl.specs.kept.Content.{Content}
+use Rattle.nvme_ctrl_content.specs.Content.{Content}
 use Rattle.nvme_ctrl.specs.Standing.{IsController}
 use Rattle.nvme_ctrl.specs.kept.Kept.{Items, HasNumbers, HasItems, HoldsDoorbells, StandsAt, tags_of, ready_tags}
-use Rattle.nvme_ctrl.specs.kept.Pool.{IsChain}
-use Rattle.nvme_ctrl.specs.kept.Standing.{is_opened_cq}
+use Rattle.nvme_slots.specs.Pool.{IsChain}
+use Rattle.nvme_ctrl_log.specs.Regions.{is_opened_cq}
 use Rattle.nvme_ctrl.specs.kept.State.{sq_at, cq_at}
 use Rattle.nvme_ctrl.proofs.Cookies.{cookies_later}
 use Rattle.nvme_ctrl.proofs.Passed.{passed_later}
-use Rattle.nvme_ctrl.proofs.OpenQueues.{open_region, any_upto}
+use Rattle.nvme_ctrl_content.proofs.OpenQueues.{open_region, any_upto}
 use Rattle.nvme_ctrl.proofs.Lives.{put_sq-states, put_cq-states}
-use Rattle.nvme_ctrl.proofs.ToldQueues.{told_some, told_none, closing_same}
+use Rattle.nvme_ctrl_log.proofs.ToldQueues.{told_some, told_none, closing_same}
 use Rattle.nvme_ctrl.proofs.QueueStates.{IsSqWith, sq_with, sq_of_with, put_sq-regions, put_cq-regions, put_sq-with, put_sq-none, put_cq-none, kept_there, kept_cq_there, opened_apart, opened_where_open}
 use Rattle.nvme_ctrl.specs.kept.QueueSets.{with_queue}
 use Rattle.nvme_ctrl.proofs.QueueSets.{rung-put, readied-kept}

@@ -11,24 +11,25 @@ use Rattle.nvme_entry.specs.Status.{aborted_by_deletion}
 use Rattle.nvme_entry.specs.declared.submission.Sqe.{Sqe}
 use Rattle.nvme_log.specs.Rules.{FrontRules}
 use Rattle.nvme_log.specs.Places.{is_aborted}
-use Rattle.nvme_ctrl.specs.Tags.{answer_of, cookie_of}
-use Rattle.nvme_ctrl.specs.Notes.{Notes, logged}
-use Rattle.nvme_ctrl.specs.declared.slot.Slot.{Slot}
+use Rattle.nvme_ctrl_log.specs.Tags.{answer_of, cookie_of}
+use Rattle.nvme_ctrl_log.specs.Notes.{Notes, logged}
+use Rattle.nvme_slots.specs.declared.slot.Slot.{Slot}
 use Rattle.nvme_ctrl.specs.declared.state.SqState.{SqState}
 use Rattle.nvme_ctrl.specs.declared.state.Controller.{Controller}
-use Rattle.nvme_ctrl.specs.kept.Content.{Attachment, Candidate, Ready, SqContent, CqContent, Content, put_sq, put_cq, with_sq, with_ready}
-use Rattle.nvme_ctrl.specs.inside.Steps.{aborted}
+use Rattle.nvme_ctrl_content.specs.Content.{Attachment, Candidate, Ready, SqContent, CqContent, Content, put_sq, put_cq, with_sq, with_ready}
+use Rattle.nvme_ctrl_content.specs.Steps.{aborted}
 use Rattle.nvme_ctrl.specs.kept.Kept.{is_passed_at, Item, Items, IsWaitingIn, IsOutIn, IsUnanswered, IsThrough, tags_of, candidate_of, IsCookie, HasCookie, IsUnflagged}
 use Rattle.nvme_ctrl.specs.inside.Loose.{IsLoose, Keeps, MakesReady, ended, with_item}
-use Rattle.nvme_ctrl.specs.inside.Carrying.{IsDroppable, oldest_dropped, item_dropped, dropped, HasDropped}
-use Rattle.nvme_ctrl.specs.kept.Pool.{no_entry, slot_at, item_at, first_of, shorter, IsChain, IsNew}
+use Rattle.nvme_ctrl_content.specs.Carrying.{IsDroppable, dropped}
+use Rattle.nvme_ctrl.specs.inside.Carrying.{oldest_dropped, item_dropped, HasDropped}
+use Rattle.nvme_slots.specs.Pool.{no_entry, slot_at, item_at, first_of, shorter, IsChain, IsNew}
 use Rattle.nvme_ctrl.specs.kept.State.{sq_at}
 use Rattle.nvme_ctrl.proofs.CarriedOut.{none_picked_of}
-use Rattle.nvme_ctrl.proofs.Chains.{pop-first, pop-shorter}
+use Rattle.nvme_slots.proofs.Chains.{pop-first, pop-shorter}
 use Rattle.nvme_ctrl.proofs.Ending.{new_to_ready, loose_ended}
 use Rattle.nvme_ctrl.proofs.PendingDeletions.{deletes_apart}
 use Rattle.nvme_ctrl.proofs.Lives.{one_life}
-use Rattle.nvme_ctrl.proofs.Pools.{IsNew-by, IsNew-nil}
+use Rattle.nvme_slots.proofs.Pools.{IsNew-by, IsNew-nil}
 use Rattle.nvme_ctrl.proofs.Windowed.{with_window, keeps_windowed}
 
 -- the completion queue of a submission queue is the one of the region that it posts to

@@ -25,38 +25,39 @@ use Rattle.nvme_log.specs.Queues.{Queue, open_sq}
 use Rattle.nvme_log.specs.Places.{fetched, waiting}
 use Rattle.nvme_log.specs.Dispatches.{place_at}
 use Rattle.nvme_log.specs.declared.place.Place.{Place}
-use Rattle.nvme_ctrl.specs.Notes.{Notes, Logged, logged, Kept}
-use Rattle.nvme_ctrl.specs.Doorbells.{submitted}
-use Rattle.nvme_ctrl.specs.Rings.{HasCounts}
-use Rattle.nvme_ctrl.specs.Account.{IsLawfulEvent, IsAccount, IsKept}
-use Rattle.nvme_ctrl.specs.Calls.{depth_of, MayFetch, HasFetched}
-use Rattle.nvme_ctrl.specs.Tags.{answer_of, holder, taken, is_out, all_fetches, all_posts, cookie_of}
-use Rattle.nvme_ctrl.specs.declared.chain.Chain.{Chain}
-use Rattle.nvme_ctrl.specs.declared.ring.Ring.{Ring}
-use Rattle.nvme_ctrl.specs.declared.slot.Slot.{Slot}
+use Rattle.nvme_ctrl_log.specs.Notes.{Notes, Logged, logged, Kept}
+use Rattle.nvme_ctrl_log.specs.Doorbells.{submitted}
+use Rattle.nvme_slots.specs.Rings.{HasCounts}
+use Rattle.nvme_ctrl_log.specs.Account.{IsLawfulEvent, IsAccount, IsKept}
+use Rattle.nvme_ctrl.specs.Calls.{depth_of, HasFetched}
+use Rattle.nvme_ctrl_log.specs.Calls.{MayFetch}
+use Rattle.nvme_ctrl_log.specs.Tags.{answer_of, holder, taken, is_out, all_fetches, all_posts, cookie_of}
+use Rattle.nvme_slots.specs.declared.chain.Chain.{Chain}
+use Rattle.nvme_slots.specs.declared.ring.Ring.{Ring}
+use Rattle.nvme_slots.specs.declared.slot.Slot.{Slot}
 use Rattle.nvme_ctrl.specs.declared.state.SqState.{SqState}
 use Rattle.nvme_ctrl.specs.declared.state.Controller.{Controller}
-use Rattle.nvme_ctrl.specs.kept.Content.{Candidate, SqContent, Content}
+use Rattle.nvme_ctrl_content.specs.Content.{Candidate, SqContent, Content}
 use Rattle.nvme_ctrl.specs.inside.Fetching.{IsFetchable, filled, waiting_in}
 use Rattle.nvme_ctrl.specs.kept.Kept.{Item, Items, HasNumbers, HasItems, HoldsDoorbells, HoldsTags, StandsAt, IsWaitingIn, IsOutIn, IsUnanswered, HasEntry, is_free, tags_of, ready_tags, places_of, candidate_of, picked_region, picked_of, untaken, ReadyItem, IsReadyIn, IsCookie, HasCookie, HasReadyCookie, HoldsCookies, ready_state}
-use Rattle.nvme_ctrl.specs.kept.Pool.{slot_at, item_at, put_item, IsNew, AreApart, IsChain, SameItems, SameLinks}
-use Rattle.nvme_ctrl.specs.kept.Standing.{Holds, counted_on, on_board}
+use Rattle.nvme_slots.specs.Pool.{slot_at, item_at, put_item, IsNew, AreApart, IsChain, SameItems, SameLinks}
+use Rattle.nvme_ctrl_content.specs.Standing.{Holds, counted_on, on_board}
 use Rattle.nvme_ctrl.specs.kept.State.{sq_at, cq_at, picked_in}
 use Rattle.nvme_ctrl.proofs.Passed.{passed_left, passed_later}
 use Rattle.nvme_log.proofs.Turns.{stays}
-use Rattle.nvme_ctrl.proofs.AfterSteps.{CanFetch, fetched_sq, came_board, after_fetch}
+use Rattle.nvme_ctrl_content.proofs.AfterSteps.{CanFetch, fetched_sq, came_board, after_fetch}
 use Rattle.nvme_ctrl.proofs.DoorbellCalls.{queue_of, is_open, sq_lives, sq_there, slots_are}
-use Rattle.nvme_ctrl.proofs.NextEvents.{next-fetch}
-use Rattle.nvme_ctrl.proofs.Pools.{length-put_item, item_at-put_item_same, item_at-put_item_other, chain-put_item, chain-other, length-apart}
+use Rattle.nvme_ctrl_content.proofs.NextEvents.{next-fetch}
+use Rattle.nvme_slots.proofs.Pools.{length-put_item, item_at-put_item_same, item_at-put_item_other, chain-put_item, chain-other, length-apart}
 use Rattle.nvme_ctrl.proofs.Lives.{put_sq-lives}
 use Rattle.nvme_ctrl.proofs.QueueStates.{IsSqWith, sq_with, sq_of_with, put_content-each, put_sq-none}
-use Rattle.nvme_ctrl.proofs.ServedPlaces.{entry_stays}
+use Rattle.nvme_ctrl_log.proofs.ServedPlaces.{entry_stays}
 use Rattle.nvme_ctrl.proofs.SlotItems.{out_stays, all_waiting_stay, all_ready_stay, same_state, All-both, ready_state-range}
 use Rattle.nvme_ctrl.proofs.SlotStates.{window-states, window-queues, ready-states, apart-by}
-use Rattle.nvme_ctrl.proofs.OutTags.{still_not_out-logged}
-use Rattle.nvme_ctrl.proofs.Standing.{holds-fetch}
-use Rattle.nvme_ctrl.proofs.ToldQueues.{told_some, closing_same}
-use Rattle.nvme_ctrl.proofs.Turns.{filled-is}
+use Rattle.nvme_ctrl_log.proofs.OutTags.{still_not_out-logged}
+use Rattle.nvme_ctrl_content.proofs.Standing.{holds-fetch}
+use Rattle.nvme_ctrl_log.proofs.ToldQueues.{told_some, closing_same}
+use Rattle.nvme_slots.proofs.Turns.{filled-is}
 use Rattle.nvme_ctrl.proofs.PendingDeletions.{deletions_stay}
 use Rattle.nvme_ctrl.specs.kept.QueueSets.{with_queue}
 use Rattle.nvme_ctrl.proofs.QueueSets.{rung-put, not_false}

@@ -9,21 +9,22 @@ use Rattle.nvme_log.specs.Rules.{FrontRules}
 use Rattle.nvme_log.specs.Queues.{Queue}
 use Rattle.nvme_log.specs.Places.{fetched}
 use Rattle.nvme_log.specs.Laws.{as_open}
-use Rattle.nvme_ctrl.specs.Notes.{Notes, logged}
-use Rattle.nvme_ctrl.specs.Doorbells.{submitted}
-use Rattle.nvme_ctrl.specs.Rings.{HasCounts}
-use Rattle.nvme_ctrl.specs.Calls.{depth_of, MayFetch}
-use Rattle.nvme_ctrl.specs.declared.chain.Chain.{Chain}
-use Rattle.nvme_ctrl.specs.declared.slot.Slot.{Slot}
+use Rattle.nvme_ctrl_log.specs.Notes.{Notes, logged}
+use Rattle.nvme_ctrl_log.specs.Doorbells.{submitted}
+use Rattle.nvme_slots.specs.Rings.{HasCounts}
+use Rattle.nvme_ctrl.specs.Calls.{depth_of}
+use Rattle.nvme_ctrl_log.specs.Calls.{MayFetch}
+use Rattle.nvme_slots.specs.declared.chain.Chain.{Chain}
+use Rattle.nvme_slots.specs.declared.slot.Slot.{Slot}
 use Rattle.nvme_ctrl.specs.declared.state.Controller.{Controller}
 use Rattle.nvme_ctrl.specs.inside.Fetching.{IsFetchable}
 use Rattle.nvme_ctrl.specs.kept.Kept.{StandsAt}
-use Rattle.nvme_ctrl.specs.kept.Pool.{IsChain}
+use Rattle.nvme_slots.specs.Pool.{IsChain}
 use Rattle.nvme_ctrl.specs.kept.State.{sq_at}
 use Rattle.nvme_ctrl.proofs.DoorbellCalls.{queue_of, sq_lives, slots_are}
 use Rattle.nvme_ctrl.proofs.FetchCalls.{waits}
-use Rattle.nvme_ctrl.proofs.ToldQueues.{IsToldAs, told_some, closing_same}
-use Rattle.nvme_ctrl.proofs.Turns.{filled-is}
+use Rattle.nvme_ctrl_log.proofs.ToldQueues.{IsToldAs, told_some, closing_same}
+use Rattle.nvme_slots.proofs.Turns.{filled-is}
 
 -- an open queue of a table has an entry that isn't closing
 pub record HasOpen (o : Option SqEntry) (queue : Queue) : Type 0 where

@@ -21,44 +21,47 @@ use Rattle.nvme_log.specs.Rules.{FrontRules, Past}
 use Rattle.nvme_log.specs.Places.{fetched, fate_of, is_waiting, is_served, one_if}
 use Rattle.nvme_log.specs.Dispatches.{place_at}
 use Rattle.nvme_log.specs.Answers.{Answer}
-use Rattle.nvme_ctrl.specs.Notes.{Notes, Logged, Answered, logged}
-use Rattle.nvme_ctrl.specs.Tags.{answer_of, is_passed, taken}
-use Rattle.nvme_ctrl.specs.Account.{IsAccount, IsCarriedOut}
-use Rattle.nvme_ctrl.specs.Steps.{HasFinished, IsFinishableAt, NoneFinishable}
-use Rattle.nvme_ctrl.specs.declared.slot.Slot.{Slot}
+use Rattle.nvme_ctrl_log.specs.Notes.{Notes, Logged, Answered, logged}
+use Rattle.nvme_ctrl_log.specs.Tags.{answer_of, is_passed, taken}
+use Rattle.nvme_ctrl_log.specs.Account.{IsAccount, IsCarriedOut}
+use Rattle.nvme_ctrl.specs.Steps.{HasFinished}
+use Rattle.nvme_ctrl_log.specs.Steps.{IsFinishableAt, NoneFinishable}
+use Rattle.nvme_slots.specs.declared.slot.Slot.{Slot}
 use Rattle.nvme_ctrl.specs.declared.state.Controller.{Controller}
-use Rattle.nvme_ctrl.specs.kept.Content.{Candidate, Ready, PendingDelete, Content, with_ready, put_deletion, put_life}
-use Rattle.nvme_ctrl.specs.kept.Standing.{Holds, HoldsReady, IsPending, HasOwnStatus, hand_of, held_upto, times_held, times_ready, HasItsStatus}
-use Rattle.nvme_ctrl.specs.kept.Kept.{Item, ReadyItem, Items, IsWaitingIn, IsOutIn, IsReadyIn, IsSqOf, HasNumbers, HasItems, StandsAt, tags_of, places_of, candidate_of, picked_region, picked_of, untaken, HasEntry, IsThrough, IsUnflagged, is_passed_at, IsDevices, DeleteItem, deletion_in, put_delete, IsDeletingIn, HasDeletions, IsUnanswered, IsCookie, HasRegionsMade}
+use Rattle.nvme_ctrl_content.specs.Content.{Candidate, Ready, PendingDelete, Content, with_ready, put_deletion, put_life}
+use Rattle.nvme_ctrl_content.specs.Standing.{Holds, HoldsReady, IsPending, HasOwnStatus, hand_of, held_upto, times_held, times_ready, HasItsStatus}
+use Rattle.nvme_ctrl.specs.kept.Kept.{Item, ReadyItem, Items, IsWaitingIn, IsOutIn, IsReadyIn, IsSqOf, HasNumbers, HasItems, StandsAt, tags_of, places_of, candidate_of, picked_region, picked_of, untaken, HasEntry, IsThrough, IsUnflagged, is_passed_at, IsDevices, DeleteItem, deletion_in, put_delete, IsDeletingIn, HasDeletions, IsUnanswered, IsCookie}
+use Rattle.nvme_ctrl_content.specs.Shown.{HasRegionsMade}
 use Rattle.nvme_ctrl.specs.inside.Loose.{IsLoose, Keeps, MakesReady, ended, with_item}
-use Rattle.nvme_ctrl.specs.kept.Pool.{slot_at, IsChain}
+use Rattle.nvme_slots.specs.Pool.{slot_at, IsChain}
 use Rattle.nvme_ctrl.specs.kept.State.{sq_at, deletion_at, no_sq_state, no_deletion, IsFinishable}
 use Rattle.nvme_ctrl.proofs.Passed.{not_passed, hand_is_devices}
-use Rattle.nvme_ctrl.proofs.AfterSteps.{CanClose, deleted, after_closed}
+use Rattle.nvme_ctrl_content.proofs.AfterSteps.{CanClose, deleted, after_closed}
 use Rattle.nvme_ctrl.proofs.CarriedOut.{last_of, was_picked}
 use Rattle.nvme_ctrl.proofs.Lives.{one_life, one_id, ids_closed, put_sq-states}
 use Rattle.nvme_ctrl.proofs.PostItems.{picked_left}
-use Rattle.nvme_ctrl.proofs.ReadyHand.{times_held-append}
-use Rattle.nvme_ctrl.proofs.Readying.{unposted-counts}
-use Rattle.nvme_ctrl.specs.Doorbells.{submitted}
-use Rattle.nvme_ctrl.specs.Rings.{HasCounts}
+use Rattle.nvme_ctrl_content.proofs.ReadyHand.{times_held-append}
+use Rattle.nvme_ctrl_log.proofs.Readying.{unposted-counts}
+use Rattle.nvme_ctrl_log.specs.Doorbells.{submitted}
+use Rattle.nvme_slots.specs.Rings.{HasCounts}
 use Rattle.nvme_log.proofs.Posts.{posts_of-some}
 use Rattle.nvme_log.specs.declared.place.Place.{Place}
 use Rattle.std.proofs.lemmas.List.{length-set, get_or-set_other}
 use Rattle.std.proofs.lemmas.List.Sums.{get_or-le-sum_by}
 use Rattle.nvme_ctrl.proofs.LaterNotes.{IsOther, keeps-closed, keeps-answered}
-use Rattle.nvme_ctrl.proofs.NextEvents.{next-close}
-use Rattle.nvme_ctrl.proofs.OwnStatus.{IsAnswerable, All-unmap, same_place, candidates_wait, ready_is_answerable, answerable_is_done, answerable_is_unposted}
-use Rattle.nvme_ctrl.proofs.Pools.{IsNew-by}
+use Rattle.nvme_ctrl_content.proofs.NextEvents.{next-close}
+use Rattle.nvme_ctrl_content.proofs.OwnStatus.{IsAnswerable, All-unmap, same_place, candidates_wait, ready_is_answerable, answerable_is_done, answerable_is_unposted}
+use Rattle.nvme_slots.proofs.Pools.{IsNew-by}
 use Rattle.nvme_ctrl.proofs.SlotItems.{All-both, All-parts, ready_state-range}
 use Rattle.nvme_ctrl.proofs.Standable.{readies_are_apart}
-use Rattle.nvme_ctrl.proofs.Standing.{holds-close}
-use Rattle.nvme_ctrl.proofs.TableSteps.{finish-placing}
-use Rattle.nvme_ctrl.proofs.ToldQueues.{told_some, closing_same}
-use Rattle.nvme_ctrl.specs.Deletions.{deleting}
+use Rattle.nvme_ctrl_content.proofs.Standing.{holds-close}
+use Rattle.nvme_ctrl_content.proofs.TableSteps.{finish-placing}
+use Rattle.nvme_ctrl_log.proofs.ToldQueues.{told_some, closing_same}
+use Rattle.nvme_ctrl_log.specs.Deletions.{deleting}
 use Rattle.nvme_ctrl.specs.declared.state.SqState.{SqState}
-use Rattle.nvme_ctrl.proofs.DeletedQueues.{unheld_apart, unheld_undeleting}
-use Rattle.nvme_ctrl.proofs.PendingDeletions.{Here, Elsewhere, is_put, put-same, put-other, deletion_item, IsFlagged, flagged_item, item_flagged, none_counted, some_deletes, deletions_ended}
+use Rattle.nvme_ctrl_content.proofs.DeletedQueues.{unheld_apart, unheld_undeleting}
+use Rattle.nvme_ctrl_content.proofs.DeletingRegions.{Here, Elsewhere, is_put, put-same, put-other}
+use Rattle.nvme_ctrl.proofs.PendingDeletions.{deletion_item, IsFlagged, flagged_item, item_flagged, none_counted, some_deletes, deletions_ended}
 use Rattle.nvme_ctrl.proofs.QueueSets.{rung-kept}
 
 -- what holds of the first n and of the others holds of all

@@ -10,15 +10,17 @@ use Rattle.nvme_log.specs.Places.{fetched, waiting, places, picked, is_aborted, 
 use Rattle.nvme_log.specs.Rules.{FrontRules, Past, upto, sq_regions_of}
 use Rattle.nvme_log.proofs.Counting.{count_of-cons, count_of-push, counts_same, counts_less, counts_below, counts_change, fate_by}
 use Rattle.nvme_log.proofs.Waiting.{fetched-fetch, fetched-fetch_other}
-use Rattle.nvme_ctrl.specs.Laws.{HoldsFewSlots, FewHoldSlots, NoneDeleting, all_waiting, all_dropped}
-use Rattle.nvme_ctrl.specs.Notes.{logged}
-use Rattle.nvme_ctrl.specs.Tags.{all_fetches, all_posts}
-use Rattle.nvme_ctrl.specs.kept.Content.{Attachment, PendingDelete, Content}
-use Rattle.nvme_ctrl.specs.kept.Standing.{Holds, hand_of}
-use Rattle.nvme_ctrl.proofs.FewUnposted.{aborted-posted}
-use Rattle.nvme_ctrl.proofs.FurtherAccounts.{not_empty, fetched-before}
-use Rattle.nvme_ctrl.proofs.PostedPlaces.{posted_places, outstanding_of, posted_served, unposted_by}
-use Rattle.nvme_ctrl.proofs.Sums.{sum_less, sum_add, sum_none, sum_step, sum_more, at_most}
+use Rattle.nvme_ctrl_log.specs.Laws.{HoldsFewSlots, NoneDeleting, all_waiting, all_dropped}
+use Rattle.nvme_ctrl.specs.Laws.{FewHoldSlots}
+use Rattle.nvme_ctrl_log.specs.Notes.{logged}
+use Rattle.nvme_ctrl_log.specs.Tags.{all_fetches, all_posts}
+use Rattle.nvme_ctrl_content.specs.Content.{Attachment, PendingDelete, Content}
+use Rattle.nvme_ctrl_content.specs.Standing.{Holds, hand_of}
+use Rattle.nvme_ctrl_content.proofs.FewUnposted.{aborted-posted}
+use Rattle.nvme_ctrl_log.proofs.FurtherAccounts.{not_empty, fetched-before}
+use Rattle.nvme_ctrl_content.proofs.PostedPlaces.{posted_places, posted_served, unposted_by}
+use Rattle.nvme_ctrl_log.proofs.OutstandingPlaces.{outstanding_of}
+use Rattle.nvme_ctrl_log.proofs.Sums.{sum_less, sum_add, sum_none, sum_step, sum_more, at_most}
 
 -- ---- fetches and posts by region
 -- all that was fetched was fetched of some region

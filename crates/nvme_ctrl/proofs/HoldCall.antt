@@ -19,27 +19,28 @@ use Rattle.nvme_log.specs.Rules.{FrontRules, Past}
 use Rattle.nvme_log.specs.Places.{fetched}
 use Rattle.nvme_log.specs.Queues.{Queue, open_sq}
 use Rattle.nvme_log.specs.Histories.{arbitration_of}
-use Rattle.nvme_ctrl.specs.Notes.{Notes, Held, Classed, logged}
-use Rattle.nvme_ctrl.specs.Doorbells.{submitted}
-use Rattle.nvme_ctrl.specs.Rings.{HasCounts}
-use Rattle.nvme_ctrl.specs.Observation.{is_held, class_set}
-use Rattle.nvme_ctrl.specs.Account.{MayBeHeld, MayBeClassed}
-use Rattle.nvme_ctrl.specs.declared.slot.Slot.{Slot}
+use Rattle.nvme_ctrl_log.specs.Notes.{Notes, Held, Classed, logged}
+use Rattle.nvme_ctrl_log.specs.Doorbells.{submitted}
+use Rattle.nvme_slots.specs.Rings.{HasCounts}
+use Rattle.nvme_ctrl_log.specs.Observation.{is_held, class_set}
+use Rattle.nvme_ctrl_log.specs.Account.{MayBeHeld, MayBeClassed}
+use Rattle.nvme_slots.specs.declared.slot.Slot.{Slot}
 use Rattle.nvme_ctrl.specs.declared.state.SqState.{SqState}
 use Rattle.nvme_ctrl.specs.declared.state.Controller.{Controller}
-use Rattle.nvme_ctrl.specs.kept.Content.{PendingDelete, Content, put_held, put_class}
+use Rattle.nvme_ctrl_content.specs.Content.{PendingDelete, Content, put_held, put_class}
 use Rattle.nvme_ctrl.specs.kept.Kept.{HasNumbers, HasItems, HoldsDoorbells, StandsAt, tags_of}
-use Rattle.nvme_ctrl.specs.kept.Pool.{IsChain}
-use Rattle.nvme_ctrl.specs.kept.Standing.{HoldsReady, HoldsDeletion, HoldsQueues, IsPending, Holds, hand_of, on_board}
+use Rattle.nvme_slots.specs.Pool.{IsChain}
+use Rattle.nvme_ctrl_content.specs.Standing.{HoldsReady, HoldsDeletion, HoldsQueues, IsPending, Holds, hand_of, on_board}
 use Rattle.nvme_ctrl.specs.kept.State.{no_sq_state, sq_at}
 use Rattle.nvme_ctrl.specs.inside.Fetching.{waiting_in}
 use Rattle.nvme_ctrl.proofs.Cookies.{cookies_later}
 use Rattle.nvme_ctrl.proofs.DoorbellCalls.{sq_lives, sq_there}
 use Rattle.nvme_ctrl.proofs.FetchCalls.{waiting_are}
 use Rattle.nvme_ctrl.proofs.Passed.{passed_later}
-use Rattle.nvme_ctrl.proofs.QueueChanges.{apart_queues, arrange}
-use Rattle.nvme_ctrl.proofs.QueueSteps.{agreement, holds_queues}
-use Rattle.nvme_ctrl.proofs.QueueWords.{in_log, in_content, counted, at_same, at_other}
+use Rattle.nvme_ctrl_content.proofs.QueueChanges.{apart_queues, arrange}
+use Rattle.nvme_ctrl_content.proofs.QueueSteps.{agreement, holds_queues}
+use Rattle.nvme_ctrl_content.proofs.QueueWords.{in_log, in_content, counted}
+use Rattle.nvme_ctrl_log.proofs.QueueWords.{at_same, at_other}
 use Rattle.nvme_ctrl.proofs.Lives.{put_sq-states}
 use Rattle.nvme_ctrl.proofs.QueueStates.{IsSqWith, sq_of_with, put_sq-with, put_sq-none, put_sq-regions}
 use Rattle.nvme_ctrl.proofs.QueueSets.{rung-kept}

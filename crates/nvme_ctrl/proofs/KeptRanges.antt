@@ -10,33 +10,29 @@ use Rattle.std.proofs.lemmas.List.Recursion.{and_from_places}
 use Rattle.nvme_admin.specs.declared.bounds.TheConstants.{MAX_REGIONS}
 use Rattle.nvme_log.specs.Rules.{FrontRules}
 use Rattle.nvme_log.specs.Places.{fate_of, is_waiting}
-use Rattle.nvme_ctrl.specs.Notes.{Notes, logged}
-use Rattle.nvme_ctrl.specs.Rings.{HasCounts}
+use Rattle.nvme_ctrl_log.specs.Notes.{Notes, logged}
+use Rattle.nvme_slots.specs.Rings.{HasCounts}
 use Rattle.nvme_ctrl.proofs.PoolBounds.{few_outstanding}
 use Rattle.nvme_ctrl.specs.Ranges.{is_used_as, is_item, is_placed, is_link, are_linked, is_chain, is_ring, is_attached, is_sq, is_cq, is_deletion, has_counts, has_numbers, has_queues, is_in_range}
 use Rattle.nvme_ctrl.specs.Standing.{IsController}
-use Rattle.nvme_ctrl.specs.declared.ring.Ring.{Ring}
-use Rattle.nvme_ctrl.specs.declared.chain.Chain.{Chain}
-use Rattle.nvme_ctrl.specs.declared.slot.Slot.{Slot}
+use Rattle.nvme_slots.specs.declared.ring.Ring.{Ring}
+use Rattle.nvme_slots.specs.declared.chain.Chain.{Chain}
+use Rattle.nvme_slots.specs.declared.slot.Slot.{Slot}
 use Rattle.nvme_ctrl.specs.declared.state.SqState.{SqState}
 use Rattle.nvme_ctrl.specs.declared.state.Controller.{Controller}
-use Rattle.nvme_ctrl.specs.kept.Content.{Candidate}
-use Rattle.nvme_ctrl.specs.Tags.{is_passed}
+use Rattle.nvme_ctrl_content.specs.Content.{Candidate}
+use Rattle.nvme_ctrl_log.specs.Tags.{is_passed}
 use Rattle.nvme_ctrl.proofs.Passed.{hand_is_devices}
 use Rattle.nvme_ctrl.proofs.PendingDeletions.{flagged_item}
-use Rattle.nvme_ctrl.proofs.Windows.{window-waits}
-use Rattle.nvme_ctrl.specs.kept.Pool.{no_slot, slot_at, next_at, AreLinked, IsChain}
+use Rattle.nvme_ctrl_content.proofs.Windows.{window-waits}
+use Rattle.nvme_slots.specs.Pool.{no_slot, slot_at, next_at, AreLinked, IsChain}
 use Rattle.nvme_ctrl.specs.kept.State.{no_chain, no_sq_state, no_cq_state, no_deletion, sq_at, cq_at, deletion_at}
 use Rattle.nvme_ctrl.specs.kept.Kept.{Item, ReadyItem, IsWaitingIn, IsOutIn, IsReadyIn, IsDevices, is_free, tags_of, ready_tags, candidate_of, picked_region, picked_of, untaken, StandsAt}
-use Rattle.nvme_ctrl.proofs.Pools.{length-chain}
+use Rattle.nvme_slots.proofs.Pools.{length-chain}
 use Rattle.nvme_ctrl.proofs.SlotItems.{All-both, All-parts, ready_state-range}
-use Rattle.nvme_ctrl.proofs.ReadyHand.{All-taken}
+use Rattle.nvme_ctrl_content.proofs.ReadyHand.{All-taken}
 
 -- ---- lists
--- what holds of the values of all of a list
-All-unmap : {X Y : Type 0} (P : Y → Type 0) (f : X → Y) (xs : List X) → All P (map f xs) → All (λ (x : X). P (f x)) xs
-All-unmap P f [] h = All-nil (λ x. P (f x))
-All-unmap P f (x ∷ xs) h = All-cons (λ y. P (f y)) x xs (All-head P (f x) (map f xs) h) (All-unmap P f xs (All-tail P (f x) (map f xs) h))
 
 -- a test passes on all of a list where it does at each number
 all_at : {X : Type 0} (p : X → Bool) (xs : List X) (d : X) → ((i : ℕ) → i < length xs → p (get_or xs i d) ≡ true) → list_all p xs ≡ true

@@ -17,24 +17,25 @@ use Rattle.nvme_log.specs.Completions.{posted_to, phase_after}
 use Rattle.nvme_log.specs.Dispatches.{place_at, dispatched_by}
 use Rattle.nvme_log.specs.Answers.{Answer}
 use Rattle.nvme_log.specs.Effects.{is_effect}
-use Rattle.nvme_ctrl.specs.Notes.{Notes, Logged, Answered, logged}
-use Rattle.nvme_ctrl.specs.Doorbells.{submitted, consumed}
-use Rattle.nvme_ctrl.specs.Rings.{HasCounts}
-use Rattle.nvme_ctrl.specs.Tags.{holder, answer_of, cookie_of, flags_of, all_fetches, all_posts, is_passed, handed}
-use Rattle.nvme_ctrl.specs.Steps.{with_logged}
-use Rattle.nvme_ctrl.specs.declared.slot.Slot.{Slot}
+use Rattle.nvme_ctrl_log.specs.Notes.{Notes, Logged, Answered, logged}
+use Rattle.nvme_ctrl_log.specs.Doorbells.{submitted, consumed}
+use Rattle.nvme_slots.specs.Rings.{HasCounts}
+use Rattle.nvme_ctrl_log.specs.Tags.{holder, answer_of, cookie_of, flags_of, all_fetches, all_posts, is_passed, handed}
+use Rattle.nvme_ctrl_log.specs.Steps.{with_logged}
+use Rattle.nvme_slots.specs.declared.slot.Slot.{Slot}
 use Rattle.nvme_ctrl.specs.declared.state.Controller.{Controller}
-use Rattle.nvme_ctrl.specs.kept.Content.{Ready, Content}
-use Rattle.nvme_ctrl.specs.kept.Standing.{answer_in, is_opened_cq}
+use Rattle.nvme_ctrl_content.specs.Content.{Ready, Content}
+use Rattle.nvme_ctrl_content.specs.Standing.{answer_in}
+use Rattle.nvme_ctrl_log.specs.Regions.{is_opened_cq}
 use Rattle.nvme_ctrl.specs.kept.State.{sq_at, cq_at}
 use Rattle.nvme_ctrl.specs.kept.Kept.{Item, ReadyItem, DeleteItem, Items, IsThrough, HasEntry, untaken}
 use Rattle.nvme_ctrl.specs.inside.Loose.{Keeps}
-use Rattle.nvme_ctrl.proofs.AfterSteps.{with_events}
+use Rattle.nvme_ctrl_log.proofs.LaterEvents.{with_events}
 use Rattle.nvme_ctrl.proofs.Cookies.{cookies_later}
 use Rattle.nvme_ctrl.proofs.Passed.{passed_later}
 use Rattle.nvme_log.proofs.Turns.{stays}
-use Rattle.nvme_ctrl.proofs.EffectEvents.{AreEffects}
-use Rattle.nvme_ctrl.proofs.OutTags.{still_not_out-logged, still_not_out-answered}
+use Rattle.nvme_ctrl_log.proofs.EffectEvents.{AreEffects}
+use Rattle.nvme_ctrl_log.proofs.OutTags.{still_not_out-logged, still_not_out-answered}
 
 -- the log of notes with events more
 pub logged-with : (es : List Event) (notes : Notes) → logged (with_logged es notes) ≡ with_events es (logged notes)

@@ -6,7 +6,7 @@ use Rattle.std.proofs.lemmas.List.{get_or-set_same, get_or-set_other}
 use Rattle.std.proofs.lemmas.Option.{same_Some}
 use Rattle.nvme_ctrl.specs.declared.state.SqState.{SqState}
 use Rattle.nvme_ctrl.specs.declared.state.CqState.{CqState}
-use Rattle.nvme_ctrl.specs.kept.Content.{SqContent, CqContent, put_sq, put_cq, put_life}
+use Rattle.nvme_ctrl_content.specs.Content.{SqContent, CqContent, put_sq, put_cq, put_life}
 use Rattle.nvme_ctrl.specs.kept.Kept.{AreIds}
 use Rattle.nvme_ctrl.specs.kept.State.{no_sq_state, no_cq_state, sq_at, cq_at}
 

@@ -14,11 +14,11 @@ use Rattle.nvme_arbiter.proofs.PickLaws.{limits_are_picks}
 use Rattle.nvme_arbiter.proofs.Stands.{lawful as lawful_where_stands}
 use Rattle.nvme_log.specs.Histories.{arbitration_of}
 use Rattle.nvme_log.specs.Rules.{FrontRules}
-use Rattle.nvme_ctrl.specs.Notes.{Notes, logged}
+use Rattle.nvme_ctrl_log.specs.Notes.{Notes, logged}
 use Rattle.nvme_ctrl.specs.Standing.{IsController, has_arbiter}
-use Rattle.nvme_ctrl.specs.Steps.{IsNextPick, IsNextWithin}
+use Rattle.nvme_ctrl_log.specs.Steps.{IsNextPick, IsNextWithin}
 use Rattle.nvme_ctrl.specs.inside.Picks.{CanPickNow}
-use Rattle.nvme_ctrl.specs.declared.slot.Slot.{Slot}
+use Rattle.nvme_slots.specs.declared.slot.Slot.{Slot}
 use Rattle.nvme_ctrl.specs.declared.state.Controller.{Controller}
 use Rattle.nvme_ctrl.proofs.PickCall.{board_stands}
 

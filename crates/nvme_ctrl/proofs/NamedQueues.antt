@@ -19,12 +19,12 @@ use Rattle.nvme_placing.specs.Telling.{Tells, IsTold, IsToldBy, content_of, plac
 use Rattle.nvme_log.specs.Rules.{FrontRules, Past}
 use Rattle.nvme_log.specs.Queues.{Queue}
 use Rattle.nvme_log.specs.Laws.{as_open}
-use Rattle.nvme_ctrl.specs.Making.{placing_in}
-use Rattle.nvme_ctrl.specs.Notes.{Notes, logged}
-use Rattle.nvme_ctrl.specs.Steps.{NamesQueues}
+use Rattle.nvme_ctrl_log.specs.Making.{placing_in}
+use Rattle.nvme_ctrl_log.specs.Notes.{Notes, logged}
+use Rattle.nvme_ctrl_log.specs.Steps.{NamesQueues}
 use Rattle.nvme_ctrl.specs.declared.picks.Step.{Step}
 use Rattle.nvme_ctrl.specs.declared.picks.Step.TheVariants as step
-use Rattle.nvme_ctrl.specs.declared.slot.Slot.{Slot}
+use Rattle.nvme_slots.specs.declared.slot.Slot.{Slot}
 use Rattle.nvme_ctrl.specs.declared.state.Controller.{Controller}
 use Rattle.nvme_ctrl.specs.kept.Kept.{StandsAt}
 

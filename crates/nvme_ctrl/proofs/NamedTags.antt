@@ -8,18 +8,18 @@ use Rattle.nvme_entry.specs.declared.submission.Sqe.{Sqe}
 use Rattle.nvme_log.specs.Rules.{FrontRules}
 use Rattle.nvme_log.specs.Queues.{qid_of_region}
 use Rattle.nvme_log.specs.declared.place.Place.{Place}
-use Rattle.nvme_ctrl.specs.Notes.{Notes, logged}
-use Rattle.nvme_ctrl.specs.Tags.{holder}
-use Rattle.nvme_ctrl.specs.Calls.{IsTagOf}
-use Rattle.nvme_ctrl.specs.inside.Lookups.{is_found}
-use Rattle.nvme_ctrl.specs.declared.slot.Slot.{Slot}
+use Rattle.nvme_ctrl_log.specs.Notes.{Notes, logged}
+use Rattle.nvme_ctrl_log.specs.Tags.{holder}
+use Rattle.nvme_ctrl_log.specs.Calls.{IsTagOf}
+use Rattle.nvme_slots.specs.Lookups.{is_found}
+use Rattle.nvme_slots.specs.declared.slot.Slot.{Slot}
 use Rattle.nvme_ctrl.specs.declared.state.Controller.{Controller}
-use Rattle.nvme_ctrl.specs.kept.Content.{Attachment}
+use Rattle.nvme_ctrl_content.specs.Content.{Attachment}
 use Rattle.nvme_ctrl.specs.kept.Kept.{Item, StandsAt}
-use Rattle.nvme_ctrl.specs.kept.Pool.{slot_at}
+use Rattle.nvme_slots.specs.Pool.{slot_at}
 use Rattle.nvme_ctrl.proofs.AnswerCall.{out_is_out}
 use Rattle.nvme_ctrl.proofs.OutEntries.{is_two, out_entry, out_queue, out_inside}
-use Rattle.nvme_ctrl.proofs.ReadyHand.{All-taken}
+use Rattle.nvme_ctrl_content.proofs.ReadyHand.{All-taken}
 
 module _ (rules : FrontRules) (late : Bool) (notes : Notes) (c : Controller) (slots : List Slot) (s : StandsAt rules late notes c slots) (qid cid tag : ℕ) where
   abbrev slot : Slot

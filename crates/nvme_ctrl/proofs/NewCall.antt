@@ -31,19 +31,19 @@ use Rattle.nvme_placing.specs.declared.table.PlacedTable.{PlacedTable}
 use Rattle.nvme_log.specs.Rules.{FrontRules, upto, sq_regions_of, cq_regions_of, slots_at}
 use Rattle.nvme_log.specs.Completions.{phase_after}
 use Rattle.nvme_log.proofs.Fates.{length-upto}
-use Rattle.nvme_ctrl.specs.Making.{admin_fault, first_regions, first_rules, anywhere_rules}
-use Rattle.nvme_ctrl.specs.Rings.{HasCounts, first_ring}
-use Rattle.nvme_ctrl.specs.declared.chain.Chain.{Chain}
-use Rattle.nvme_ctrl.specs.declared.slot.Slot.{Slot}
+use Rattle.nvme_ctrl_log.specs.Making.{admin_fault, first_regions, first_rules, anywhere_rules}
+use Rattle.nvme_slots.specs.Rings.{HasCounts, first_ring}
+use Rattle.nvme_slots.specs.declared.chain.Chain.{Chain}
+use Rattle.nvme_slots.specs.declared.slot.Slot.{Slot}
 use Rattle.nvme_ctrl.specs.declared.state.SqState.{SqState}
 use Rattle.nvme_ctrl.specs.declared.state.CqState.{CqState}
 use Rattle.nvme_ctrl.specs.declared.state.Controller.{Controller}
-use Rattle.nvme_ctrl.specs.inside.First.{IsFirst}
-use Rattle.nvme_ctrl.specs.kept.Content.{Content}
+use Rattle.nvme_ctrl_log.specs.First.{IsFirst}
+use Rattle.nvme_ctrl_content.specs.Content.{Content}
 use Rattle.nvme_ctrl.specs.kept.Kept.{Item, Items, HasNumbers, HasItems, HoldsDoorbells, HoldsTags, StandsAt, IsWaitingIn, IsOutIn, IsReadyIn, IsSqOf, IsCqOf, AreIds, DeleteItem, candidate_of, picked_of, delete_of, HasDeletions}
-use Rattle.nvme_ctrl.specs.kept.Pool.{IsChain, slot_at}
+use Rattle.nvme_slots.specs.Pool.{IsChain, slot_at}
 use Rattle.nvme_ctrl.specs.kept.State.{no_sq_state, no_cq_state, no_chain, sq_at, cq_at, no_deletion, deletion_at, pending_tag}
-use Rattle.nvme_ctrl.proofs.Beginning.{first_content, first_table, first_made, first_holds, first_sq_regions, first_cq_regions, same_each}
+use Rattle.nvme_ctrl_content.proofs.Beginning.{first_content, first_table, first_made, first_holds, first_sq_regions, first_cq_regions, same_each}
 use Rattle.nvme_ctrl.proofs.Lives.{put_sq-states, put_cq-states}
 
 -- the states of the queues, of which the admin queues are there

@@ -3,17 +3,17 @@ use Rattle.std.proofs.Common.{◌≡◌, ◌≢◌, ℕ, ◌+◌, ◌<◌, ◌�
 use Rattle.std.specs.Prelude.{◌⊎◌}
 use Rattle.std.proofs.lemmas.Bool.{eqb-true, eqb-false, leb-true, leb-false}
 use Rattle.std.proofs.lemmas.Option.{same_Some}
-use Rattle.nvme_ctrl.specs.Doorbells.{gap}
+use Rattle.nvme_ctrl_log.specs.Doorbells.{gap}
 use Rattle.nvme_ctrl.specs.Posts.{IsPostOf, completion_of, is_full, first_post, post_in, next_post_of}
 use Rattle.nvme_ctrl.specs.declared.posts.Post.{Post}
-use Rattle.nvme_ctrl.specs.declared.ring.Ring.{Ring}
-use Rattle.nvme_ctrl.specs.declared.slot.Slot.{Slot}
+use Rattle.nvme_slots.specs.declared.ring.Ring.{Ring}
+use Rattle.nvme_slots.specs.declared.slot.Slot.{Slot}
 use Rattle.nvme_ctrl.specs.declared.state.CqState.{CqState}
 use Rattle.nvme_ctrl.specs.declared.state.Controller.{Controller}
-use Rattle.nvme_ctrl.specs.kept.Pool.{slot_at, flags_in, IsChain}
+use Rattle.nvme_slots.specs.Pool.{slot_at, flags_in, IsChain}
 use Rattle.nvme_ctrl.specs.kept.State.{cq_at}
 use Rattle.nvme_ctrl.specs.kept.QueueSets.{has_queue}
-use Rattle.nvme_ctrl.proofs.Pools.{linked-head}
+use Rattle.nvme_slots.proofs.Pools.{linked-head}
 
 -- a ring is full where it has no slot free
 full-true : (ring : Ring) → is_full ring ≡ true → ring.slots ≤ gap ring.slots ring.head ring.tail + 1

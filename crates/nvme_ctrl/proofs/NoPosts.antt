@@ -13,26 +13,28 @@ use Rattle.nvme_log.specs.Places.{fetched, fate_of, is_aborted, is_waiting, is_s
 use Rattle.nvme_log.specs.Completions.{is_posted, posted_to}
 use Rattle.nvme_log.specs.Dispatches.{place_at}
 use Rattle.nvme_log.proofs.Posts.{posts_of-none}
-use Rattle.nvme_ctrl.specs.Notes.{Notes, logged}
-use Rattle.nvme_ctrl.specs.Doorbells.{gap, consumed}
-use Rattle.nvme_ctrl.specs.Tags.{answer_of}
-use Rattle.nvme_ctrl.specs.Posts.{IsFullRing, AllPosted, NonePostable, next_post_of}
-use Rattle.nvme_ctrl.specs.declared.slot.Slot.{Slot}
+use Rattle.nvme_ctrl_log.specs.Notes.{Notes, logged}
+use Rattle.nvme_ctrl_log.specs.Doorbells.{gap, consumed}
+use Rattle.nvme_ctrl_log.specs.Tags.{answer_of}
+use Rattle.nvme_ctrl_log.specs.Posts.{IsFullRing, AllPosted, NonePostable}
+use Rattle.nvme_ctrl.specs.Posts.{next_post_of}
+use Rattle.nvme_slots.specs.declared.slot.Slot.{Slot}
 use Rattle.nvme_ctrl.specs.declared.state.Controller.{Controller}
-use Rattle.nvme_ctrl.specs.kept.Content.{Candidate, Ready, PendingDelete}
-use Rattle.nvme_ctrl.specs.kept.Standing.{IsInHand, IsReady, times_in, times_held, held_upto}
-use Rattle.nvme_ctrl.specs.kept.Pool.{IsChain}
+use Rattle.nvme_ctrl_content.specs.Content.{Candidate, Ready, PendingDelete}
+use Rattle.nvme_ctrl_content.specs.Standing.{IsInHand, IsReady, times_in, times_held, held_upto}
+use Rattle.nvme_slots.specs.Pool.{IsChain}
 use Rattle.nvme_ctrl.specs.kept.State.{cq_at}
 use Rattle.nvme_ctrl.specs.kept.Kept.{Item, ReadyItem, ready_tags, readies_of, candidate_of, places_of, picked_region, picked_of, untaken, IsWaitingIn, IsUnanswered, StandsAt}
 use Rattle.nvme_ctrl.proofs.NextPost.{none_is_out, not_postable, chain-none}
-use Rattle.nvme_ctrl.proofs.OwnStatus.{waiting_is_unaborted}
-use Rattle.nvme_ctrl.proofs.Readying.{over_none}
-use Rattle.nvme_ctrl.proofs.ReadyHand.{times_held-append}
-use Rattle.nvme_ctrl.proofs.Served.{IsServed, through-served}
+use Rattle.nvme_ctrl_content.proofs.OwnStatus.{waiting_is_unaborted}
+use Rattle.nvme_ctrl_content.proofs.Readying.{over_none}
+use Rattle.nvme_ctrl_content.proofs.ReadyHand.{times_held-append}
+use Rattle.nvme_ctrl_log.proofs.Served.{IsServed, through-served}
 use Rattle.nvme_ctrl.proofs.SlotItems.{All-both}
-use Rattle.nvme_ctrl.proofs.Turns.{filled-is}
-use Rattle.nvme_ctrl.proofs.Windows.{window-waits, served-or_window}
-use Rattle.nvme_ctrl.proofs.PendingDeletions.{held-none, some_deletes}
+use Rattle.nvme_slots.proofs.Turns.{filled-is}
+use Rattle.nvme_ctrl_content.proofs.Windows.{window-waits, served-or_window}
+use Rattle.nvme_ctrl_content.proofs.DeletingRegions.{held-none}
+use Rattle.nvme_ctrl.proofs.PendingDeletions.{some_deletes}
 
 -- a test that none passes counts none
 none_of : {X : Type 0} (test : X → Bool) (xs : List X) → All (λ (z : X). test z ≡ false) xs → sum_by (λ (z : X). one_if (test z)) xs ≡ 0

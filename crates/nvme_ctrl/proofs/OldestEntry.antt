@@ -10,22 +10,22 @@ use Rattle.nvme_arbiter.specs.declared.pick.Seen.{Seen}
 use Rattle.nvme_log.specs.Histories.{admin_entry, arbitration_of}
 use Rattle.nvme_log.specs.Queues.{Queue, admin_queue, open_sq}
 use Rattle.nvme_log.specs.Rules.{FrontRules, Past}
-use Rattle.nvme_ctrl.specs.Notes.{Notes, logged}
-use Rattle.nvme_ctrl.specs.Steps.{IsNextPick}
-use Rattle.nvme_ctrl.specs.declared.slot.Slot.{Slot}
+use Rattle.nvme_ctrl_log.specs.Notes.{Notes, logged}
+use Rattle.nvme_ctrl_log.specs.Steps.{IsNextPick}
+use Rattle.nvme_slots.specs.declared.slot.Slot.{Slot}
 use Rattle.nvme_ctrl.specs.declared.state.Controller.{Controller}
 use Rattle.nvme_ctrl.specs.inside.Picks.{oldest_entry}
-use Rattle.nvme_ctrl.specs.kept.Content.{Candidate, Content}
+use Rattle.nvme_ctrl_content.specs.Content.{Candidate, Content}
 use Rattle.nvme_ctrl.specs.kept.Kept.{Item, Items, IsWaitingIn, StandsAt, tags_of, candidate_of}
-use Rattle.nvme_ctrl.specs.kept.Pool.{slot_at, IsChain}
+use Rattle.nvme_slots.specs.Pool.{slot_at, IsChain}
 use Rattle.nvme_ctrl.specs.kept.State.{sq_at}
 use Rattle.nvme_ctrl.proofs.AdminCall.{IsSplit, split, length-candidates}
-use Rattle.nvme_ctrl.proofs.Observing.{IsPickable, pickable, seen_is_observed}
-use Rattle.nvme_ctrl.proofs.Oldest.{admin_entry_is}
-use Rattle.nvme_ctrl.proofs.OpenQueues.{admin_is_open}
+use Rattle.nvme_ctrl_content.proofs.Observing.{IsPickable, pickable, seen_is_observed}
+use Rattle.nvme_ctrl_content.proofs.Oldest.{admin_entry_is}
+use Rattle.nvme_ctrl_content.proofs.OpenQueues.{admin_is_open}
 use Rattle.nvme_arbiter.proofs.PickLaws.{whole_is_limited}
 use Rattle.nvme_arbiter.specs.Queues.{seen_of}
-use Rattle.nvme_ctrl.proofs.Pools.{linked-head}
+use Rattle.nvme_slots.proofs.Pools.{linked-head}
 use Rattle.nvme_ctrl.proofs.QueueStates.{none_picked_of}
 
 module _ (rules : FrontRules) (late : Bool) (notes : Notes) (c : Controller) (slots : List Slot) (s : StandsAt rules late notes c slots)

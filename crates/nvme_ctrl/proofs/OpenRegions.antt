@@ -9,10 +9,10 @@ use Rattle.nvme_log.specs.Queues.{Queue, open_sq, open_cq, is_closed_region, qid
 use Rattle.nvme_log.specs.Places.{fetched, places, fate_of, is_waiting, is_served}
 use Rattle.nvme_log.specs.Completions.{is_posted}
 use Rattle.nvme_log.proofs.Members.{IsIn, filter-in, in-upto}
-use Rattle.nvme_ctrl.specs.Notes.{Notes, logged}
-use Rattle.nvme_ctrl.specs.declared.slot.Slot.{Slot}
+use Rattle.nvme_ctrl_log.specs.Notes.{Notes, logged}
+use Rattle.nvme_slots.specs.declared.slot.Slot.{Slot}
 use Rattle.nvme_ctrl.specs.declared.state.Controller.{Controller}
-use Rattle.nvme_ctrl.specs.kept.Content.{Attachment}
+use Rattle.nvme_ctrl_content.specs.Content.{Attachment}
 use Rattle.nvme_ctrl.specs.kept.Kept.{StandsAt}
 use Rattle.nvme_ctrl.specs.kept.State.{sq_at}
 

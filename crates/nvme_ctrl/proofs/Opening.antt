@@ -17,19 +17,19 @@ use Rattle.nvme_entry.specs.declared.completion.Cqe.{Cqe}
 use Rattle.nvme_log.specs.Rules.{FrontRules}
 use Rattle.nvme_log.specs.Places.{fetched}
 use Rattle.nvme_log.specs.Completions.{posted_to, phase_after}
-use Rattle.nvme_ctrl.specs.Notes.{Notes, logged}
-use Rattle.nvme_ctrl.specs.Doorbells.{submitted, consumed}
-use Rattle.nvme_ctrl.specs.Rings.{HasCounts, first_ring}
-use Rattle.nvme_ctrl.specs.Tags.{taken}
-use Rattle.nvme_ctrl.specs.declared.slot.Slot.{Slot}
+use Rattle.nvme_ctrl_log.specs.Notes.{Notes, logged}
+use Rattle.nvme_ctrl_log.specs.Doorbells.{submitted, consumed}
+use Rattle.nvme_slots.specs.Rings.{HasCounts, first_ring}
+use Rattle.nvme_ctrl_log.specs.Tags.{taken}
+use Rattle.nvme_slots.specs.declared.slot.Slot.{Slot}
 use Rattle.nvme_ctrl.specs.declared.state.SqState.{SqState}
 use Rattle.nvme_ctrl.specs.declared.state.CqState.{CqState}
 use Rattle.nvme_ctrl.specs.declared.state.Controller.{Controller}
-use Rattle.nvme_ctrl.specs.kept.Content.{Attachment, SqContent, Content, put_life, put_held, put_class, with_sq}
+use Rattle.nvme_ctrl_content.specs.Content.{Attachment, SqContent, Content, put_life, put_held, put_class, with_sq}
 use Rattle.nvme_ctrl.specs.kept.Kept.{Item, ReadyItem, DeleteItem, Items, IsWaitingIn, IsOutIn, IsReadyIn, HasEntry, IsSqOf, HasNumbers, HasItems, HasDeletions, HoldsDoorbells, tags_of, places_of, ready_tags, candidate_of, picked_region, untaken, delete_of}
 use Rattle.nvme_ctrl.specs.inside.Loose.{Keeps}
-use Rattle.nvme_ctrl.specs.inside.Carrying.{IsOpenable, IsCqOpenable, IsUnattached, opening, opening_cq, closing_cq}
-use Rattle.nvme_ctrl.specs.kept.Pool.{IsChain}
+use Rattle.nvme_ctrl_content.specs.Carrying.{IsOpenable, IsCqOpenable, IsUnattached, opening, opening_cq, closing_cq}
+use Rattle.nvme_slots.specs.Pool.{IsChain}
 use Rattle.nvme_ctrl.specs.kept.State.{no_chain, no_sq_state, no_cq_state, sq_at, cq_at}
 use Rattle.nvme_ctrl.proofs.CarriedOut.{none_picked_of}
 use Rattle.nvme_ctrl.proofs.Lives.{put_cq-states, ids_opened, ids_closed}

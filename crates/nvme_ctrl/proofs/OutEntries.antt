@@ -7,16 +7,16 @@ use Rattle.nvme_entry.specs.declared.submission.Sqe.{Sqe}
 use Rattle.nvme_log.specs.Rules.{FrontRules}
 use Rattle.nvme_log.specs.Places.{entry_at}
 use Rattle.nvme_log.specs.declared.place.Place.{Place}
-use Rattle.nvme_ctrl.specs.Notes.{Notes, logged}
-use Rattle.nvme_ctrl.specs.Tags.{holder, is_out, cookie_of}
-use Rattle.nvme_ctrl.specs.declared.slot.Slot.{Slot}
+use Rattle.nvme_ctrl_log.specs.Notes.{Notes, logged}
+use Rattle.nvme_ctrl_log.specs.Tags.{holder, is_out, cookie_of}
+use Rattle.nvme_slots.specs.declared.slot.Slot.{Slot}
 use Rattle.nvme_ctrl.specs.declared.state.Controller.{Controller}
 use Rattle.std.specs.List.{All}
 use Rattle.nvme_ctrl.specs.kept.Kept.{Item, HasEntry, HasCookie, IsAmongOuts, IsOutIn, StandsAt, untaken}
-use Rattle.nvme_ctrl.specs.kept.Pool.{slot_at}
+use Rattle.nvme_slots.specs.Pool.{slot_at}
 use Rattle.nvme_ctrl.proofs.AnswerCall.{other_is_not_out}
 use Rattle.nvme_ctrl.proofs.SlotItems.{All-parts}
-use Rattle.nvme_ctrl.proofs.ReadyHand.{All-taken}
+use Rattle.nvme_ctrl_content.proofs.ReadyHand.{All-taken}
 
 -- a tag that is out isn't one that isn't
 never_both : (b : Bool) → b ≡ true → b ≡ false → ⊥

@@ -13,17 +13,17 @@ use Rattle.nvme_log.specs.Completions.{is_posted, outstanding}
 use Rattle.nvme_log.specs.declared.place.Place.{Place}
 use Rattle.nvme_log.specs.Answers.{Answer}
 use Rattle.nvme_log.proofs.Posts.{posts_of-some}
-use Rattle.nvme_ctrl.specs.Notes.{Notes, logged}
-use Rattle.nvme_ctrl.specs.Tags.{handed, taken, holder, answer_of, is_out, is_unanswered}
-use Rattle.nvme_ctrl.specs.declared.slot.Slot.{Slot}
+use Rattle.nvme_ctrl_log.specs.Notes.{Notes, logged}
+use Rattle.nvme_ctrl_log.specs.Tags.{handed, taken, holder, answer_of, is_out, is_unanswered}
+use Rattle.nvme_slots.specs.declared.slot.Slot.{Slot}
 use Rattle.nvme_ctrl.specs.declared.state.Controller.{Controller}
-use Rattle.nvme_ctrl.specs.kept.Standing.{IsInHand, held_upto, hand_of, times_held}
+use Rattle.nvme_ctrl_content.specs.Standing.{IsInHand, held_upto, hand_of, times_held}
 use Rattle.nvme_ctrl.specs.kept.Kept.{Item, IsAmongOuts, StandsAt, places_of, untaken}
-use Rattle.nvme_ctrl.specs.kept.Pool.{AreApart}
+use Rattle.nvme_slots.specs.Pool.{AreApart}
 use Rattle.nvme_ctrl.proofs.AnswerCall.{among_others}
 use Rattle.nvme_ctrl.proofs.OutEntries.{is_two}
-use Rattle.nvme_ctrl.proofs.OwnStatus.{All-unmap, same_place}
-use Rattle.nvme_ctrl.proofs.ReadyHand.{All-taken, times_held-append}
+use Rattle.nvme_ctrl_content.proofs.OwnStatus.{All-unmap, same_place}
+use Rattle.nvme_ctrl_content.proofs.ReadyHand.{All-taken, times_held-append}
 use Rattle.nvme_ctrl.proofs.SlotItems.{All-both, All-parts}
 
 -- ---- one place

@@ -1,10 +1,10 @@
 -- Which commands are the device's, and how deep queues are, is nothing that a log tells.
 use Rattle.std.proofs.Common.{ℕ, Bool, List}
 use Rattle.nvme_log.specs.Rules.{FrontRules}
-use Rattle.nvme_ctrl.specs.Notes.{Notes}
+use Rattle.nvme_ctrl_log.specs.Notes.{Notes}
 use Rattle.nvme_ctrl.specs.Standing.{IsController}
 use Rattle.nvme_ctrl.specs.declared.own.OwnCommands.{OwnCommands}
-use Rattle.nvme_ctrl.specs.declared.slot.Slot.{Slot}
+use Rattle.nvme_slots.specs.declared.slot.Slot.{Slot}
 use Rattle.nvme_ctrl.specs.declared.state.Controller.{Controller}
 use Rattle.nvme_ctrl.specs.kept.Kept.{StandsAt}
 use Rattle.nvme_ctrl.proofs.QueueStates.{sq_with, sq_of_with}

@@ -1,6 +1,5 @@
 -- A pick of the admin queue whose command is passed on to the device: the controller stands at its log afterwards.
-use Rattle.std.proofs.Common.{◌||◌, ◌&&◌, ◌==◌, eqb-true}
-use Rattle.std.proofs.Common.{◌≡◌, ℕ, Bool, true, false, List, [], ◌∷◌, ◌++◌, map, take, Option, Some, None, inr, refl, sym, ap, ◌∙◌, subst, not}
+use Rattle.std.proofs.Common.{◌||◌, ◌&&◌, ◌==◌, eqb-true, ◌≡◌, ℕ, Bool, true, false, List, [], ◌∷◌, ◌++◌, map, take, Option, Some, None, inr, refl, sym, ap, ◌∙◌, subst, not}
 use Rattle.std.specs.Prelude.{slice_get, IsTrue}
 use Rattle.std.specs.List.{All}
 use Rattle.std.proofs.lemmas.Bool.{eq-eqb, or_left}
@@ -20,40 +19,41 @@ use Rattle.nvme_log.specs.declared.place.Place.{Place}
 use Rattle.nvme_log.specs.Rules.{FrontRules, Past}
 use Rattle.nvme_log.specs.Queues.{Queue, admin_queue, open_sq}
 use Rattle.nvme_ctrl.specs.inside.Loose.{Keeps}
-use Rattle.nvme_ctrl.specs.inside.Steps.{CanPick}
+use Rattle.nvme_ctrl_content.specs.Steps.{CanPick}
 use Rattle.nvme_ctrl.proofs.Standable.{keeps_standing}
 use Rattle.nvme_log.specs.Places.{waiting, entry_at, fate_of, is_waiting, is_aborted}
 use Rattle.nvme_log.specs.Dispatches.{place_at, dispatched_by}
 use Rattle.nvme_log.proofs.Turns.{stays}
-use Rattle.nvme_ctrl.specs.Notes.{Notes, Passed, logged}
-use Rattle.nvme_ctrl.specs.Observation.{observed_of}
-use Rattle.nvme_ctrl.specs.Own.{may_be_own}
-use Rattle.nvme_ctrl.specs.Tags.{is_passed, handed, taken, answer_of}
-use Rattle.nvme_ctrl.specs.Account.{IsPassed}
-use Rattle.nvme_ctrl.specs.Steps.{HasPassed, picked_notes}
-use Rattle.nvme_ctrl.specs.declared.slot.Slot.{Slot}
+use Rattle.nvme_ctrl_log.specs.Notes.{Notes, Passed, logged}
+use Rattle.nvme_ctrl_log.specs.Observation.{observed_of}
+use Rattle.nvme_ctrl_log.specs.Own.{may_be_own}
+use Rattle.nvme_ctrl_log.specs.Tags.{is_passed, handed, taken, answer_of}
+use Rattle.nvme_ctrl_log.specs.Account.{IsPassed}
+use Rattle.nvme_ctrl.specs.Steps.{HasPassed}
+use Rattle.nvme_ctrl_log.specs.Steps.{picked_notes}
+use Rattle.nvme_slots.specs.declared.slot.Slot.{Slot}
 use Rattle.nvme_ctrl.specs.declared.state.Controller.{Controller}
-use Rattle.nvme_ctrl.specs.kept.Content.{Candidate, Content, Ready}
-use Rattle.nvme_ctrl.specs.kept.Standing.{Holds, IsInHand, hand_of}
+use Rattle.nvme_ctrl_content.specs.Content.{Candidate, Content, Ready}
+use Rattle.nvme_ctrl_content.specs.Standing.{Holds, IsInHand, hand_of}
 use Rattle.nvme_ctrl.specs.kept.Kept.{Item, Items, IsWaitingIn, IsUnanswered, IsDevices, HasEntry, HoldsDoorbells, HoldsPassed, HoldsTags, StandsAt, candidate_of, places_of, tags_of, untaken, IsReadyOf, ReadyItem, is_passed_at, DeleteItem, deletion_in}
 use Rattle.nvme_ctrl.specs.inside.Picks.{oldest_entry}
 use Rattle.nvme_ctrl.proofs.AdminCall.{queue_is, one, can_admin, oldest, linked, window_is, first, unanswered_all}
-use Rattle.nvme_ctrl.proofs.AfterSteps.{after_io}
+use Rattle.nvme_ctrl_content.proofs.AfterSteps.{after_io}
 use Rattle.nvme_ctrl.proofs.CarriedOut.{was_picked}
 use Rattle.nvme_ctrl.proofs.Cookies.{cookies_later}
-use Rattle.nvme_ctrl.proofs.HandSteps.{hand_done}
-use Rattle.nvme_ctrl.proofs.NextEvents.{next-io}
-use Rattle.nvme_ctrl.proofs.OwnStatus.{candidates_wait, oldest_waits, All-unmap, IsAnswerable, answerable_is_done, ready_is_answerable}
+use Rattle.nvme_ctrl_content.proofs.HandSteps.{hand_done}
+use Rattle.nvme_ctrl_content.proofs.NextEvents.{next-io}
+use Rattle.nvme_ctrl_content.proofs.OwnStatus.{candidates_wait, oldest_waits, All-unmap, IsAnswerable, answerable_is_done, ready_is_answerable}
 use Rattle.nvme_ctrl.proofs.PickCall.{after_pick_io, due, can, attached, none_untaken, picked_items, pick-numbers, pick-items, pick-doorbells, saw, admin_next}
 use Rattle.nvme_ctrl.proofs.SlotItems.{All-parts, All-both}
-use Rattle.nvme_ctrl.proofs.Standing.{holds-io}
-use Rattle.nvme_ctrl.proofs.StepKeeps.{IsPassing}
-use Rattle.nvme_ctrl.proofs.Oldest.{admin_entry_is}
-use Rattle.nvme_ctrl.proofs.Pools.{linked-head}
-use Rattle.nvme_ctrl.specs.kept.Pool.{slot_at}
+use Rattle.nvme_ctrl_content.proofs.Standing.{holds-io}
+use Rattle.nvme_ctrl_log.proofs.HandedPicks.{IsPassing}
+use Rattle.nvme_ctrl_content.proofs.Oldest.{admin_entry_is}
+use Rattle.nvme_slots.proofs.Pools.{linked-head}
+use Rattle.nvme_slots.specs.Pool.{slot_at}
 use Rattle.nvme_ctrl.specs.kept.State.{sq_at}
 use Rattle.nvme_ctrl.proofs.PendingDeletions.{deletion_item}
-use Rattle.nvme_ctrl.proofs.DeletedQueues.{deletion_done}
+use Rattle.nvme_ctrl_content.proofs.DeletedQueues.{deletion_done}
 
 module _ (rules : FrontRules) (late : Bool) (notes : Notes) (c : Controller) (slots : List Slot) (s : StandsAt rules late notes c slots)
     (none : c.picked ≡ 0) (pick : Pick) (board : BoardFields)

@@ -7,15 +7,15 @@ use Rattle.std.proofs.lemmas.List.Elements.{All-weaker, All-append}
 use Rattle.nvme_log.specs.Places.{fate_of, is_waiting}
 use Rattle.nvme_log.specs.declared.place.Place.{Place}
 use Rattle.nvme_log.proofs.Members.{in-all, in-append_left}
-use Rattle.nvme_ctrl.specs.Notes.{Notes, logged}
-use Rattle.nvme_ctrl.specs.Tags.{is_passed, is_of_device, handed, taken, holder}
+use Rattle.nvme_ctrl_log.specs.Notes.{Notes, logged}
+use Rattle.nvme_ctrl_log.specs.Tags.{is_passed, is_of_device, handed, taken, holder}
 use Rattle.nvme_ctrl.specs.declared.state.Controller.{Controller}
-use Rattle.nvme_ctrl.specs.declared.slot.Slot.{Slot}
-use Rattle.nvme_ctrl.specs.kept.Content.{Content}
+use Rattle.nvme_slots.specs.declared.slot.Slot.{Slot}
+use Rattle.nvme_ctrl_content.specs.Content.{Content}
 use Rattle.nvme_ctrl.specs.kept.Kept.{Item, DeleteItem, Items, HoldsTags, IsDevices, IsReadyOf, HoldsPassed, is_passed_at, untaken, places_of}
-use Rattle.nvme_ctrl.proofs.OwnStatus.{All-unmap}
+use Rattle.nvme_ctrl_content.proofs.OwnStatus.{All-unmap}
 use Rattle.nvme_ctrl.proofs.SlotItems.{All-parts}
-use Rattle.nvme_ctrl.proofs.TagLaws.{holder-taken}
+use Rattle.nvme_ctrl_log.proofs.TagLaws.{holder-taken}
 
 -- the same notes, completions and deletions
 pub passed_left : (notes : Notes) (f g : Items) → ((x : ℕ) → g.readies x ≡ f.readies x) → g.deletes ≡ f.deletes → HoldsPassed notes f → HoldsPassed notes g

@@ -1,48 +1,42 @@
 -- The next pick, and a pick of an I/O queue: the controller stands at its log afterwards.
-use Rattle.std.proofs.Common.{◌≢◌, inl}
-use Rattle.std.proofs.lemmas.List.{length-append, length-take-le}
-use Rattle.std.proofs.Common.{◌≡◌, ℕ, ◌+◌, ◌<◌, ◌≤◌, Bool, if◌then◌else◌, List, [], ◌∷◌, ◌++◌, length, map, take, drop, Option, Some, None, refl, sym, ap, ◌∙◌, subst, arith}
-use Rattle.std.specs.Prelude.{min, slice_set, unwrap_or, IsTrue, IsSomeAnd}
+use Rattle.std.proofs.Common.{◌≢◌, inl, ◌≡◌, ℕ, ◌+◌, ◌<◌, ◌≤◌, Bool, if◌then◌else◌, List, [], ◌∷◌, ◌++◌, length, map, take, drop, Option, Some, None, refl, sym, ap, ◌∙◌, subst, arith}
+use Rattle.std.proofs.lemmas.List.{length-append, length-take-le, append-nil, drop-map, length-map, length-set, map-append, take-map}
+use Rattle.std.specs.Prelude.{min, slice_set, unwrap_or, IsTrue, IsSomeAnd, not, ◌||◌}
 use Rattle.std.specs.List.{All}
 use Rattle.std.proofs.lemmas.Bool.{eq-eqb, ne_eqb}
-use Rattle.std.proofs.lemmas.List.{append-nil, drop-map, length-map, length-set, map-append, take-map}
-use Rattle.std.proofs.lemmas.List.Elements.{All-append, All-head, All-same, All-tail, All-take}
+use Rattle.std.proofs.lemmas.List.Elements.{All-append, All-head, All-same, All-tail, All-take, All-map, All-weaker}
 use Rattle.nvme_arbiter.specs.declared.board_fields.BoardFields.{BoardFields}
 use Rattle.nvme_log.specs.Queues.{Queue}
 use Rattle.nvme_log.specs.declared.event.Event.TheVariants as event
 use Rattle.nvme_log.specs.declared.place.Place.{Place}
 use Rattle.nvme_log.specs.Places.{fetched, entry_at}
 use Rattle.nvme_log.specs.Dispatches.{place_at, dispatched_by}
-use Rattle.nvme_ctrl.specs.Notes.{Notes, logged}
-use Rattle.nvme_ctrl.specs.Doorbells.{submitted}
-use Rattle.nvme_ctrl.specs.Rings.{HasCounts}
-use Rattle.nvme_ctrl.specs.Tags.{taken}
-use Rattle.nvme_ctrl.specs.Steps.{IsNextPick, IsBusy, picked_notes}
+use Rattle.nvme_ctrl_log.specs.Notes.{Notes, logged}
+use Rattle.nvme_ctrl_log.specs.Doorbells.{submitted}
+use Rattle.nvme_slots.specs.Rings.{HasCounts}
+use Rattle.nvme_ctrl_log.specs.Tags.{taken, is_passed, handed}
+use Rattle.nvme_ctrl_log.specs.Steps.{IsNextPick, IsBusy, picked_notes}
 use Rattle.nvme_ctrl.specs.declared.state.SqState.{SqState}
-use Rattle.nvme_ctrl.specs.kept.Content.{Candidate, Content}
-use Rattle.nvme_ctrl.specs.kept.Standing.{Holds, IsAttached}
-use Rattle.nvme_ctrl.specs.inside.Steps.{CanPick, picked_sq}
-use Rattle.nvme_ctrl.specs.kept.Pool.{IsChain}
+use Rattle.nvme_ctrl_content.specs.Content.{Candidate, Content}
+use Rattle.nvme_ctrl_content.specs.Standing.{Holds, IsAttached}
+use Rattle.nvme_ctrl_content.specs.Steps.{CanPick, picked_sq}
+use Rattle.nvme_slots.specs.Pool.{IsChain}
 use Rattle.nvme_ctrl.specs.kept.State.{sq_at}
-use Rattle.nvme_ctrl.specs.kept.Kept.{Item, Items, IsWaitingIn, HasNumbers, HasItems, HoldsDoorbells, HoldsTags, HasEntry, StandsAt, tags_of, places_of, candidate_of, picked_region, picked_of, untaken}
+use Rattle.nvme_ctrl.specs.kept.Kept.{Item, Items, IsWaitingIn, HasNumbers, HasItems, HoldsDoorbells, HoldsTags, HasEntry, StandsAt, tags_of, places_of, candidate_of, picked_region, picked_of, untaken, IsDevices, HoldsPassed}
 use Rattle.nvme_arbiter.proofs.Stands.{lawful as lawful_where_stands}
 use Rattle.nvme_log.proofs.Turns.{stays}
-use Rattle.nvme_ctrl.proofs.OpenQueues.{io_region}
-use Rattle.std.proofs.lemmas.List.Elements.{All-map, All-weaker}
-use Rattle.nvme_ctrl.specs.Tags.{is_passed, handed}
-use Rattle.std.specs.Prelude.{not, ◌||◌}
-use Rattle.nvme_ctrl.specs.kept.Kept.{IsDevices, HoldsPassed}
-use Rattle.nvme_ctrl.proofs.AfterSteps.{after_io, place_of}
+use Rattle.nvme_ctrl_content.proofs.OpenQueues.{io_region}
+use Rattle.nvme_ctrl_content.proofs.AfterSteps.{after_io, place_of}
 use Rattle.nvme_ctrl.proofs.Cookies.{cookies_later}
 use Rattle.nvme_ctrl.proofs.PoolBounds.{unposted_held, window_held}
-use Rattle.nvme_ctrl.proofs.NextEvents.{next-io}
+use Rattle.nvme_ctrl_content.proofs.NextEvents.{next-io}
 use Rattle.nvme_log.proofs.AdminPicks.{admin_is_whole}
-use Rattle.nvme_ctrl.proofs.Observing.{IsPickable, pickable, seen_is_observed}
-use Rattle.nvme_ctrl.proofs.OwnStatus.{All-unmap}
+use Rattle.nvme_ctrl_content.proofs.Observing.{IsPickable, pickable, seen_is_observed}
+use Rattle.nvme_ctrl_content.proofs.OwnStatus.{All-unmap}
 use Rattle.nvme_ctrl.proofs.Lives.{one_life, put_sq-states, put_sq-lives}
 use Rattle.nvme_ctrl.proofs.QueueStates.{IsSqWith, sq_with, sq_of_with, put_sq-regions, put_sq-none, kept_there, none_picked_of}
 use Rattle.nvme_ctrl.proofs.SlotItems.{All-both, All-parts, at_put}
-use Rattle.nvme_ctrl.proofs.Standing.{holds-io}
+use Rattle.nvme_ctrl_content.proofs.Standing.{holds-io}
 use Rattle.nvme_arbiter.specs.Settings.{ArbitrationFields}
 use Rattle.nvme_arbiter.specs.History.{History, Picked}
 use Rattle.nvme_arbiter.specs.Lawful.{lawful_pick, IsLimitedPick, IsCutOf}
@@ -54,9 +48,9 @@ use Rattle.nvme_arbiter.specs.declared.settings.Mechanism.{Mechanism}
 use Rattle.nvme_arbiter.specs.declared.pick.Pick.{Pick}
 use Rattle.nvme_arbiter.specs.declared.pick.Seen.{Seen}
 use Rattle.nvme_log.specs.Rules.{FrontRules, Past}
-use Rattle.nvme_ctrl.specs.Observation.{observed_of}
+use Rattle.nvme_ctrl_log.specs.Observation.{observed_of}
 use Rattle.nvme_log.specs.Histories.{arbitration_of}
-use Rattle.nvme_ctrl.specs.declared.slot.Slot.{Slot}
+use Rattle.nvme_slots.specs.declared.slot.Slot.{Slot}
 use Rattle.nvme_ctrl.specs.declared.state.Controller.{Controller}
 use Rattle.nvme_ctrl.proofs.QueueSets.{rung-kept}
 

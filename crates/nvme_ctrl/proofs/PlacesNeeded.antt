@@ -10,12 +10,12 @@ use Rattle.nvme_log.specs.Limits.{max_outstanding}
 use Rattle.nvme_log.specs.Places.{entry_at, waiting}
 use Rattle.nvme_log.specs.Queues.{Queue, admin_queue, open_sq}
 use Rattle.nvme_log.specs.Rules.{FrontRules}
-use Rattle.nvme_ctrl.specs.Notes.{Notes, logged}
-use Rattle.nvme_ctrl.specs.Waits.{WaitsAt}
-use Rattle.nvme_ctrl.specs.declared.slot.Slot.{Slot}
+use Rattle.nvme_ctrl_log.specs.Notes.{Notes, logged}
+use Rattle.nvme_ctrl_log.specs.Waits.{WaitsAt}
+use Rattle.nvme_slots.specs.declared.slot.Slot.{Slot}
 use Rattle.nvme_ctrl.specs.declared.state.Controller.{Controller}
 use Rattle.nvme_ctrl.specs.kept.Kept.{StandsAt}
-use Rattle.nvme_ctrl.proofs.OpenQueues.{admin_is_open}
+use Rattle.nvme_ctrl_content.proofs.OpenQueues.{admin_is_open}
 
 -- a number above the limit is so where it is capped
 capped : (n : ℕ) → nat_lt max_outstanding (min n 65535) ≡ nat_lt max_outstanding n

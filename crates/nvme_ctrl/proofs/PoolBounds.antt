@@ -11,18 +11,19 @@ use Rattle.nvme_log.specs.Places.{fetched, waiting, places, picked, is_aborted, 
 use Rattle.nvme_log.specs.Rules.{FrontRules, Past, upto, sq_regions_of}
 use Rattle.nvme_log.proofs.Counting.{counts_same, counts_less, counts_change, fate_by}
 use Rattle.nvme_log.proofs.Posts.{posts_of-some}
-use Rattle.nvme_ctrl.specs.Notes.{Notes, logged}
-use Rattle.nvme_ctrl.specs.Tags.{all_fetches, all_posts}
-use Rattle.nvme_ctrl.specs.declared.slot.Slot.{Slot}
+use Rattle.nvme_ctrl_log.specs.Notes.{Notes, logged}
+use Rattle.nvme_ctrl_log.specs.Tags.{all_fetches, all_posts}
+use Rattle.nvme_slots.specs.declared.slot.Slot.{Slot}
 use Rattle.nvme_ctrl.specs.declared.state.Controller.{Controller}
-use Rattle.nvme_ctrl.specs.kept.Content.{Candidate, Content}
+use Rattle.nvme_ctrl_content.specs.Content.{Candidate, Content}
 use Rattle.nvme_ctrl.specs.kept.Kept.{StandsAt}
-use Rattle.nvme_ctrl.specs.kept.Standing.{Holds, hand_of}
-use Rattle.nvme_ctrl.proofs.AbortRequests.{unrequested}
-use Rattle.nvme_ctrl.proofs.FewUnposted.{part_of}
+use Rattle.nvme_ctrl_content.specs.Standing.{Holds, hand_of}
+use Rattle.nvme_ctrl_log.proofs.AbortRequests.{unrequested}
+use Rattle.nvme_ctrl_content.proofs.FewUnposted.{part_of}
 use Rattle.nvme_ctrl.proofs.HeldSlots.{fetches-by, fetched_none}
-use Rattle.nvme_ctrl.proofs.PostedPlaces.{posted_places, outstanding_of, posted_served, unposted_by}
-use Rattle.nvme_ctrl.proofs.Sums.{sum_less, sum_add, sum_more, at_most}
+use Rattle.nvme_ctrl_content.proofs.PostedPlaces.{posted_places, posted_served, unposted_by}
+use Rattle.nvme_ctrl_log.proofs.OutstandingPlaces.{outstanding_of}
+use Rattle.nvme_ctrl_log.proofs.Sums.{sum_less, sum_add, sum_more, at_most}
 
 -- ---- posts by region
 -- where each place has at most one completion, and each posted place is one of these, no more completions were posted than of these places are posted

@@ -9,22 +9,22 @@ use Rattle.nvme_log.specs.declared.event.Event.{Event}
 use Rattle.nvme_log.specs.Rules.{FrontRules, Past}
 use Rattle.nvme_log.specs.Places.{fetched}
 use Rattle.nvme_log.specs.Completions.{posted_to, phase_after}
-use Rattle.nvme_ctrl.specs.Notes.{Notes, Logged, logged}
-use Rattle.nvme_ctrl.specs.Doorbells.{gap}
-use Rattle.nvme_ctrl.specs.Rings.{HasCounts}
-use Rattle.nvme_ctrl.specs.declared.slot.Slot.{Slot}
-use Rattle.nvme_ctrl.specs.declared.chain.Chain.{Chain}
+use Rattle.nvme_ctrl_log.specs.Notes.{Notes, Logged, logged}
+use Rattle.nvme_ctrl_log.specs.Doorbells.{gap}
+use Rattle.nvme_slots.specs.Rings.{HasCounts}
+use Rattle.nvme_slots.specs.declared.slot.Slot.{Slot}
+use Rattle.nvme_slots.specs.declared.chain.Chain.{Chain}
 use Rattle.nvme_ctrl.specs.declared.state.SqState.{SqState}
 use Rattle.nvme_ctrl.specs.declared.state.CqState.{CqState}
 use Rattle.nvme_ctrl.specs.declared.state.Controller.{Controller}
-use Rattle.nvme_ctrl.specs.kept.Content.{Attachment, Content}
-use Rattle.nvme_ctrl.specs.kept.Standing.{IsReady, Holds}
-use Rattle.nvme_ctrl.specs.kept.Pool.{slot_at, put_item, IsNew, IsChain, SameItems, SameLinks}
+use Rattle.nvme_ctrl_content.specs.Content.{Attachment, Content}
+use Rattle.nvme_ctrl_content.specs.Standing.{IsReady, Holds}
+use Rattle.nvme_slots.specs.Pool.{slot_at, put_item, IsNew, IsChain, SameItems, SameLinks}
 use Rattle.nvme_ctrl.specs.kept.State.{sq_at, cq_at}
 use Rattle.nvme_ctrl.specs.kept.Kept.{ReadyItem, Items, readies_of, IsReadyIn, StandsAt}
 use Rattle.nvme_ctrl.specs.Posts.{completion_of}
-use Rattle.nvme_ctrl.proofs.AfterSteps.{CanPost, post_event, after_post}
-use Rattle.nvme_ctrl.proofs.Standing.{holds-post}
+use Rattle.nvme_ctrl_content.proofs.AfterSteps.{CanPost, post_event, after_post}
+use Rattle.nvme_ctrl_content.proofs.Standing.{holds-post}
 use Rattle.nvme_ctrl.specs.kept.QueueSets.{with_queue}
 
 -- the pool where a slot's command is gone

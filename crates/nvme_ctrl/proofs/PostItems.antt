@@ -5,17 +5,17 @@ use Rattle.std.proofs.lemmas.Bool.{cases_eq, eq-eqb, ne_eqb, eqb-true}
 use Rattle.std.proofs.lemmas.Option.{same_Some}
 use Rattle.std.proofs.lemmas.List.Elements.{All-head, All-tail, All-same, All-map, All-weaker, All-push}
 use Rattle.nvme_log.specs.Queues.{cq_region_of}
-use Rattle.nvme_ctrl.specs.declared.slot.Slot.{Slot}
-use Rattle.nvme_ctrl.specs.declared.chain.Chain.{Chain}
-use Rattle.nvme_ctrl.specs.kept.Standing.{IsReady}
-use Rattle.nvme_ctrl.specs.kept.Pool.{slot_at, item_at, IsNew, AreApart, IsChain}
+use Rattle.nvme_slots.specs.declared.slot.Slot.{Slot}
+use Rattle.nvme_slots.specs.declared.chain.Chain.{Chain}
+use Rattle.nvme_ctrl_content.specs.Standing.{IsReady}
+use Rattle.nvme_slots.specs.Pool.{slot_at, item_at, IsNew, AreApart, IsChain}
 use Rattle.nvme_ctrl.specs.kept.State.{sq_at, cq_at}
 use Rattle.nvme_ctrl.specs.kept.Kept.{Item, ReadyItem, tags_of, ready_tags, readies_of, ready_state, IsWaitingIn, IsOutIn, IsReadyIn, IsAmongOuts, is_free, candidate_of, picked_of, HasItems}
-use Rattle.nvme_ctrl.proofs.OwnStatus.{All-unmap}
+use Rattle.nvme_ctrl_content.proofs.OwnStatus.{All-unmap}
 use Rattle.nvme_ctrl.proofs.Lives.{one_life, put_cq-lives}
 use Rattle.nvme_ctrl.proofs.PostNumbers.{sq_left}
 use Rattle.nvme_ctrl.specs.declared.state.Controller.{Controller}
-use Rattle.nvme_ctrl.proofs.Pools.{length-put_item, item_at-put_item_same, item_at-put_item_other, IsNew-by, AreApart-push, chain-put_item, chain-other, length-apart}
+use Rattle.nvme_slots.proofs.Pools.{length-put_item, item_at-put_item_same, item_at-put_item_other, IsNew-by, AreApart-push, chain-put_item, chain-other, length-apart}
 use Rattle.nvme_ctrl.proofs.SlotItems.{All-both, at_put, ready_state-range, waiting_stays, out_stays, ready_stays}
 use Rattle.nvme_ctrl.proofs.PendingDeletions.{deletions_stay}
 use Rattle.nvme_ctrl.proofs.PostCall.{freed, PostCall, content, past_of, command, region, content_after, controller_after, put_readies, items_after, ready_in, life_is, is_ready, cqs_have}

@@ -1,7 +1,7 @@
 -- After a post the tags of a controller are those of its log, and its notes are an account.
 use Rattle.nvme_log.proofs.Turns.{admin-unaborted}
 use Rattle.nvme_log.specs.Account.{PostsOwnBy}
-use Rattle.nvme_ctrl.proofs.Noted.{each-event}
+use Rattle.nvme_ctrl_log.proofs.Noted.{each-event}
 use Rattle.std.proofs.Common.{◌≡◌, ◌≢◌, ℕ, ◌+◌, ◌<◌, ◌≤◌, ◌%◌, ◌==◌, ◌&&◌, ◌⊎◌, not, Bool, true, false, if◌then◌else◌, List, [], ◌∷◌, ◌++◌, length, Option, Some, None, is_some, refl, get_or, sym, ap, ◌∙◌, subst, arith, length-append, inl, inr, eqb-true, MatchBool}
 use Rattle.std.specs.Prelude.{All, slice_set}
 use Rattle.std.proofs.lemmas.Bool.{cases_eq, eq-eqb, ne_eqb, or_left, or_right, and_parts}
@@ -16,32 +16,32 @@ use Rattle.nvme_log.specs.Places.{is_aborted, one_if, is_waiting, fate_of}
 use Rattle.nvme_log.specs.Completions.{posted_to, own_status_by, own_dw0_by, IsOwnBy, is_posted}
 use Rattle.nvme_log.specs.Dispatches.{place_at}
 use Rattle.nvme_log.specs.Answers.{Answer, by_answers}
-use Rattle.nvme_ctrl.specs.Notes.{Notes}
-use Rattle.nvme_ctrl.specs.StatusFlags.{flags_or}
-use Rattle.nvme_ctrl.specs.Tags.{is_place, holder, answer_of, is_through, answer_or, answers, is_out, all_fetches, all_posts, cookie_of, is_passed, flags_of}
-use Rattle.nvme_ctrl.specs.Account.{IsLawfulEvent, IsAccount, PostsAnswer, PostsOwn}
-use Rattle.nvme_ctrl.specs.declared.slot.Slot.{Slot}
-use Rattle.nvme_ctrl.specs.kept.Content.{Ready}
-use Rattle.nvme_ctrl.specs.kept.Standing.{Holds, answer_in, hand_of, times_held, held_upto}
-use Rattle.nvme_ctrl.specs.kept.Pool.{slot_at, put_item, flags_in, IsChain}
+use Rattle.nvme_ctrl_log.specs.Notes.{Notes}
+use Rattle.nvme_ctrl_log.specs.StatusFlags.{flags_or}
+use Rattle.nvme_ctrl_log.specs.Tags.{is_place, holder, answer_of, is_through, answer_or, answers, is_out, all_fetches, all_posts, cookie_of, is_passed, flags_of}
+use Rattle.nvme_ctrl_log.specs.Account.{IsLawfulEvent, IsAccount, PostsAnswer, PostsOwn}
+use Rattle.nvme_slots.specs.declared.slot.Slot.{Slot}
+use Rattle.nvme_ctrl_content.specs.Content.{Ready}
+use Rattle.nvme_ctrl_content.specs.Standing.{Holds, answer_in, hand_of, times_held, held_upto}
+use Rattle.nvme_slots.specs.Pool.{slot_at, put_item, flags_in, IsChain}
 use Rattle.nvme_ctrl.specs.kept.State.{no_cq_state, cq_at}
-use Rattle.nvme_ctrl.specs.inside.Next.{IsNext}
+use Rattle.nvme_ctrl_log.specs.Next.{IsNext}
 use Rattle.nvme_ctrl.specs.Posts.{completion_of}
 use Rattle.nvme_ctrl.specs.inside.Posting.{counted_post}
 use Rattle.nvme_ctrl.specs.Calls.{HasPosted}
-use Rattle.nvme_ctrl.specs.declared.chain.Chain.{Chain}
+use Rattle.nvme_slots.specs.declared.chain.Chain.{Chain}
 use Rattle.nvme_ctrl.specs.declared.state.CqState.{CqState}
 use Rattle.nvme_ctrl.specs.declared.state.Controller.{Controller}
 use Rattle.nvme_ctrl.specs.kept.Kept.{Item, ReadyItem, places_of, ready_state, ready_tags, readies_of, untaken, IsThrough, HoldsTags, StandsAt, HasReadyCookie, IsReadyOf, HasFlags}
 use Rattle.nvme_ctrl.proofs.Cookies.{SameCookies, same_cookies-but, cookie_left, items_left, readies_left}
-use Rattle.nvme_ctrl.proofs.NextEvents.{next-post, posts-as-ready, oldest_answerable, posts-else}
-use Rattle.nvme_ctrl.proofs.OwnStatus.{All-unmap, IsAnswerable, ready_is_answerable}
-use Rattle.nvme_ctrl.proofs.PostedPlaces.{ready_unanswered}
-use Rattle.nvme_ctrl.proofs.ReadyHand.{times_held-append}
+use Rattle.nvme_ctrl_content.proofs.NextEvents.{next-post, posts-as-ready, oldest_answerable, posts-else}
+use Rattle.nvme_ctrl_content.proofs.OwnStatus.{All-unmap, IsAnswerable, ready_is_answerable}
+use Rattle.nvme_ctrl_content.proofs.PostedPlaces.{ready_unanswered}
+use Rattle.nvme_ctrl_content.proofs.ReadyHand.{times_held-append}
 use Rattle.nvme_ctrl.proofs.PostCall.{freed, HasDone, PostCall, content, past_of, command, region, index, cqe_of, event_of, later, notes_after, content_after, controller_after, items_after, ready_in, oldest_is, is_ready, can_post, holds_after}
 use Rattle.nvme_ctrl.proofs.PostNumbers.{numbers_after, counts_before, has_room, doorbells_after}
 use Rattle.nvme_ctrl.proofs.PostItems.{tag, size_is, other_kept, tag_freed, ready_contents, has_after, tag_cookie}
-use Rattle.nvme_ctrl.proofs.OutTags.{still_not_out-logged}
+use Rattle.nvme_ctrl_log.proofs.OutTags.{still_not_out-logged}
 use Rattle.nvme_ctrl.proofs.SlotItems.{All-both, All-parts, at_put}
 use Rattle.nvme_ctrl.specs.kept.QueueSets.{with_queue}
 

@@ -4,22 +4,22 @@ use Rattle.std.proofs.lemmas.Bool.{eq-eqb, eqb-true, ne_eqb, or_left, or_right}
 use Rattle.std.proofs.lemmas.List.{length-set}
 use Rattle.nvme_log.specs.Places.{fetched, one_if}
 use Rattle.nvme_log.specs.Completions.{posted_to, phase_after}
-use Rattle.nvme_ctrl.specs.Doorbells.{submitted, consumed}
-use Rattle.nvme_ctrl.specs.Rings.{HasCounts}
+use Rattle.nvme_ctrl_log.specs.Doorbells.{submitted, consumed}
+use Rattle.nvme_slots.specs.Rings.{HasCounts}
 use Rattle.nvme_ctrl.specs.declared.state.SqState.{SqState}
-use Rattle.nvme_ctrl.specs.kept.Content.{SqContent, CqContent}
+use Rattle.nvme_ctrl_content.specs.Content.{SqContent, CqContent}
 use Rattle.nvme_ctrl.specs.kept.State.{no_sq_state, no_cq_state, sq_at, cq_at}
 use Rattle.nvme_ctrl.specs.kept.Kept.{ready_state, readies_of, HasNumbers, HoldsDoorbells}
-use Rattle.nvme_ctrl.proofs.AfterSteps.{posted_cq}
+use Rattle.nvme_ctrl_content.proofs.AfterSteps.{posted_cq}
 use Rattle.nvme_ctrl.proofs.Lives.{put_sq-lives, put_cq-lives, put_sq-states, put_cq-states}
 use Rattle.nvme_ctrl.proofs.SlotItems.{at_put}
 use Rattle.nvme_log.specs.declared.event.Event.TheVariants.{OpenCq, ClosedCq}
 use Rattle.nvme_log.specs.Rules.{Past}
 use Rattle.nvme_log.specs.Queues.{open_cq}
-use Rattle.nvme_ctrl.specs.kept.Standing.{is_opened_cq}
-use Rattle.nvme_ctrl.specs.declared.ring.Ring.{Ring}
+use Rattle.nvme_ctrl_log.specs.Regions.{is_opened_cq}
+use Rattle.nvme_slots.specs.declared.ring.Ring.{Ring}
 use Rattle.std.proofs.lemmas.Option.{same_Some}
-use Rattle.nvme_ctrl.proofs.Turns.{filled-is}
+use Rattle.nvme_slots.proofs.Turns.{filled-is}
 use Rattle.nvme_ctrl.proofs.PostCall.{PostCall, content, past_of, command, region, cqe_of, later, notes_after, content_after, sq_after, controller_after, ready_in, life_is, sqs_have, cqs_have}
 use Rattle.nvme_ctrl.proofs.QueueSets.{rung-kept, readied-put, not_false}
 

@@ -1,7 +1,7 @@
 -- The flags of completions: in slots, and in the log.
 use Rattle.std.proofs.Common.{◌≡◌, ◌==◌, Bool, true, false, refl}
-use Rattle.nvme_ctrl.specs.declared.status_flags.StatusFlags.{StatusFlags}
-use Rattle.nvme_ctrl.specs.kept.Pool.{bit}
+use Rattle.nvme_ctrl_log.specs.declared.status_flags.StatusFlags.{StatusFlags}
+use Rattle.nvme_slots.specs.Pool.{bit}
 
 -- a mark that is put into a slot is there
 bit_is : (mark : Bool) → (bit mark == 1) ≡ mark

@@ -11,9 +11,9 @@ use Rattle.nvme_log.specs.declared.event.Event.TheVariants.{OpenCq, ClosedCq}
 use Rattle.nvme_ctrl.specs.declared.state.SqState.{SqState}
 use Rattle.nvme_ctrl.specs.declared.state.CqState.{CqState}
 use Rattle.nvme_ctrl.specs.declared.state.Controller.{Controller}
-use Rattle.nvme_ctrl.specs.kept.Content.{SqContent, Content, put_sq}
+use Rattle.nvme_ctrl_content.specs.Content.{SqContent, Content, put_sq}
 use Rattle.nvme_ctrl.specs.kept.Kept.{AreIds, IsSqOf, HasNumbers, picked_of}
-use Rattle.nvme_ctrl.specs.kept.Standing.{is_opened_cq}
+use Rattle.nvme_ctrl_log.specs.Regions.{is_opened_cq}
 use Rattle.nvme_ctrl.specs.kept.State.{no_sq_state, no_cq_state, sq_at, cq_at}
 use Rattle.nvme_ctrl.proofs.Lives.{one_life, lives_apart, put_sq-states, put_cq-states}
 

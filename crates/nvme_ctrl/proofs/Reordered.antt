@@ -9,10 +9,10 @@ use Rattle.nvme_admin.specs.QueueTable.{QueueTable}
 use Rattle.nvme_admin.specs.Accepted.{queue_table}
 use Rattle.nvme_log.specs.Rules.{FrontRules, sq_regions_of, cq_regions_of, slots_at, upto}
 use Rattle.nvme_log.specs.Completions.{outstanding}
-use Rattle.nvme_ctrl.specs.declared.slot.Slot.{Slot}
+use Rattle.nvme_slots.specs.declared.slot.Slot.{Slot}
 use Rattle.nvme_ctrl.specs.declared.state.Controller.{Controller}
-use Rattle.nvme_ctrl.specs.kept.Content.{Ready, PendingDelete, Content}
-use Rattle.nvme_ctrl.specs.kept.Standing.{HoldsTable, HoldsOwn, HasItsStatus, HasOwnStatus, IsOwnDeletion, Holds}
+use Rattle.nvme_ctrl_content.specs.Content.{Ready, PendingDelete, Content}
+use Rattle.nvme_ctrl_content.specs.Standing.{HoldsTable, HoldsOwn, HasItsStatus, HasOwnStatus, IsOwnDeletion, Holds}
 use Rattle.nvme_ctrl.specs.kept.Kept.{StandsAt}
 
 -- no command stands in the empty log

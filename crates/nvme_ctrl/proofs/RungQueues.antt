@@ -2,10 +2,10 @@
 use Rattle.std.proofs.Common.{◌≡◌, ℕ, ◌<◌, ◌≤◌, inl, inr, Bool, false, List, arith}
 use Rattle.std.proofs.lemmas.Bool.{le-leb, cases_lt}
 use Rattle.nvme_log.specs.Rules.{FrontRules}
-use Rattle.nvme_ctrl.specs.Notes.{Notes}
+use Rattle.nvme_ctrl_log.specs.Notes.{Notes}
 use Rattle.nvme_ctrl.specs.NextQueue.{HasFetch, turns_before}
-use Rattle.nvme_ctrl.specs.declared.ring.Ring.{Ring}
-use Rattle.nvme_ctrl.specs.declared.slot.Slot.{Slot}
+use Rattle.nvme_slots.specs.declared.ring.Ring.{Ring}
+use Rattle.nvme_slots.specs.declared.slot.Slot.{Slot}
 use Rattle.nvme_ctrl.specs.declared.state.Controller.{Controller}
 use Rattle.nvme_ctrl.specs.inside.Fetching.{filled}
 use Rattle.nvme_ctrl.specs.inside.Turns.{IsNextTurn}

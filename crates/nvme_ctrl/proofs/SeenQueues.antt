@@ -16,14 +16,14 @@ use Rattle.nvme_arbiter.specs.declared.pick.Seen.{Seen}
 use Rattle.nvme_log.specs.Rules.{FrontRules, Past, upto}
 use Rattle.nvme_log.specs.Queues.{Queue, open_sq}
 use Rattle.nvme_log.specs.Places.{waiting, seen_as}
-use Rattle.nvme_ctrl.specs.Notes.{Notes, logged}
-use Rattle.nvme_ctrl.specs.Observation.{is_held, class_set, shown, shown_as, seen_in}
+use Rattle.nvme_ctrl_log.specs.Notes.{Notes, logged}
+use Rattle.nvme_ctrl_log.specs.Observation.{is_held, class_set, shown, shown_as, seen_in}
 use Rattle.nvme_ctrl.specs.Laws.{SeenOneByOne}
-use Rattle.nvme_ctrl.specs.declared.slot.Slot.{Slot}
+use Rattle.nvme_slots.specs.declared.slot.Slot.{Slot}
 use Rattle.nvme_ctrl.specs.declared.state.Controller.{Controller}
 use Rattle.nvme_ctrl.specs.kept.Kept.{StandsAt}
-use Rattle.nvme_ctrl.specs.kept.Standing.{on_board}
-use Rattle.nvme_ctrl.proofs.Observing.{waiting_length}
+use Rattle.nvme_ctrl_content.specs.Standing.{on_board}
+use Rattle.nvme_ctrl_content.proofs.Observing.{waiting_length}
 
 -- a queue of the board, as arbitration sees it
 abbrev pub seen_on : ℕ → OpenQueue → Seen

@@ -3,9 +3,9 @@ use Rattle.std.proofs.Common.{◌≡◌, ◌≢◌, ℕ, zero, suc, ◌-◌, ◌
 use Rattle.std.specs.List.{All}
 use Rattle.std.proofs.lemmas.Bool.{cases_eq, eq-eqb, ne_eqb}
 use Rattle.std.proofs.lemmas.List.Elements.{All-nil, All-cons, All-head, All-tail}
-use Rattle.nvme_ctrl.specs.declared.slot.Slot.{Slot}
+use Rattle.nvme_slots.specs.declared.slot.Slot.{Slot}
 use Rattle.nvme_ctrl.specs.kept.Kept.{Item, ReadyItem, IsWaitingIn, IsOutIn, IsReadyIn, ready_state, is_free}
-use Rattle.nvme_ctrl.specs.kept.Pool.{slot_at, item_at, flags_in}
+use Rattle.nvme_slots.specs.Pool.{slot_at, item_at, flags_in}
 
 -- ---- lists
 -- what follows from two things that hold of all of a list

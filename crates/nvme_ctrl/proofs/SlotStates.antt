@@ -2,9 +2,9 @@
 use Rattle.std.proofs.Common.{◌≡◌, ◌≢◌, ℕ, ◌≤◌, List, Option, sym, subst}
 use Rattle.std.specs.List.{All}
 use Rattle.std.proofs.lemmas.List.Elements.{All-map, All-weaker}
-use Rattle.nvme_ctrl.specs.declared.slot.Slot.{Slot}
+use Rattle.nvme_slots.specs.declared.slot.Slot.{Slot}
 use Rattle.nvme_ctrl.specs.kept.Kept.{Item, ReadyItem, IsWaitingIn, IsReadyIn, tags_of, ready_tags}
-use Rattle.nvme_ctrl.specs.kept.Pool.{slot_at, IsNew}
+use Rattle.nvme_slots.specs.Pool.{slot_at, IsNew}
 use Rattle.nvme_ctrl.proofs.SlotItems.{ready_state-range}
 
 -- the slots of what waits in a queue, and of what is ready

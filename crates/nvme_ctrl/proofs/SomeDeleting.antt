@@ -5,13 +5,13 @@ use Rattle.std.proofs.lemmas.Bool.{cases_eq, eq-eqb}
 use Rattle.std.proofs.lemmas.List.Sums.{sum_by-cons}
 use Rattle.nvme_log.specs.Places.{one_if}
 use Rattle.nvme_log.specs.Rules.{FrontRules}
-use Rattle.nvme_ctrl.specs.Notes.{Notes, logged}
-use Rattle.nvme_ctrl.specs.Deletions.{IsDeletingSome}
-use Rattle.nvme_ctrl.specs.Laws.{NoneDeleting}
-use Rattle.nvme_ctrl.specs.declared.slot.Slot.{Slot}
+use Rattle.nvme_ctrl_log.specs.Notes.{Notes, logged}
+use Rattle.nvme_ctrl_log.specs.Deletions.{IsDeletingSome}
+use Rattle.nvme_ctrl_log.specs.Laws.{NoneDeleting}
+use Rattle.nvme_slots.specs.declared.slot.Slot.{Slot}
 use Rattle.nvme_ctrl.specs.declared.state.Controller.{Controller}
 use Rattle.nvme_ctrl.specs.declared.state.Deletion.{Deletion}
-use Rattle.nvme_ctrl.specs.kept.Content.{PendingDelete}
+use Rattle.nvme_ctrl_content.specs.Content.{PendingDelete}
 use Rattle.nvme_ctrl.specs.kept.Kept.{StandsAt}
 use Rattle.nvme_ctrl.specs.kept.State.{deletion_at, count_pending}
 use Rattle.nvme_ctrl.proofs.PendingDeletions.{deletion_item, some_deletes, item_flagged, flagged_item, none_counted}

@@ -6,14 +6,14 @@ use Rattle.std.proofs.lemmas.List.Elements.{All-weaker, All-map, All-same}
 use Rattle.std.proofs.lemmas.Option.{same_Some}
 use Rattle.nvme_log.specs.Rules.{FrontRules}
 use Rattle.nvme_log.specs.Queues.{cq_region_of}
-use Rattle.nvme_ctrl.specs.Notes.{Notes, logged}
-use Rattle.nvme_ctrl.specs.declared.slot.Slot.{Slot}
+use Rattle.nvme_ctrl_log.specs.Notes.{Notes, logged}
+use Rattle.nvme_slots.specs.declared.slot.Slot.{Slot}
 use Rattle.nvme_ctrl.specs.declared.state.Controller.{Controller}
-use Rattle.nvme_ctrl.specs.kept.Standing.{IsReady}
+use Rattle.nvme_ctrl_content.specs.Standing.{IsReady}
 use Rattle.nvme_ctrl.specs.kept.Kept.{ReadyItem, IsReadyIn, StandsAt, readies_of, ready_tags}
 use Rattle.nvme_ctrl.specs.inside.Loose.{AreReadiesApart, Keeps}
-use Rattle.nvme_ctrl.specs.kept.Pool.{slot_at, IsNew}
-use Rattle.nvme_ctrl.proofs.OwnStatus.{All-unmap}
+use Rattle.nvme_slots.specs.Pool.{slot_at, IsNew}
+use Rattle.nvme_ctrl_content.proofs.OwnStatus.{All-unmap}
 use Rattle.nvme_ctrl.proofs.SlotItems.{All-both}
 
 module _ (rules : FrontRules) (late : Bool) (notes : Notes) (c : Controller) (slots : List Slot) (s : StandsAt rules late notes c slots) where

@@ -19,22 +19,24 @@ use Rattle.nvme_log.specs.Answers.{Answer}
 use Rattle.nvme_log.specs.Dispatches.{place_at}
 use Rattle.nvme_log.specs.declared.place.Place.{Place}
 use Rattle.nvme_log.proofs.Posts.{posts_of-none}
-use Rattle.nvme_ctrl.specs.Notes.{Notes, logged}
+use Rattle.nvme_ctrl_log.specs.Notes.{Notes, logged}
 use Rattle.nvme_ctrl.specs.Depths.{held_in}
-use Rattle.nvme_ctrl.specs.Observation.{is_held, observed_of, shown_as}
-use Rattle.nvme_ctrl.specs.Progress.{IsStill, IsWithDevice, NoneWaitDeleted, ServedAwait, UnfetchedAwait, WaitingAwait, WaitsForHost, WaitsForQueue}
-use Rattle.nvme_ctrl.specs.Account.{HasTag}
-use Rattle.nvme_ctrl.specs.Deletions.{deleting}
-use Rattle.nvme_ctrl.specs.Tags.{answer_of, holder, is_through, taken}
-use Rattle.nvme_ctrl.specs.declared.slot.Slot.{Slot}
+use Rattle.nvme_ctrl_log.specs.Observation.{is_held, observed_of, shown_as}
+use Rattle.nvme_ctrl.specs.Progress.{IsStill, NoneWaitDeleted, ServedAwait, UnfetchedAwait, WaitingAwait}
+use Rattle.nvme_ctrl_log.specs.Progress.{IsWithDevice, WaitsForHost, WaitsForQueue}
+use Rattle.nvme_ctrl_log.specs.Account.{HasTag}
+use Rattle.nvme_ctrl_log.specs.Deletions.{deleting}
+use Rattle.nvme_ctrl_log.specs.Tags.{answer_of, holder, is_through, taken}
+use Rattle.nvme_slots.specs.declared.slot.Slot.{Slot}
 use Rattle.nvme_ctrl.specs.declared.state.Controller.{Controller}
-use Rattle.nvme_ctrl.specs.kept.Content.{Attachment, Candidate, Content, PendingDelete, Ready}
+use Rattle.nvme_ctrl_content.specs.Content.{Attachment, Candidate, Content, PendingDelete, Ready}
 use Rattle.nvme_ctrl.specs.kept.Kept.{IsThrough, Item, ReadyItem, StandsAt, places_of, readies_of, untaken}
-use Rattle.nvme_ctrl.specs.kept.Standing.{answer_in, hand_of, held_by, held_upto, times_held, times_in, times_ready}
+use Rattle.nvme_ctrl_content.specs.Standing.{answer_in, hand_of, held_by, held_upto, times_held, times_in, times_ready}
 use Rattle.nvme_ctrl.specs.kept.State.{sq_at}
-use Rattle.nvme_ctrl.proofs.PendingDeletions.{times_held-by}
-use Rattle.nvme_ctrl.proofs.ReadyHand.{times_held-append}
-use Rattle.nvme_ctrl.proofs.Readying.{over_none, unposted-counts}
+use Rattle.nvme_ctrl_content.proofs.DeletingRegions.{times_held-by}
+use Rattle.nvme_ctrl_content.proofs.ReadyHand.{times_held-append}
+use Rattle.nvme_ctrl_content.proofs.Readying.{over_none}
+use Rattle.nvme_ctrl_log.proofs.Readying.{unposted-counts}
 use Rattle.nvme_ctrl.proofs.SeenQueues.{seen_one_by_one}
 
 -- what counts is so

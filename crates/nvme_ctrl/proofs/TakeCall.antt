@@ -10,26 +10,26 @@ use Rattle.nvme_log.specs.Rules.{FrontRules}
 use Rattle.nvme_log.specs.Places.{fetched, fate_of, is_waiting}
 use Rattle.nvme_log.specs.Dispatches.{place_at}
 use Rattle.nvme_log.specs.declared.place.Place.{Place}
-use Rattle.nvme_ctrl.specs.Notes.{Notes, Taken, logged}
-use Rattle.nvme_ctrl.specs.Doorbells.{submitted}
-use Rattle.nvme_ctrl.specs.Rings.{HasCounts}
-use Rattle.nvme_ctrl.specs.Tags.{taken, holder, is_unanswered, all_posts, handed}
-use Rattle.nvme_ctrl.specs.Account.{IsAccount}
+use Rattle.nvme_ctrl_log.specs.Notes.{Notes, Taken, logged}
+use Rattle.nvme_ctrl_log.specs.Doorbells.{submitted}
+use Rattle.nvme_slots.specs.Rings.{HasCounts}
+use Rattle.nvme_ctrl_log.specs.Tags.{taken, holder, is_unanswered, all_posts, handed}
+use Rattle.nvme_ctrl_log.specs.Account.{IsAccount}
 use Rattle.nvme_ctrl.specs.Calls.{HasTaken}
-use Rattle.nvme_ctrl.specs.declared.slot.Slot.{Slot}
-use Rattle.nvme_ctrl.specs.declared.chain.Chain.{Chain}
+use Rattle.nvme_slots.specs.declared.slot.Slot.{Slot}
+use Rattle.nvme_slots.specs.declared.chain.Chain.{Chain}
 use Rattle.nvme_ctrl.specs.declared.state.SqState.{SqState}
 use Rattle.nvme_ctrl.specs.declared.state.Controller.{Controller}
-use Rattle.nvme_ctrl.specs.kept.Content.{Candidate, Content}
+use Rattle.nvme_ctrl_content.specs.Content.{Candidate, Content}
 use Rattle.nvme_ctrl.specs.kept.Kept.{Item, ReadyItem, Items, IsWaitingIn, IsOutIn, IsReadyIn, IsAmongOuts, IsSqOf, HasNumbers, HasItems, HoldsDoorbells, HoldsTags, IsUnanswered, HasEntry, HasCookie, StandsAt, tags_of, places_of, ready_tags, candidate_of, picked_region, picked_of, untaken, ready_state}
-use Rattle.nvme_ctrl.specs.kept.Pool.{slot_at, item_at, put_item, IsChain, AreApart}
+use Rattle.nvme_slots.specs.Pool.{slot_at, item_at, put_item, IsChain, AreApart}
 use Rattle.nvme_ctrl.specs.kept.State.{no_chain, no_sq_state, sq_at, cq_at, picked_in}
 use Rattle.nvme_ctrl.proofs.Passed.{passed_left, passed_later}
 use Rattle.nvme_ctrl.proofs.Cookies.{SameCookies, same_cookies-but, cookie_left, items_left, readies_left}
-use Rattle.nvme_ctrl.proofs.Pools.{length-put_item, slot_at-put_item_same, item_at-put_item_other, chain-put_item, AreApart-push}
-use Rattle.nvme_ctrl.proofs.OwnStatus.{All-unmap, candidates_wait}
-use Rattle.nvme_ctrl.proofs.HandSteps.{hand_done}
-use Rattle.nvme_ctrl.proofs.ReadyHand.{All-taken}
+use Rattle.nvme_slots.proofs.Pools.{length-put_item, slot_at-put_item_same, item_at-put_item_other, chain-put_item, AreApart-push}
+use Rattle.nvme_ctrl_content.proofs.OwnStatus.{All-unmap, candidates_wait}
+use Rattle.nvme_ctrl_content.proofs.HandSteps.{hand_done}
+use Rattle.nvme_ctrl_content.proofs.ReadyHand.{All-taken}
 use Rattle.nvme_ctrl.proofs.Lives.{one_life, one_id, put_sq-lives, put_sq-states}
 use Rattle.nvme_ctrl.proofs.SlotItems.{All-both, at_put, take_step, drop_step, ready_state-range, other_state, waiting_stays, out_stays, all_ready_stay, all_free_stay}
 use Rattle.nvme_ctrl.proofs.PendingDeletions.{deletions_stay}
@@ -462,8 +462,3 @@ module _ (rules : FrontRules) (late : Bool) (notes : Notes) (c : Controller) (sl
         let here = first it.tag (tags_of rest) (subst (λ (ws : List Item). IsChain slots (sq_at c.sqs c.picked_qid).window (tags_of ws)) is picked_chain) in
         let there : None ≡ Some it.tag = sym none ∙ here in
         absurd (cc)
-
--- where none is picked that the device hasn't taken, it took all that was picked
-pub none_left : (rules : FrontRules) (late : Bool) (notes : Notes) (c : Controller) (slots : List Slot) → StandsAt rules late notes c slots → c.picked ≡ 0 → handed notes ≡ taken notes
-none_left rules late notes c slots s none =
-    s.tags.untaken_are ∙ ap (λ (n : ℕ). taken notes ++ places_of (take n (s.items.windows (picked_region c s.content)))) none ∙ append-nil (taken notes)

@@ -12,13 +12,14 @@ use Rattle.nvme_log.specs.Completions.{is_posted}
 use Rattle.nvme_log.specs.Dispatches.{place_at}
 use Rattle.nvme_log.specs.declared.place.Place.{Place}
 use Rattle.nvme_log.proofs.Posts.{posts_of-none}
-use Rattle.nvme_ctrl.specs.Deletions.{deleting}
-use Rattle.nvme_ctrl.specs.Notes.{Notes, logged}
-use Rattle.nvme_ctrl.specs.Tags.{handed, taken, holder, answer_of, is_out, is_through}
-use Rattle.nvme_ctrl.specs.declared.slot.Slot.{Slot}
+use Rattle.nvme_ctrl_log.specs.Deletions.{deleting}
+use Rattle.nvme_ctrl_log.specs.Notes.{Notes, logged}
+use Rattle.nvme_ctrl_log.specs.Tags.{handed, taken, holder, answer_of, is_out, is_through}
+use Rattle.nvme_slots.specs.declared.slot.Slot.{Slot}
 use Rattle.nvme_ctrl.specs.declared.state.Controller.{Controller}
-use Rattle.nvme_ctrl.specs.kept.Content.{Ready, PendingDelete}
-use Rattle.nvme_ctrl.specs.kept.Standing.{over_regions, times_in, times_held, times_ready, held_by, held_upto, hand_of}
+use Rattle.nvme_ctrl_content.specs.Content.{Ready, PendingDelete}
+use Rattle.nvme_ctrl_log.specs.Regions.{over_regions}
+use Rattle.nvme_ctrl_content.specs.Standing.{times_in, times_held, times_ready, held_by, held_upto, hand_of}
 use Rattle.nvme_ctrl.specs.kept.Kept.{Item, ReadyItem, IsOutIn, IsThrough, StandsAt, places_of, untaken}
 use Rattle.nvme_ctrl.proofs.AnswerCall.{out_is_out}
 use Rattle.nvme_ctrl.proofs.SlotItems.{All-both}

@@ -12,20 +12,21 @@ use Rattle.nvme_log.specs.declared.event.Event.TheVariants as event
 use Rattle.nvme_log.specs.Rules.{FrontRules, Past}
 use Rattle.nvme_log.specs.Queues.{Queue, open_sq}
 use Rattle.nvme_log.specs.Effects.{abort_in, abort_of}
-use Rattle.nvme_ctrl.specs.Notes.{Notes, logged}
-use Rattle.nvme_ctrl.specs.Own.{kind_may_be_own, is_announced, names_none, may_be_own, is_own}
+use Rattle.nvme_ctrl_log.specs.Notes.{Notes, logged}
+use Rattle.nvme_ctrl_log.specs.Own.{kind_may_be_own, names_none, may_be_own}
+use Rattle.nvme_ctrl.specs.Own.{is_announced, is_own}
 use Rattle.nvme_ctrl.specs.declared.own.OwnCommands.{OwnCommands}
-use Rattle.nvme_ctrl.specs.declared.slot.Slot.{Slot}
+use Rattle.nvme_slots.specs.declared.slot.Slot.{Slot}
 use Rattle.nvme_ctrl.specs.declared.state.Controller.{Controller}
-use Rattle.nvme_ctrl.specs.kept.Content.{Candidate}
+use Rattle.nvme_ctrl_content.specs.Content.{Candidate}
 use Rattle.nvme_ctrl.specs.kept.Kept.{Item, IsWaitingIn, StandsAt, candidate_of, tags_of, picked_of}
-use Rattle.nvme_ctrl.specs.kept.Pool.{slot_at, named_in, found_in, IsChain}
+use Rattle.nvme_slots.specs.Pool.{slot_at, named_in, found_in, IsChain}
 use Rattle.nvme_ctrl.specs.kept.State.{sq_at}
-use Rattle.nvme_ctrl.specs.inside.Steps.{oldest_named}
+use Rattle.nvme_ctrl_content.specs.Steps.{oldest_named}
 use Rattle.nvme_ctrl.proofs.CarriedOut.{none_picked_in}
 use Rattle.nvme_ctrl.proofs.CarryAbort.{target_is}
-use Rattle.nvme_ctrl.proofs.Chains.{named-found}
-use Rattle.nvme_ctrl.proofs.Named.{first_named}
+use Rattle.nvme_slots.proofs.Chains.{named-found}
+use Rattle.nvme_ctrl_content.proofs.Named.{first_named}
 
 -- ---- the device's
 -- what is the device's may be

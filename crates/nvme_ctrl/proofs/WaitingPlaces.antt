@@ -7,14 +7,14 @@ use Rattle.std.proofs.lemmas.List.Elements.{All-contains}
 use Rattle.nvme_log.specs.Rules.{FrontRules, Past}
 use Rattle.nvme_log.specs.Queues.{Queue, open_sq}
 use Rattle.nvme_log.specs.Places.{entry_at, waiting}
-use Rattle.nvme_ctrl.specs.Notes.{Notes, logged}
-use Rattle.nvme_ctrl.specs.Tags.{cookie_of}
-use Rattle.nvme_ctrl.specs.Waits.{WaitsAt}
-use Rattle.nvme_ctrl.specs.declared.slot.Slot.{Slot}
+use Rattle.nvme_ctrl_log.specs.Notes.{Notes, logged}
+use Rattle.nvme_ctrl_log.specs.Tags.{cookie_of}
+use Rattle.nvme_ctrl_log.specs.Waits.{WaitsAt}
+use Rattle.nvme_slots.specs.declared.slot.Slot.{Slot}
 use Rattle.nvme_ctrl.specs.declared.state.Controller.{Controller}
-use Rattle.nvme_ctrl.specs.kept.Content.{Candidate}
+use Rattle.nvme_ctrl_content.specs.Content.{Candidate}
 use Rattle.nvme_ctrl.specs.kept.Kept.{Item, IsWaitingIn, HasCookie, StandsAt, candidate_of, tags_of}
-use Rattle.nvme_ctrl.specs.kept.Pool.{slot_at, IsChain}
+use Rattle.nvme_slots.specs.Pool.{slot_at, IsChain}
 use Rattle.nvme_ctrl.specs.kept.State.{sq_at, picked_in}
 use Rattle.nvme_ctrl.proofs.FetchCalls.{picked_are, waits}
 

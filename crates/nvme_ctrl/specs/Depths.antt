@@ -7,10 +7,10 @@ use Rattle.nvme_log.specs.Queues.{Queue, open_sq, qid_of_region, is_closed_regio
 use Rattle.nvme_log.specs.Places.{places, waiting}
 use Rattle.nvme_log.specs.Completions.{is_posted, unposted_of}
 use Rattle.nvme_log.specs.Laws.{count_of}
-use Rattle.nvme_ctrl.specs.Notes.{Notes, Note, Logged, EachNote, logged}
-use Rattle.nvme_ctrl.specs.Tags.{all_fetches, all_posts}
+use Rattle.nvme_ctrl_log.specs.Notes.{Notes, Note, Logged, EachNote, logged}
+use Rattle.nvme_ctrl_log.specs.Tags.{all_fetches, all_posts}
 use Rattle.nvme_ctrl.specs.Standing.{Stands}
-use Rattle.nvme_ctrl.specs.declared.slot.Slot.{Slot}
+use Rattle.nvme_slots.specs.declared.slot.Slot.{Slot}
 use Rattle.nvme_ctrl.specs.declared.state.Controller.{Controller}
 
 -- how many commands of a region hold a slot: they were fetched, and have no completion posted

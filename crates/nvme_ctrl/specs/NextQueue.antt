@@ -1,10 +1,11 @@
 -- The next queue that has work. Queues take turns by ascending identifier, and 0 comes after 64 (profile).
 use Rattle.std.specs.Prelude.{◌≢◌, ℕ, ◌+◌, ◌-◌, ◌%◌, ◌<◌, ◌≤◌, List, length, None}
 use Rattle.nvme_log.specs.Rules.{FrontRules}
-use Rattle.nvme_ctrl.specs.Notes.{Notes}
-use Rattle.nvme_ctrl.specs.Calls.{depth_of, MayFetch}
+use Rattle.nvme_ctrl_log.specs.Notes.{Notes}
+use Rattle.nvme_ctrl.specs.Calls.{depth_of}
+use Rattle.nvme_ctrl_log.specs.Calls.{MayFetch}
 use Rattle.nvme_ctrl.specs.Posts.{next_post_of}
-use Rattle.nvme_ctrl.specs.declared.slot.Slot.{Slot}
+use Rattle.nvme_slots.specs.declared.slot.Slot.{Slot}
 use Rattle.nvme_ctrl.specs.declared.state.Controller.{Controller}
 
 -- how many queues have their turn before this one, after the turn of the last one

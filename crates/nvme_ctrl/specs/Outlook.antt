@@ -4,7 +4,7 @@ use Rattle.std.specs.List.{list_all}
 use Rattle.nvme_log.specs.Rules.{Past}
 use Rattle.nvme_log.specs.Places.{places, waiting}
 use Rattle.nvme_log.specs.Completions.{is_posted}
-use Rattle.nvme_ctrl.specs.Laws.{NoneDeleting}
+use Rattle.nvme_ctrl_log.specs.Laws.{NoneDeleting}
 
 -- nothing is left to do: no command waits, each fetched command has its completion posted, and no queue is being deleted (profile)
 pub record IsAllDone (past : Past) : Type 0 where

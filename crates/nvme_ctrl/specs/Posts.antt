@@ -1,33 +1,16 @@
--- When a completion region has nothing to be posted to it, the command of a completion, and what is posted next. (Base Specification, Completion Queue Entry, Full Queue)
-use Rattle.std.specs.Prelude.{◌≡◌, ℕ, ◌+◌, ◌≤◌, ◌%◌, ◌⊎◌, ◌==◌, ◌||◌, nat_le, Bool, true, if◌then◌else◌, List, length, Option, Some, None}
+-- The command of a completion, and what is posted next. (Base Specification, Completion Queue Entry, Full Queue)
+use Rattle.std.specs.Prelude.{◌≡◌, ℕ, ◌+◌, ◌%◌, ◌==◌, ◌||◌, nat_le, Bool, if◌then◌else◌, List, Option, Some, None}
 use Rattle.nvme_entry.specs.declared.completion.Cqe.{Cqe}
-use Rattle.nvme_log.specs.Rules.{FrontRules}
-use Rattle.nvme_log.specs.Queues.{cq_region_of}
-use Rattle.nvme_log.specs.Completions.{is_posted, posted_to}
-use Rattle.nvme_ctrl.specs.Notes.{Notes, logged}
-use Rattle.nvme_ctrl.specs.Doorbells.{gap, cq_slots, consumed}
-use Rattle.nvme_ctrl.specs.Tags.{is_through}
-use Rattle.nvme_ctrl.specs.kept.Pool.{slot_at, flags_in}
+use Rattle.nvme_ctrl_log.specs.Doorbells.{gap}
+use Rattle.nvme_slots.specs.Pool.{slot_at, flags_in}
 use Rattle.nvme_ctrl.specs.kept.State.{sq_at, cq_at}
 use Rattle.nvme_ctrl.specs.kept.QueueSets.{has_queue}
-use Rattle.nvme_ctrl.specs.declared.status_flags.StatusFlags.{StatusFlags}
+use Rattle.nvme_ctrl_log.specs.declared.status_flags.StatusFlags.{StatusFlags}
 use Rattle.nvme_ctrl.specs.declared.posts.Post.{Post}
-use Rattle.nvme_ctrl.specs.declared.ring.Ring.{Ring}
-use Rattle.nvme_ctrl.specs.declared.slot.Slot.{Slot}
+use Rattle.nvme_slots.specs.declared.ring.Ring.{Ring}
+use Rattle.nvme_slots.specs.declared.slot.Slot.{Slot}
 use Rattle.nvme_ctrl.specs.declared.state.CqState.{CqState}
 use Rattle.nvme_ctrl.specs.declared.state.Controller.{Controller}
-
--- no slot of its ring is free: a full ring has one slot less than there are (Full Queue)
-abbrev pub IsFullRing : FrontRules → Notes → ℕ → Type 0
-IsFullRing rules notes x = consumed rules notes x + cq_slots rules x ≤ length (posted_to (logged notes) x) + 1
-
--- of the queues that post to it, all that is through is posted
-abbrev pub AllPosted : Notes → ℕ → Type 0
-AllPosted notes x = (r i : ℕ) → cq_region_of (logged notes) r ≡ Some x → is_through notes r i ≡ true → is_posted (logged notes) r i ≡ true
-
--- nothing may be posted to it
-abbrev pub NonePostable : FrontRules → Notes → ℕ → Type 0
-NonePostable rules notes x = IsFullRing rules notes x ⊎ AllPosted notes x
 
 -- a completion is that of the command in a slot, with what the caller kept with it, and its flags
 pub record IsPostOf (command : Slot) (cqe : Cqe) (cookie : ℕ) (flags : StatusFlags) : Type 0 where

@@ -1,21 +1,21 @@
--- What each command waits for where a controller has nothing to do. (profile)
-use Rattle.std.specs.Prelude.{◌≡◌, ◌≢◌, ◌⊎◌, ℕ, ◌<◌, ◌≤◌, Bool, true, false, List, [], length, Some, None}
+-- What each command of a controller waits for where it has nothing to do. (profile)
+use Rattle.std.specs.Prelude.{◌≡◌, ◌⊎◌, ℕ, ◌<◌, ◌≤◌, Bool, true, false, List, [], length, Some, None}
 use Rattle.nvme_log.specs.Rules.{FrontRules, window_at}
-use Rattle.nvme_log.specs.Queues.{Queue, open_sq, open_cq, cq_region_of, is_closed_region}
+use Rattle.nvme_log.specs.Queues.{Queue, open_sq, open_cq, is_closed_region}
 use Rattle.nvme_log.specs.Places.{fetched, waiting, is_served}
-use Rattle.nvme_log.specs.Completions.{is_posted, unposted_of}
-use Rattle.nvme_ctrl.specs.Notes.{Notes, logged}
-use Rattle.nvme_ctrl.specs.Doorbells.{submitted}
-use Rattle.nvme_ctrl.specs.Tags.{handed, taken, answer_of}
-use Rattle.nvme_ctrl.specs.Account.{HasTag}
-use Rattle.nvme_ctrl.specs.Observation.{is_held}
-use Rattle.nvme_ctrl.specs.Deletions.{deleting}
-use Rattle.nvme_ctrl.specs.Posts.{NonePostable, IsFullRing}
-use Rattle.nvme_ctrl.specs.Steps.{IsNextPick, NoneFinishable}
+use Rattle.nvme_log.specs.Completions.{is_posted}
+use Rattle.nvme_ctrl_log.specs.Notes.{Notes, logged}
+use Rattle.nvme_ctrl_log.specs.Doorbells.{submitted}
+use Rattle.nvme_ctrl_log.specs.Tags.{handed, taken}
+use Rattle.nvme_ctrl_log.specs.Observation.{is_held}
+use Rattle.nvme_ctrl_log.specs.Deletions.{deleting}
+use Rattle.nvme_ctrl_log.specs.Posts.{NonePostable}
+use Rattle.nvme_ctrl_log.specs.Steps.{IsNextPick, NoneFinishable}
 use Rattle.nvme_ctrl.specs.Standing.{Stands}
 use Rattle.nvme_ctrl.specs.Depths.{held_in}
-use Rattle.nvme_ctrl.specs.declared.slot.Slot.{Slot}
+use Rattle.nvme_slots.specs.declared.slot.Slot.{Slot}
 use Rattle.nvme_ctrl.specs.declared.state.Controller.{Controller}
+use Rattle.nvme_ctrl_log.specs.Progress.{IsWithDevice, WaitsForHost, WaitsForQueue}
 
 -- each call tells that there is nothing to do, as the clauses `told` of fetch, pick, take, post and finish say it: nothing is to be fetched within these depths of the
 -- regions, picked, taken, posted or finished
@@ -26,24 +26,6 @@ pub record IsStill (rules : FrontRules) (depth : ℕ → ℕ) (notes : Notes) : 
   pub takes : length (taken notes) ≡ length (handed notes)
   pub posts : (cqid x : ℕ) → open_cq (logged notes) cqid ≡ Some x → NonePostable rules notes x
   pub ends : NoneFinishable notes
-
--- the device took the command, and hasn't answered it
-pub record IsWithDevice (notes : Notes) (r i : ℕ) : Type 0 where
-  pub has : HasTag notes r i
-  pub unanswered : answer_of notes r i ≡ None
-
--- the completion queue of a region is full: its host hasn't read it
-pub record WaitsForHost (rules : FrontRules) (notes : Notes) (r : ℕ) : Type 0 where
-  pub x : ℕ
-  pub goes_to : cq_region_of (logged notes) r ≡ Some x
-  pub full : IsFullRing rules notes x
-
--- a Delete of the admin queue waits for commands of the queue that it deletes, which have no completion posted
-pub record WaitsForQueue (notes : Notes) (r i : ℕ) : Type 0 where
-  pub of_admin : r ≡ 0
-  pub region : ℕ
-  pub deletes : deleting (logged notes) region ≡ Some i
-  pub unposted : unposted_of (logged notes) region ≢ 0
 
 -- what wasn't fetched of an open queue that isn't held waits for the queue's depth, which its own commands fill
 abbrev pub UnfetchedAwait : Type 0

@@ -2,8 +2,8 @@
 use Rattle.std.specs.Prelude.{Bool, List}
 use Rattle.nvme_arbiter.specs.Layout.{is_arbiter}
 use Rattle.nvme_log.specs.Rules.{FrontRules}
-use Rattle.nvme_ctrl.specs.Notes.{Notes}
-use Rattle.nvme_ctrl.specs.declared.slot.Slot.{Slot}
+use Rattle.nvme_ctrl_log.specs.Notes.{Notes}
+use Rattle.nvme_slots.specs.declared.slot.Slot.{Slot}
 use Rattle.nvme_ctrl.specs.declared.state.Controller.{Controller}
 use Rattle.nvme_ctrl.specs.kept.Kept.{StandsAt}
 

@@ -1,22 +1,23 @@
 // The end of deletions. (Base Specification, Delete I/O Submission Queue)
-use crate::slot::{ENDED, Slot};
 use crate::state::{Controller, Deletion, SqState};
 use nvme_admin::MAX_REGIONS;
 use nvme_entry::Status;
+use nvme_slots::slot::{ENDED, Slot};
 
 impl Controller {
     ghost use Rattle.std.specs.Prelude.{◌≡◌, ◌≢◌, ◌⊎◌, ◌<◌, ℕ, Bool, true, false, List, length, None, IfSome, IsSomeAnd, IsTrue};
     ghost use Rattle.nvme_log.specs.Rules.{FrontRules};
-    ghost use Rattle.nvme_ctrl.specs.Notes.{Notes};
+    ghost use Rattle.nvme_ctrl_log.specs.Notes.{Notes};
     ghost use Rattle.nvme_ctrl.specs.Standing.{Stands, IsController};
     ghost use Rattle.nvme_admin.specs.Standing.{sq_of};
     ghost use Rattle.nvme_placing.specs.Telling.{content_of};
-    ghost use Rattle.nvme_ctrl.specs.Generations.{SameGenerations};
+    ghost use Rattle.nvme_slots.specs.Generations.{SameGenerations};
     ghost use Rattle.nvme_ctrl.specs.Own.{own_of};
     ghost use Rattle.nvme_ctrl.specs.Calls.{depths_of};
-    ghost use Rattle.nvme_ctrl.specs.Steps.{HasFinished, IsFinishableAt, NoneFinishable};
+    ghost use Rattle.nvme_ctrl.specs.Steps.{HasFinished};
+    ghost use Rattle.nvme_ctrl_log.specs.Steps.{IsFinishableAt, NoneFinishable};
     ghost use Rattle.nvme_ctrl.specs.kept.State.{sq_at, deletion_at, IsFinishable};
-    ghost use Rattle.nvme_ctrl.specs.declared.slot.Slot.{Slot};
+    ghost use Rattle.nvme_slots.specs.declared.slot.Slot.{Slot};
 
     // Whether the deletion of a queue is pending, and all completions of the queue are posted.
     fn is_finishable(&self, qid: u16) -> bool

@@ -1,9 +1,9 @@
 // The commands that the device takes, and its answers. (tags: profile)
 use crate::queue_set::with_queue;
-use crate::slot::{ANSWERED, OUT, Slot, put_ended, put_out, slot_at};
 use crate::state::Controller;
-use crate::status_flags::StatusFlags;
+use nvme_ctrl_log::StatusFlags;
 use nvme_entry::Status;
+use nvme_slots::slot::{ANSWERED, OUT, Slot, put_ended, put_out, slot_at};
 
 /// What the device answers to a command.
 #[derive(Clone, Copy, Debug, PartialEq, Eq)]
@@ -19,13 +19,13 @@ impl Controller {
     ghost use Rattle.std.specs.Prelude.{◌≡◌, ℕ, ◌≢◌, Bool, true, false, List, ◌∷◌, length, None, Some, IfSome};
     ghost use Rattle.nvme_log.specs.Rules.{FrontRules};
     ghost use Rattle.nvme_log.specs.Answers as log;
-    ghost use Rattle.nvme_ctrl.specs.Notes.{Notes};
-    ghost use Rattle.nvme_ctrl.specs.Tags.{is_out, handed, taken};
+    ghost use Rattle.nvme_ctrl_log.specs.Notes.{Notes};
+    ghost use Rattle.nvme_ctrl_log.specs.Tags.{is_out, handed, taken};
     ghost use Rattle.nvme_ctrl.specs.Standing.{Stands, IsController};
-    ghost use Rattle.nvme_ctrl.specs.Generations.{SameGenerations, IsNextGeneration};
+    ghost use Rattle.nvme_slots.specs.Generations.{SameGenerations, IsNextGeneration};
     ghost use Rattle.nvme_ctrl.specs.Own.{own_of};
     ghost use Rattle.nvme_ctrl.specs.Calls.{depths_of, HasTaken, HasAnswered};
-    ghost use Rattle.nvme_ctrl.specs.declared.slot.Slot.{Slot};
+    ghost use Rattle.nvme_slots.specs.declared.slot.Slot.{Slot};
 
     /// The device takes the next picked command, whose slot has the next generation from then on (`Tag`). The slot holds the
     /// command until its completion is posted. None, which changes nothing, exactly where all that was picked is taken.

@@ -6,11 +6,12 @@ use crate::state::Controller;
 impl Controller {
     ghost use Rattle.std.specs.Prelude.{◌≡◌, ◌↔◌, Bool, true, false, List, ◌∷◌, IsTrue};
     ghost use Rattle.nvme_log.specs.Rules.{FrontRules};
-    ghost use Rattle.nvme_ctrl.specs.Notes.{Notes};
+    ghost use Rattle.nvme_ctrl_log.specs.Notes.{Notes};
     ghost use Rattle.nvme_ctrl.specs.Standing.{Stands, IsController};
     ghost use Rattle.nvme_ctrl.specs.Own.{own_of};
-    ghost use Rattle.nvme_ctrl.specs.Calls.{depths_of, TailRung, HeadRung, IsTailOf, IsHeadOf};
-    ghost use Rattle.nvme_ctrl.specs.declared.slot.Slot.{Slot};
+    ghost use Rattle.nvme_ctrl.specs.Calls.{depths_of, TailRung, HeadRung};
+    ghost use Rattle.nvme_ctrl_log.specs.Calls.{IsTailOf, IsHeadOf};
+    ghost use Rattle.nvme_slots.specs.declared.slot.Slot.{Slot};
 
     /// The host wrote the tail doorbell of a submission queue. False, which changes nothing, where the queue isn't open,
     /// where it has no such slot, and where its ring hasn't as many free slots: the doorbell value is invalid then.

@@ -1,17 +1,17 @@
 // The effects of admin commands, which the controller carries out within. (Base Specification, Admin Command Set)
 ghost use Rattle.std.specs.Prelude.{◌≡◌};
 ghost use Rattle.nvme_entry.specs.AdminCommand.{admin_command_of};
-ghost use Rattle.nvme_ctrl.specs.Making.{slots_asked};
+ghost use Rattle.nvme_ctrl_log.specs.Making.{slots_asked};
 
 use crate::board_counts::{hide, show_empty, went};
 use crate::queue_set::with_queue;
-use crate::ring::Ring;
-use crate::slot::{DELETING, DROPPED, ENDED, Slot, put_ended, put_state, slot_at};
 use crate::state::{Controller, CqState, Deletion, SqState};
-use crate::status_flags::StatusFlags;
 use nvme_admin::Effect;
 use nvme_arbiter::{Class, Settings};
+use nvme_ctrl_log::StatusFlags;
 use nvme_entry::{AdminCommand, Sqe, Status, admin_of};
+use nvme_slots::ring::Ring;
+use nvme_slots::slot::{DELETING, DROPPED, ENDED, Slot, put_ended, put_state, slot_at};
 
 // The number of slots that a Create asks for.
 fn asked_slots(entry: &Sqe) -> u16
@@ -36,21 +36,22 @@ impl Controller {
     ghost use Rattle.nvme_arbiter.specs.declared.settings.Mechanism.{Mechanism};
     ghost use Rattle.nvme_arbiter.specs.declared.settings.Class.TheVariants.{Admin};
     ghost use Rattle.nvme_admin.specs.declared.verdict.Verdict.{Verdict};
-    ghost use Rattle.nvme_ctrl.specs.Generations.{SameGenerations};
+    ghost use Rattle.nvme_slots.specs.Generations.{SameGenerations};
     ghost use Rattle.nvme_ctrl.specs.Own.{own_of};
     ghost use Rattle.nvme_ctrl.specs.Calls.{depths_of};
     ghost use Rattle.nvme_ctrl.specs.Steps.{HasCarriedOut};
-    ghost use Rattle.nvme_ctrl.specs.Tags.{answer_of, is_passed};
-    ghost use Rattle.nvme_ctrl.specs.declared.slot.Slot.{Slot};
-    ghost use Rattle.nvme_ctrl.specs.inside.Carrying.{IsApplied, IsOpenable, IsCqOpenable, IsUnattached, opening, opening_cq, closing_cq, IsDroppable, dropped, HasDropped, oldest_dropped, item_dropped, deleting, HasBegun, HasNoneNamed, IsAbortable, HasRequested};
+    ghost use Rattle.nvme_ctrl_log.specs.Tags.{answer_of, is_passed};
+    ghost use Rattle.nvme_slots.specs.declared.slot.Slot.{Slot};
+    ghost use Rattle.nvme_ctrl.specs.inside.Carrying.{IsApplied, HasDropped, oldest_dropped, item_dropped, HasBegun, HasRequested};
+    ghost use Rattle.nvme_ctrl_content.specs.Carrying.{IsOpenable, IsCqOpenable, IsUnattached, opening, opening_cq, closing_cq, IsDroppable, dropped, deleting, HasNoneNamed, IsAbortable};
     ghost use Rattle.nvme_admin.specs.declared.bounds.TheConstants.{MAX_REGIONS};
     ghost use Rattle.nvme_log.specs.Rules.{FrontRules};
-    ghost use Rattle.nvme_ctrl.specs.Notes.{Notes};
-    ghost use Rattle.nvme_ctrl.specs.kept.Content.{Candidate, Ready, Content, with_ready};
+    ghost use Rattle.nvme_ctrl_log.specs.Notes.{Notes};
+    ghost use Rattle.nvme_ctrl_content.specs.Content.{Candidate, Ready, Content, with_ready};
     ghost use Rattle.nvme_log.specs.Dispatches.{place_at};
     ghost use Rattle.nvme_ctrl.specs.kept.Kept.{Item, Items, IsThrough, IsCookie, is_passed_at, IsUnflagged};
     ghost use Rattle.nvme_ctrl.specs.inside.Loose.{IsLoose, Keeps, MakesReady, ended, with_item};
-    ghost use Rattle.nvme_ctrl.specs.kept.Pool.{slot_at, item_at};
+    ghost use Rattle.nvme_slots.specs.Pool.{slot_at, item_at};
 
     // The command of a slot ends without the device: its completion is ready in a completion queue, with the flags of its
     // status.

@@ -1,22 +1,23 @@
 // The fetches of a controller. (Base Specification, Command Submission and Completion Mechanism; depths and windows: profile)
 use crate::board_counts::came;
 use crate::queue_set::with_queue;
-use crate::slot::{Slot, WAITING, put_item, slot_at};
 use crate::state::Controller;
 use nvme_admin::{MAX_REGIONS, SqEntry};
 use nvme_entry::Sqe;
 use nvme_log::window_of;
+use nvme_slots::slot::{Slot, WAITING, put_item, slot_at};
 
 impl Controller {
     ghost use Rattle.std.specs.Prelude.{◌≡◌, ◌≢◌, ℕ, Bool, true, false, List, length, slice_set, Some, None, IfSome};
     ghost use Rattle.nvme_log.specs.Rules.{FrontRules};
-    ghost use Rattle.nvme_ctrl.specs.Notes.{Notes};
+    ghost use Rattle.nvme_ctrl_log.specs.Notes.{Notes};
     ghost use Rattle.nvme_ctrl.specs.Standing.{Stands, IsController};
-    ghost use Rattle.nvme_ctrl.specs.Generations.{SameGenerations};
+    ghost use Rattle.nvme_slots.specs.Generations.{SameGenerations};
     ghost use Rattle.nvme_ctrl.specs.Own.{own_of};
-    ghost use Rattle.nvme_ctrl.specs.Calls.{depths_of, depth_of, MayFetch, HasFetched};
+    ghost use Rattle.nvme_ctrl.specs.Calls.{depths_of, depth_of, HasFetched};
+    ghost use Rattle.nvme_ctrl_log.specs.Calls.{MayFetch};
     ghost use Rattle.nvme_ctrl.specs.inside.Fetching.{IsFetchable};
-    ghost use Rattle.nvme_ctrl.specs.declared.slot.Slot.{Slot};
+    ghost use Rattle.nvme_slots.specs.declared.slot.Slot.{Slot};
     ghost use Rattle.nvme_admin.specs.declared.verdict.SqEntry as entry;
 
     /// From now on at most `depth` commands of a submission queue hold a slot of the pool, each from its fetch to the posting

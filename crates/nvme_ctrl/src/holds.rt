@@ -1,18 +1,18 @@
 // The queues that a device holds, and the classes that it sets. (Base Specification, Command Arbitration; profile)
 use crate::board_counts::show;
 use crate::state::Controller;
-use crate::status_flags::bit;
 use nvme_arbiter::{Class, HIGHEST_COUNT};
+use nvme_slots::slot::bit;
 
 impl Controller {
     ghost use Rattle.std.specs.Prelude.{◌≡◌, ◌↔◌, Bool, true, false, List, ◌∷◌, IsTrue};
     ghost use Rattle.nvme_log.specs.Rules.{FrontRules};
-    ghost use Rattle.nvme_ctrl.specs.Notes.{Notes, Held, Classed};
-    ghost use Rattle.nvme_ctrl.specs.Account.{MayBeHeld, MayBeClassed};
+    ghost use Rattle.nvme_ctrl_log.specs.Notes.{Notes, Held, Classed};
+    ghost use Rattle.nvme_ctrl_log.specs.Account.{MayBeHeld, MayBeClassed};
     ghost use Rattle.nvme_ctrl.specs.Standing.{Stands, IsController};
     ghost use Rattle.nvme_ctrl.specs.Own.{own_of};
     ghost use Rattle.nvme_ctrl.specs.Calls.{depths_of};
-    ghost use Rattle.nvme_ctrl.specs.declared.slot.Slot.{Slot};
+    ghost use Rattle.nvme_slots.specs.declared.slot.Slot.{Slot};
 
     /// From now on no command of a submission queue is picked (`on`), or they are again. The queue may be the admin queue.
     /// What waits in it stays there, and more is fetched as before. An Abort still takes it, and the deletion of

@@ -5,12 +5,11 @@
 //! commands of a queue may hold a slot (`set_depth`). It may leave a queue out of arbitration for a while (`hold`), and give
 //! it another priority class (`set_class`). It keeps the pool of slots that the commands are in, and gives it to each call.
 //!
-//! Each call's contract says what is noted in the controller's log, which nobody keeps (`specs/Standing.antt`), and
-//! `laws` has what holds of each such log.
+//! Each call's contract says what is noted in the controller's log, which nobody keeps (`specs/Standing.antt`). The log and
+//! its laws are in `nvme_ctrl_log`; `laws` has those of controllers.
 #![tactic(auto)]
 
 mod board_counts;
-mod chain;
 mod deletion;
 mod device;
 mod doorbells;
@@ -27,19 +26,15 @@ mod picks;
 mod posts;
 mod queue_set;
 mod ranges;
-mod ring;
-mod slot;
 mod state;
-mod status_flags;
-mod tag;
 
 pub use device::Answer;
 pub use lookups::Waiting;
+pub use nvme_ctrl_log::StatusFlags;
+pub use nvme_slots::ring::Ring;
+pub use nvme_slots::slot::{Slot, slot_at};
+pub use nvme_slots::tag::Tag;
 pub use own::OwnCommands;
 pub use picks::Step;
 pub use posts::Post;
-pub use ring::Ring;
-pub use slot::{Slot, slot_at};
 pub use state::Controller;
-pub use status_flags::StatusFlags;
-pub use tag::Tag;

@@ -1,8 +1,8 @@
 // What is seen of a controller.
-use crate::slot::{OUT, Slot, slot_at};
 use crate::state::Controller;
 use nvme_arbiter::Seen;
 use nvme_entry::Sqe;
+use nvme_slots::slot::{OUT, Slot, slot_at};
 
 /// A command that waits to be picked.
 #[derive(Clone, Copy, Debug, PartialEq, Eq)]
@@ -18,19 +18,19 @@ impl Controller {
     ghost use Rattle.nvme_log.specs.Queues.{Queue, open_sq, open_cq};
     ghost use Rattle.nvme_log.specs.Places.{entry_at, waiting};
     ghost use Rattle.nvme_log.specs.declared.place.Place.{Place};
-    ghost use Rattle.nvme_ctrl.specs.Notes.{Notes, logged};
-    ghost use Rattle.nvme_ctrl.specs.Tags.{is_out, holder, cookie_of};
-    ghost use Rattle.nvme_ctrl.specs.Calls.{IsTagOf};
-    ghost use Rattle.nvme_ctrl.specs.Observation.{seen_in};
-    ghost use Rattle.nvme_ctrl.specs.Waits.{WaitsAt};
-    ghost use Rattle.nvme_ctrl.specs.Making.{placing_in};
-    ghost use Rattle.nvme_ctrl.specs.Steps.{IsIdentifier};
+    ghost use Rattle.nvme_ctrl_log.specs.Notes.{Notes, logged};
+    ghost use Rattle.nvme_ctrl_log.specs.Tags.{is_out, holder, cookie_of};
+    ghost use Rattle.nvme_ctrl_log.specs.Calls.{IsTagOf};
+    ghost use Rattle.nvme_ctrl_log.specs.Observation.{seen_in};
+    ghost use Rattle.nvme_ctrl_log.specs.Waits.{WaitsAt};
+    ghost use Rattle.nvme_ctrl_log.specs.Making.{placing_in};
+    ghost use Rattle.nvme_ctrl_log.specs.Steps.{IsIdentifier};
     ghost use Rattle.nvme_placing.specs.Telling.{placing_of};
     ghost use Rattle.nvme_ctrl.specs.Standing.{Stands, IsController};
-    ghost use Rattle.nvme_ctrl.specs.inside.Lookups.{is_found};
-    ghost use Rattle.nvme_ctrl.specs.kept.Pool.{IsChain, slot_at};
+    ghost use Rattle.nvme_slots.specs.Lookups.{is_found};
+    ghost use Rattle.nvme_slots.specs.Pool.{IsChain, slot_at};
     ghost use Rattle.nvme_ctrl.specs.kept.State.{sq_at, picked_in};
-    ghost use Rattle.nvme_ctrl.specs.declared.slot.Slot.{Slot};
+    ghost use Rattle.nvme_slots.specs.declared.slot.Slot.{Slot};
 
     /// The command in a slot. Where the device has it, it is the one that was fetched for the place of this tag.
     pub fn entry(&self, slots: &[Slot], tag: u16) -> Sqe

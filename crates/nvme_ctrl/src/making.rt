@@ -8,37 +8,39 @@ ghost use Rattle.nvme_admin.specs.Accepted.{queue_table};
 ghost use Rattle.nvme_placing.specs.Telling.{Tells};
 ghost use Rattle.nvme_log.specs.Rules.{FrontRules, upto};
 ghost use Rattle.nvme_ctrl.specs.Standing.{Stands};
-ghost use Rattle.nvme_ctrl.specs.Calls.{depths_of, equal_depths};
-ghost use Rattle.nvme_ctrl.specs.Generations.{SameGenerations};
+ghost use Rattle.nvme_ctrl.specs.Calls.{depths_of};
+ghost use Rattle.nvme_ctrl_log.specs.Calls.{equal_depths};
+ghost use Rattle.nvme_slots.specs.Generations.{SameGenerations};
 ghost use Rattle.nvme_ctrl.specs.Own.{no_own, own_of};
-ghost use Rattle.nvme_ctrl.specs.inside.First.{IsFirst};
-ghost use Rattle.nvme_ctrl.specs.Making.{first_regions, admin_fault};
-ghost use Rattle.nvme_ctrl.specs.kept.Pool.{IsChain, slot_at};
-ghost use Rattle.nvme_ctrl.specs.Rings.{first_ring};
+ghost use Rattle.nvme_ctrl_log.specs.First.{IsFirst};
+ghost use Rattle.nvme_ctrl_log.specs.Making.{first_regions, admin_fault};
+ghost use Rattle.nvme_slots.specs.Pool.{IsChain, slot_at};
+ghost use Rattle.nvme_slots.specs.Rings.{first_ring};
 ghost use Rattle.nvme_ctrl.specs.kept.State.{no_sq_state, no_cq_state, no_deletion};
 
-use crate::chain::Chain;
 use crate::own::OwnCommands;
-use crate::ring::Ring;
-use crate::slot::{Slot, put_item, slot_at};
 use crate::state::{Controller, CqState, Deletion, SqState};
 use nvme_admin::{AdminError, Limits, MAX_REGIONS, Region};
 use nvme_arbiter::{BoardFields, Class, Mechanism, Settings};
 use nvme_placing::{PlacedTable, Placement};
+use nvme_slots::chain::Chain;
+use nvme_slots::ring::Ring;
+use nvme_slots::slot::{Slot, put_item, slot_at};
 
 impl Controller {
     ghost use Rattle.std.specs.Prelude.{◌≡◌, ℕ, ◌<◌, ◌^◌, ◌&&◌, true, false, Bool, List, [], ◌∷◌, length, OnOk, IfOk, OnErr, IfErr, Some, None};
     ghost use Rattle.nvme_admin.specs.History.{Submission, Completion};
     ghost use Rattle.nvme_log.specs.Rules.{FrontRules, sq_regions_of, cq_regions_of};
-    ghost use Rattle.nvme_ctrl.specs.Notes.{Notes};
+    ghost use Rattle.nvme_ctrl_log.specs.Notes.{Notes};
     ghost use Rattle.nvme_ctrl.specs.Standing.{Stands, IsController};
-    ghost use Rattle.nvme_ctrl.specs.Calls.{depths_of, equal_depths};
-    ghost use Rattle.nvme_ctrl.specs.Generations.{SameGenerations};
+    ghost use Rattle.nvme_ctrl.specs.Calls.{depths_of};
+    ghost use Rattle.nvme_ctrl_log.specs.Calls.{equal_depths};
+    ghost use Rattle.nvme_slots.specs.Generations.{SameGenerations};
     ghost use Rattle.nvme_ctrl.specs.Own.{no_own, own_of, with_opcode, with_feature};
     ghost use Rattle.nvme_placing.specs.Telling.{placing_by, is_ring_size};
     ghost use Rattle.nvme_admin.specs.declared.region.AdminError.TheVariants.{Size};
-    ghost use Rattle.nvme_ctrl.specs.Making.{first_rules, anywhere_rules, with_region, is_late, admin_fault, adding_fault};
-    ghost use Rattle.nvme_ctrl.specs.declared.slot.Slot.{Slot};
+    ghost use Rattle.nvme_ctrl_log.specs.Making.{first_rules, anywhere_rules, with_region, is_late, admin_fault, adding_fault};
+    ghost use Rattle.nvme_slots.specs.declared.slot.Slot.{Slot};
 
     /// A controller with its admin regions alone, region 0 of each kind, and with all slots of the pool free. The admin
     /// queues are open then. At most `depth` commands of each submission queue hold a slot (`set_depth`). Refused where both

@@ -4,9 +4,9 @@ ghost use Rattle.nvme_ctrl.specs.NextQueue.{turns_before};
 ghost use Rattle.nvme_ctrl.specs.inside.Turns.{HasNoTurn, IsNextTurn};
 
 use crate::queue_set::first_above;
-use crate::slot::Slot;
 use crate::state::Controller;
 use nvme_arbiter::HIGHEST_QID;
+use nvme_slots::slot::Slot;
 
 // The queue whose turn comes after so many others, after the last one's.
 fn at_turn(last: u16, turn: u16) -> u16
@@ -47,12 +47,13 @@ fn next_turn(set: u64, last: u16, turn: u16) -> Option<u16>
 impl Controller {
     ghost use Rattle.std.specs.Prelude.{◌≡◌, ℕ, Bool, List, length, min, None, IfSome};
     ghost use Rattle.nvme_log.specs.Rules.{FrontRules};
-    ghost use Rattle.nvme_ctrl.specs.Notes.{Notes};
+    ghost use Rattle.nvme_ctrl_log.specs.Notes.{Notes};
     ghost use Rattle.nvme_ctrl.specs.Standing.{Stands};
-    ghost use Rattle.nvme_ctrl.specs.Calls.{depth_of, MayFetch};
+    ghost use Rattle.nvme_ctrl.specs.Calls.{depth_of};
+    ghost use Rattle.nvme_ctrl_log.specs.Calls.{MayFetch};
     ghost use Rattle.nvme_ctrl.specs.Posts.{next_post_of};
     ghost use Rattle.nvme_ctrl.specs.NextQueue.{IsNextWith, HasFetch, HasPost};
-    ghost use Rattle.nvme_ctrl.specs.declared.slot.Slot.{Slot};
+    ghost use Rattle.nvme_slots.specs.declared.slot.Slot.{Slot};
 
     /// The next submission queue of which an entry may be fetched, and the slot of its ring, as `fetch` tells it. Queues
     /// take turns by ascending identifier, beginning behind `last`; 0 comes behind 64, and any `last` above is as 64. None

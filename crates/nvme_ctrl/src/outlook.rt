@@ -2,12 +2,12 @@
 ghost use Rattle.std.specs.Prelude.{◌≡◌, Some};
 ghost use Rattle.nvme_log.specs.Aborts.{is_abort_entry};
 
-use crate::slot::Slot;
 use crate::state::Controller;
 use arrayvec::ArrayVec;
 use nvme_arbiter::{Pick, QUEUE_LIMIT, Seen};
 use nvme_entry::{AdminCommand, Sqe, admin_of};
 use nvme_log::MAX_OUTSTANDING;
+use nvme_slots::slot::Slot;
 
 // Whether an entry of the admin queue is an Abort.
 fn is_abort(entry: &Sqe) -> bool
@@ -24,15 +24,15 @@ impl Controller {
     ghost use Rattle.nvme_log.specs.Completions.{outstanding};
     ghost use Rattle.nvme_log.specs.Limits.{max_outstanding};
     ghost use Rattle.nvme_log.specs.Queues.{is_closed_region, qid_of_region};
-    ghost use Rattle.nvme_ctrl.specs.Notes.{Notes, logged};
-    ghost use Rattle.nvme_ctrl.specs.Deletions.{IsDeletingSome};
-    ghost use Rattle.nvme_ctrl.specs.Laws.{NoneDeleting};
-    ghost use Rattle.nvme_ctrl.specs.Making.{placing_in};
-    ghost use Rattle.nvme_ctrl.specs.Observation.{observed_of};
+    ghost use Rattle.nvme_ctrl_log.specs.Notes.{Notes, logged};
+    ghost use Rattle.nvme_ctrl_log.specs.Deletions.{IsDeletingSome};
+    ghost use Rattle.nvme_ctrl_log.specs.Laws.{NoneDeleting};
+    ghost use Rattle.nvme_ctrl_log.specs.Making.{placing_in};
+    ghost use Rattle.nvme_ctrl_log.specs.Observation.{observed_of};
     ghost use Rattle.nvme_ctrl.specs.Outlook.{IsAllDone};
     ghost use Rattle.nvme_ctrl.specs.Standing.{Stands};
-    ghost use Rattle.nvme_ctrl.specs.Steps.{IsIdentifier};
-    ghost use Rattle.nvme_ctrl.specs.declared.slot.Slot.{Slot};
+    ghost use Rattle.nvme_ctrl_log.specs.Steps.{IsIdentifier};
+    ghost use Rattle.nvme_slots.specs.declared.slot.Slot.{Slot};
 
     /// What the next pick is shown: the open queues by ascending identifier, each as `seen` tells it. (Base Specification,
     /// Command Arbitration)

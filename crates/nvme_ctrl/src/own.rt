@@ -1,7 +1,8 @@
 // The admin commands that are the device's. (Base Specification, Opcodes for Admin Commands, Set Features and Get Features,
 // Feature Identifiers)
 ghost use Rattle.std.specs.Prelude.{◌≡◌, slice_set};
-ghost use Rattle.nvme_ctrl.specs.Own.{no_numbers, is_core_feature, selects};
+ghost use Rattle.nvme_ctrl.specs.Own.{no_numbers};
+ghost use Rattle.nvme_ctrl_log.specs.Own.{is_core_feature, selects};
 
 use nvme_entry::{AdminCommand, Sqe, admin_of};
 

@@ -1,9 +1,9 @@
 // The picks of a controller. (Base Specification, Command Arbitration)
-use crate::slot::{Slot, slot_at};
 use crate::state::Controller;
 use nvme_admin::Effect;
 use nvme_arbiter::Pick;
 use nvme_entry::{AdminCommand, Sqe, admin_of};
+use nvme_slots::slot::{Slot, slot_at};
 
 /// What a step of arbitration did.
 #[derive(Clone, Copy, Debug, PartialEq, Eq)]
@@ -29,22 +29,24 @@ impl Controller {
     ghost use Rattle.nvme_arbiter.specs.Queues.{seen_of};
     ghost use Rattle.nvme_arbiter.specs.Standing.{pick_of};
     ghost use Rattle.nvme_log.specs.Rules.{FrontRules};
-    ghost use Rattle.nvme_ctrl.specs.Notes.{Notes, logged};
+    ghost use Rattle.nvme_ctrl_log.specs.Notes.{Notes, logged};
     ghost use Rattle.nvme_ctrl.specs.Standing.{Stands, IsController, has_arbiter};
     ghost use Rattle.nvme_arbiter.specs.declared.pick.Pick.{Pick};
     ghost use Rattle.nvme_admin.specs.declared.effect.Effect.{Effect};
     ghost use Rattle.nvme_entry.specs.declared.submission.Sqe.{Sqe};
     ghost use Rattle.nvme_entry.specs.AdminCommand.{admin_command_of};
     ghost use Rattle.nvme_entry.specs.declared.admin.AdminCommand.TheVariants as command;
-    ghost use Rattle.nvme_ctrl.specs.Generations.{SameGenerations};
-    ghost use Rattle.nvme_ctrl.specs.Own.{names_none, is_own, own_of, oldest_is_own};
+    ghost use Rattle.nvme_slots.specs.Generations.{SameGenerations};
+    ghost use Rattle.nvme_ctrl_log.specs.Own.{names_none};
+    ghost use Rattle.nvme_ctrl.specs.Own.{is_own, own_of, oldest_is_own};
     ghost use Rattle.nvme_ctrl.specs.Calls.{depths_of};
     ghost use Rattle.nvme_placing.specs.Telling.{placing_of, unplaced_verdict};
-    ghost use Rattle.nvme_ctrl.specs.Making.{placing_in};
+    ghost use Rattle.nvme_ctrl_log.specs.Making.{placing_in};
     ghost use Rattle.nvme_admin.specs.Effects.{verdict_in};
-    ghost use Rattle.nvme_ctrl.specs.Steps.{IsNextPick, IsVerdictOf, IsBusy, HasStepped, HasPassed, HasDone, NamesQueues, NamesIdentifiers, PicksNone, picked_notes};
+    ghost use Rattle.nvme_ctrl_log.specs.Steps.{IsNextPick, IsVerdictOf, IsBusy, NamesQueues, NamesIdentifiers, picked_notes};
+    ghost use Rattle.nvme_ctrl.specs.Steps.{HasStepped, HasPassed, HasDone, PicksNone};
     ghost use Rattle.nvme_ctrl.specs.inside.Picks.{CanPickNow, oldest_entry};
-    ghost use Rattle.nvme_ctrl.specs.declared.slot.Slot.{Slot};
+    ghost use Rattle.nvme_slots.specs.declared.slot.Slot.{Slot};
     ghost use Rattle.nvme_ctrl.specs.declared.picks.Step.TheVariants as step;
 
     /// Whether what arbitration keeps is in its ranges. That of a controller always is.

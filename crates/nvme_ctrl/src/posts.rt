@@ -1,9 +1,9 @@
 // The posts of a controller. (Base Specification, Completion Queue Entry, Phase Tag)
 use crate::queue_set::{has_queue, with_queue};
-use crate::slot::{DROPPED, FREE, Slot, put_state, slot_at};
 use crate::state::{Controller, CqState};
-use crate::status_flags::StatusFlags;
+use nvme_ctrl_log::StatusFlags;
 use nvme_entry::{Cqe, Status};
+use nvme_slots::slot::{DROPPED, FREE, Slot, put_state, slot_at};
 
 /// A completion to write into a slot of the ring of a completion queue.
 #[derive(Clone, Copy, Debug, PartialEq, Eq)]
@@ -23,7 +23,7 @@ pub struct Post {
 impl CqState {
     ghost use Rattle.std.specs.Prelude.{◌≡◌, ℕ, ◌+◌, ◌<◌, ◌==◌};
     ghost use Rattle.nvme_log.specs.Completions.{phase_after};
-    ghost use Rattle.nvme_ctrl.specs.Rings.{HasCounts};
+    ghost use Rattle.nvme_slots.specs.Rings.{HasCounts};
 
     // A completion was written into the slot at the tail. The phase tag turns where the tail comes round to the first slot.
     fn write(&mut self)
@@ -40,17 +40,18 @@ impl CqState {
 }
 
 impl Controller {
-    ghost use Rattle.nvme_ctrl.specs.Generations.{SameGenerations};
+    ghost use Rattle.nvme_slots.specs.Generations.{SameGenerations};
     ghost use Rattle.nvme_ctrl.specs.Own.{own_of};
     ghost use Rattle.std.specs.Prelude.{◌≡◌, ℕ, Bool, true, false, List, ◌∷◌, length, None, Some, IfSome};
     ghost use Rattle.nvme_log.specs.Rules.{FrontRules};
     ghost use Rattle.nvme_log.specs.Queues.{open_cq};
-    ghost use Rattle.nvme_ctrl.specs.Notes.{Notes, logged};
+    ghost use Rattle.nvme_ctrl_log.specs.Notes.{Notes, logged};
     ghost use Rattle.nvme_ctrl.specs.Standing.{Stands, IsController};
     ghost use Rattle.nvme_ctrl.specs.Calls.{depths_of, HasPosted};
-    ghost use Rattle.nvme_ctrl.specs.Posts.{NonePostable, IsPostOf, completion_of, next_post_of};
-    ghost use Rattle.nvme_ctrl.specs.kept.Pool.{slot_at};
-    ghost use Rattle.nvme_ctrl.specs.declared.slot.Slot.{Slot};
+    ghost use Rattle.nvme_ctrl_log.specs.Posts.{NonePostable};
+    ghost use Rattle.nvme_ctrl.specs.Posts.{IsPostOf, completion_of, next_post_of};
+    ghost use Rattle.nvme_slots.specs.Pool.{slot_at};
+    ghost use Rattle.nvme_slots.specs.declared.slot.Slot.{Slot};
     ghost use Rattle.nvme_ctrl.specs.inside.Posting.{counted_post};
 
     // The completion queue entry of a command that ended.

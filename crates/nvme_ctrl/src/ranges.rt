@@ -3,11 +3,11 @@ ghost use Rattle.std.specs.Prelude.{◌≡◌};
 ghost use Rattle.std.specs.List.{list_all};
 ghost use Rattle.nvme_ctrl.specs.Ranges.{is_item, is_placed, is_link, is_chain, is_ring, is_attached, is_sq, is_cq, is_deletion};
 
-use crate::chain::Chain;
-use crate::ring::Ring;
-use crate::slot::{ANSWERED, DELETING, DROPPED, FREE, OUT, Slot, WAITING, slot_at};
 use crate::state::{Controller, CqState, Deletion, SqState};
 use nvme_admin::MAX_REGIONS;
+use nvme_slots::chain::Chain;
+use nvme_slots::ring::Ring;
+use nvme_slots::slot::{ANSWERED, DELETING, DROPPED, FREE, OUT, Slot, WAITING, slot_at};
 
 impl Controller {
     ghost use Rattle.std.specs.Prelude.{◌≡◌, true};

@@ -2,13 +2,13 @@
 ghost use Rattle.std.specs.Prelude.{◌≡◌, slice_set};
 ghost use Rattle.nvme_ctrl.specs.kept.State.{sq_at, cq_at, deletion_at};
 
-use crate::chain::Chain;
 use crate::own::OwnCommands;
-use crate::ring::Ring;
-use crate::slot::Slot;
 use nvme_admin::MAX_REGIONS;
 use nvme_arbiter::BoardFields;
 use nvme_placing::PlacedTable;
+use nvme_slots::chain::Chain;
+use nvme_slots::ring::Ring;
+use nvme_slots::slot::Slot;
 
 /// A submission queue, open or closing: its ring, of which the controller reads, the chain of its commands that are
 /// picked and not taken, and then of those that wait, the number of picked or aborted commands with no completion
@@ -140,7 +140,7 @@ impl Deletion {
 impl Controller {
     ghost use Rattle.std.specs.Prelude.{◌≡◌, None, slice_set};
     ghost use Rattle.nvme_ctrl.specs.Calls.{depth_of};
-    ghost use Rattle.nvme_ctrl.specs.kept.Pool.{SameItems, pushed, longer, first_of, shorter};
+    ghost use Rattle.nvme_slots.specs.Pool.{SameItems, pushed, longer, first_of, shorter};
     ghost use Rattle.nvme_ctrl.specs.kept.State.{sq_at, cq_at, deletion_at, picked_in};
 
     /// The state of a submission queue.

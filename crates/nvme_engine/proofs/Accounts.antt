@@ -14,11 +14,11 @@ use Rattle.nvme_log.specs.Account.{LeavesPlaces}
 use Rattle.nvme_log.specs.AnswerLaws.{IsAnsweredPick}
 use Rattle.nvme_log.proofs.AnswerLaws.{answers_by_outcome_are_accounted}
 use Rattle.nvme_log.proofs.Prefixes.{IsPrefix-refl}
-use Rattle.nvme_ctrl.specs.Notes.{Notes, logged}
-use Rattle.nvme_ctrl.specs.Tags.{answer_or, answers}
-use Rattle.nvme_ctrl.specs.Account.{IsAccount}
-use Rattle.nvme_ctrl.proofs.Accounted.{events_are_accounted}
-use Rattle.nvme_ctrl.proofs.Served.{posted-served}
+use Rattle.nvme_ctrl_log.specs.Notes.{Notes, logged}
+use Rattle.nvme_ctrl_log.specs.Tags.{answer_or, answers}
+use Rattle.nvme_ctrl_log.specs.Account.{IsAccount}
+use Rattle.nvme_ctrl_log.proofs.Accounted.{events_are_accounted}
+use Rattle.nvme_ctrl_log.proofs.Served.{posted-served}
 use Rattle.nvme_engine.specs.Laws.{EnginesKeepAccounts}
 use Rattle.nvme_engine.specs.Standing.{StandsAt}
 use Rattle.nvme_engine.specs.declared.engine.Engine.{Engine}

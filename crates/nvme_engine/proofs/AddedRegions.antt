@@ -10,18 +10,18 @@ use Rattle.nvme_admin.specs.declared.region.Region.{Region}
 use Rattle.nvme_admin.specs.declared.region.AdminError.{AdminError}
 use Rattle.nvme_admin.specs.declared.region.AdminError.TheVariants.{Used, TooMany, Size}
 use Rattle.nvme_log.specs.Rules.{FrontRules, sq_regions_of, cq_regions_of, slots_at}
-use Rattle.nvme_ctrl.specs.Notes.{Notes, logged}
-use Rattle.nvme_ctrl.specs.Doorbells.{submitted, consumed}
+use Rattle.nvme_ctrl_log.specs.Notes.{Notes, logged}
+use Rattle.nvme_ctrl_log.specs.Doorbells.{submitted, consumed}
 use Rattle.nvme_ctrl.specs.Calls.{depths_of}
-use Rattle.nvme_ctrl.specs.Making.{with_region, is_late, is_named, adding_fault, placing_in, regions_of}
+use Rattle.nvme_ctrl_log.specs.Making.{with_region, is_late, is_named, adding_fault, placing_in, regions_of}
 use Rattle.nvme_ctrl.specs.Own.{own_of}
 use Rattle.nvme_ctrl.specs.Standing.{Stands}
-use Rattle.nvme_ctrl.specs.declared.slot.Slot.{Slot}
+use Rattle.nvme_slots.specs.declared.slot.Slot.{Slot}
 use Rattle.nvme_ctrl.specs.declared.state.Controller.{Controller}
-use Rattle.nvme_ctrl.specs.kept.Content.{Attachment}
-use Rattle.nvme_ctrl.specs.kept.Standing.{is_opened_cq}
-use Rattle.nvme_ctrl.proofs.AddedTables.{slots_last, slots_other, sq-more, sq-same, cq-more, cq-same}
-use Rattle.nvme_ctrl.proofs.DoorbellCounts.{submitted_same, submitted_none, consumed_same, consumed_none}
+use Rattle.nvme_ctrl_content.specs.Content.{Attachment}
+use Rattle.nvme_ctrl_log.specs.Regions.{is_opened_cq}
+use Rattle.nvme_ctrl_log.proofs.AddedTables.{slots_last, slots_other, sq-more, sq-same, cq-more, cq-same}
+use Rattle.nvme_ctrl_log.proofs.DoorbellCounts.{submitted_same, submitted_none, consumed_same, consumed_none}
 use Rattle.nvme_engine.proofs.Places.{places_with}
 use Rattle.nvme_engine.specs.Standing.{AreAlike, HaveRings, StandsAt}
 use Rattle.nvme_engine.specs.declared.engine.Engine.{Engine}

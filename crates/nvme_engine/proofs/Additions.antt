@@ -8,7 +8,7 @@ use Rattle.nvme_admin.specs.QueueTable.{QueueTable, table_in, io_sq_in, io_cq_in
 use Rattle.nvme_admin.specs.Accepted.{effects_of, queue_table}
 use Rattle.nvme_admin.specs.declared.region.Region.{Region}
 use Rattle.nvme_log.specs.Rules.{FrontRules}
-use Rattle.nvme_ctrl.specs.Making.{is_named, step_names, placing_in as placing_of}
+use Rattle.nvme_ctrl_log.specs.Making.{is_named, step_names, placing_in as placing_of}
 use Rattle.nvme_engine.specs.Regions.{is_addition, only_adds}
 
 -- the submission regions that a history adds, the first one first

@@ -16,10 +16,10 @@ use Rattle.nvme_log.specs.Queues.{Queue, Deletion, open_sq, open_cq, has_region,
 use Rattle.nvme_log.specs.Places.{waiting}
 use Rattle.nvme_log.specs.Effects.{named, closing_of, closed_cq_of, abort_in, target_of, made_by}
 use Rattle.nvme_log.specs.Account.{latest_admin_place}
-use Rattle.nvme_ctrl.specs.kept.Content.{Content}
-use Rattle.nvme_ctrl.specs.kept.Standing.{Holds}
-use Rattle.nvme_ctrl.proofs.AfterSteps.{with_events}
-use Rattle.nvme_ctrl.proofs.OpenQueues.{any_upto}
+use Rattle.nvme_ctrl_content.specs.Content.{Content}
+use Rattle.nvme_ctrl_content.specs.Standing.{Holds}
+use Rattle.nvme_ctrl_log.proofs.LaterEvents.{with_events}
+use Rattle.nvme_ctrl_content.proofs.OpenQueues.{any_upto}
 use Rattle.nvme_engine.specs.Standing.{BeginsAlone, ServesItsQueues, DeletesItsQueue}
 
 -- ---- the same queues

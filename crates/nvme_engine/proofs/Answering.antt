@@ -9,10 +9,10 @@ use Rattle.nvme_log.specs.Rules.{FrontRules}
 use Rattle.nvme_log.specs.Places.{entry_at}
 use Rattle.nvme_log.specs.Answers as log
 use Rattle.nvme_log.specs.declared.place.Place.{Place}
-use Rattle.nvme_ctrl.specs.Notes.{Notes, Answered, Flagged, logged}
-use Rattle.nvme_ctrl.specs.Tags.{holder, answer_of}
+use Rattle.nvme_ctrl_log.specs.Notes.{Notes, Answered, Flagged, logged}
+use Rattle.nvme_ctrl_log.specs.Tags.{holder, answer_of}
 use Rattle.nvme_ctrl.specs.Standing as ctrl
-use Rattle.nvme_ctrl.specs.declared.status_flags.StatusFlags.{StatusFlags}
+use Rattle.nvme_ctrl_log.specs.declared.status_flags.StatusFlags.{StatusFlags}
 use Rattle.nvme_engine.specs.Standing.{StandsAt, AnswersByOutcome}
 use Rattle.nvme_engine.specs.Calls.{HasAnswered}
 use Rattle.nvme_engine.specs.declared.engine.Engine.{Engine}

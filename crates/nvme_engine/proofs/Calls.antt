@@ -5,9 +5,9 @@ use Rattle.std.specs.Vec.{with_items}
 use Rattle.std.proofs.Math.Nat.{ℕ_set}
 use Rattle.nvme_ctrl.specs.Calls.{depths_of}
 use Rattle.nvme_ctrl.specs.Own.{own_of}
-use Rattle.nvme_ctrl.specs.Notes.{Notes}
+use Rattle.nvme_ctrl_log.specs.Notes.{Notes}
 use Rattle.nvme_ctrl.specs.Standing.{Stands}
-use Rattle.nvme_ctrl.specs.declared.slot.Slot.{Slot}
+use Rattle.nvme_slots.specs.declared.slot.Slot.{Slot}
 use Rattle.nvme_ctrl.specs.declared.state.Controller.{Controller}
 use Rattle.nvme_log.specs.Rules.{FrontRules, Past}
 use Rattle.std.specs.Prelude.{Bool}

@@ -10,13 +10,13 @@ use Rattle.nvme_admin.specs.History.{Start, TableHistory, Placing, Submission, C
 use Rattle.nvme_admin.specs.QueueTable.{QueueTable, region_number, number_by, placing_in, created_in, cq_regions_in, cq_named_in}
 use Rattle.nvme_admin.specs.Accepted.{effects_of, queue_table}
 use Rattle.nvme_log.specs.Rules.{FrontRules, cq_regions_of}
-use Rattle.nvme_ctrl.specs.Making.{placing_in as placing_of}
-use Rattle.nvme_ctrl.specs.Notes.{Notes, logged}
-use Rattle.nvme_ctrl.specs.declared.slot.Slot.{Slot}
+use Rattle.nvme_ctrl_log.specs.Making.{placing_in as placing_of}
+use Rattle.nvme_ctrl_log.specs.Notes.{Notes, logged}
+use Rattle.nvme_slots.specs.declared.slot.Slot.{Slot}
 use Rattle.nvme_ctrl.specs.declared.state.Controller.{Controller}
 use Rattle.nvme_ctrl.specs.kept.Kept.{StandsAt}
-use Rattle.nvme_ctrl.specs.kept.Standing.{is_opened_cq}
-use Rattle.nvme_ctrl.specs.kept.Content.{Attachment}
+use Rattle.nvme_ctrl_log.specs.Regions.{is_opened_cq}
+use Rattle.nvme_ctrl_content.specs.Content.{Attachment}
 
 -- a region that a Create named is one of those that were there
 number_below : (regions : List Region) (prp1 : ℕ) (x : ℕ) → region_number regions prp1 ≡ Some x → x < length regions

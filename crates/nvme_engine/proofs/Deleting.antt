@@ -7,9 +7,9 @@ use Rattle.nvme_log.specs.Rules.{Past}
 use Rattle.nvme_log.specs.Queues.{Deletion, pending}
 use Rattle.nvme_log.specs.Aborts.{is_index}
 use Rattle.nvme_log.specs.Account.{deleting_place}
-use Rattle.nvme_ctrl.specs.Notes.{Notes, logged}
-use Rattle.nvme_ctrl.specs.Deletions.{deleting}
-use Rattle.nvme_ctrl.specs.Laws.{NoneDeleting}
+use Rattle.nvme_ctrl_log.specs.Notes.{Notes, logged}
+use Rattle.nvme_ctrl_log.specs.Deletions.{deleting}
+use Rattle.nvme_ctrl_log.specs.Laws.{NoneDeleting}
 use Rattle.nvme_engine.specs.Standing.{IsPlain}
 use Rattle.nvme_engine.proofs.OneDeletion.{deleting_is_pending, pending_is_deleting}
 

@@ -17,11 +17,11 @@ use Rattle.nvme_log.specs.Places.{fetched, waiting, entry_at}
 use Rattle.nvme_log.specs.Effects.{has_cid, named, abort_in, abort_of}
 use Rattle.nvme_log.specs.declared.place.Place.{Place}
 use Rattle.nvme_log.proofs.Waiting.{waiting-below}
-use Rattle.nvme_ctrl.specs.Notes.{Notes, logged}
-use Rattle.nvme_ctrl.specs.kept.Content.{Attachment, Candidate}
-use Rattle.nvme_ctrl.specs.Waits.{WaitsAt}
+use Rattle.nvme_ctrl_log.specs.Notes.{Notes, logged}
+use Rattle.nvme_ctrl_content.specs.Content.{Attachment, Candidate}
+use Rattle.nvme_ctrl_log.specs.Waits.{WaitsAt}
 use Rattle.nvme_ctrl.proofs.CarryAbort.{target_is}
-use Rattle.nvme_ctrl.proofs.OpenQueues.{admin_is_open}
+use Rattle.nvme_ctrl_content.proofs.OpenQueues.{admin_is_open}
 use Rattle.nvme_engine.specs.Standing.{StandsBut}
 use Rattle.nvme_engine.specs.Making.{IsEnding}
 use Rattle.nvme_engine.specs.declared.admin.Ending.TheVariants.{Nothing}

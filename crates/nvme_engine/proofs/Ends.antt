@@ -11,12 +11,12 @@ use Rattle.nvme_log.specs.Queues.{Deletion, pending, is_deleted_region, is_open_
 use Rattle.nvme_log.specs.Places.{fate_of, is_waiting, places, waiting}
 use Rattle.nvme_log.specs.Completions.{is_posted, unposted_of}
 use Rattle.nvme_log.specs.Answers as log
-use Rattle.nvme_ctrl.specs.Notes.{Notes, Logged, Answered, logged}
-use Rattle.nvme_ctrl.specs.Tags.{answer_of}
-use Rattle.nvme_ctrl.specs.Deletions.{deleting}
+use Rattle.nvme_ctrl_log.specs.Notes.{Notes, Logged, Answered, logged}
+use Rattle.nvme_ctrl_log.specs.Tags.{answer_of}
+use Rattle.nvme_ctrl_log.specs.Deletions.{deleting}
 use Rattle.nvme_ctrl.specs.Standing as ctrl
-use Rattle.nvme_ctrl.specs.kept.Content.{Candidate, PendingDelete}
-use Rattle.nvme_ctrl.specs.declared.slot.Slot.{Slot}
+use Rattle.nvme_ctrl_content.specs.Content.{Candidate, PendingDelete}
+use Rattle.nvme_slots.specs.declared.slot.Slot.{Slot}
 use Rattle.nvme_ctrl.specs.declared.state.Controller.{Controller}
 use Rattle.nvme_engine.proofs.Places.{places_closed}
 use Rattle.nvme_engine.specs.Standing.{StandsAt, AnswersByOutcome, ServesItsQueues}

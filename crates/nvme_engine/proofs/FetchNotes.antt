@@ -17,17 +17,18 @@ use Rattle.nvme_log.specs.Queues.{Queue, is_closed_region}
 use Rattle.nvme_log.specs.Places.{fetched, waiting, entry_at}
 use Rattle.nvme_log.specs.Completions.{unposted_of}
 use Rattle.nvme_log.proofs.Waiting.{fetched-fetch, fetched-fetch_other}
-use Rattle.nvme_ctrl.specs.Notes.{Notes, Logged, Tail, Kept, logged}
-use Rattle.nvme_ctrl.specs.Doorbells.{gap, sq_slots, submitted}
-use Rattle.nvme_ctrl.specs.Tags.{answer_of, cookie_of, all_fetches, all_posts}
+use Rattle.nvme_ctrl_log.specs.Notes.{Notes, Logged, Tail, Kept, logged}
+use Rattle.nvme_ctrl_log.specs.Doorbells.{gap, sq_slots, submitted}
+use Rattle.nvme_ctrl_log.specs.Tags.{answer_of, cookie_of, all_fetches, all_posts}
+use Rattle.nvme_ctrl_log.specs.Calls as calls_in_log
 use Rattle.nvme_ctrl.specs.Calls as calls
-use Rattle.nvme_ctrl.specs.Laws.{NoneDeleting}
+use Rattle.nvme_ctrl_log.specs.Laws.{NoneDeleting}
 use Rattle.nvme_ctrl.specs.Standing.{Stands}
 use Rattle.nvme_ctrl.specs.declared.state.Controller.{Controller}
-use Rattle.nvme_ctrl.proofs.FewUnposted.{few_unposted}
+use Rattle.nvme_ctrl_content.proofs.FewUnposted.{few_unposted}
 use Rattle.nvme_ctrl.proofs.HeldSlots.{few_hold_slots, not_deleted}
-use Rattle.nvme_ctrl.proofs.OpenQueues.{open_region, not_closed_region}
-use Rattle.nvme_ctrl.proofs.Sums.{sum_below}
+use Rattle.nvme_ctrl_content.proofs.OpenQueues.{open_region, not_closed_region}
+use Rattle.nvme_ctrl_log.proofs.Sums.{sum_below}
 use Rattle.nvme_engine.specs.Calls.{MayFetch, HasFetched}
 use Rattle.nvme_engine.specs.Standing.{StandsAt, HasPlaces, AnswersByOutcome, pool_size, queue_depth}
 use Rattle.nvme_engine.specs.declared.engine.Engine.{Engine}
@@ -73,7 +74,7 @@ module _ (rules : FrontRules) (late : Bool) (notes : Notes) (e : Engine) (s : St
       ∙ (λ i. s.rung m.queue.region i + gap (slots_are i) (s.rung m.queue.region i % slots_are i) ((m.next i + 1) % slots))
       ∙ ap (λ (x : ℕ). n + x) (gap-one slots n ring)
 
-  pub is_tail : calls.IsTailOf s.their notes qid ((index + 1) % slots)
+  pub is_tail : calls_in_log.IsTailOf s.their notes qid ((index + 1) % slots)
   is_tail = record {
     queue = m.queue;
     is_open = m.is_open;
@@ -116,7 +117,7 @@ module _ (rules : FrontRules) (late : Bool) (notes : Notes) (e : Engine) (s : St
 
   -- so the controller may fetch it, once its doorbell is rung
   pub may_fetch : (c : Controller) → calls.depths_of c ≡ calls.depths_of e.controller
-      → calls.MayFetch s.their (Tail m.queue.region ((index + 1) % slots) ∷ notes) (calls.depth_of c qid) (length e.slots.items) qid
+      → calls_in_log.MayFetch s.their (Tail m.queue.region ((index + 1) % slots) ∷ notes) (calls.depth_of c qid) (length e.slots.items) qid
       (length (fetched (logged notes) m.queue.region) % sq_slots s.their m.queue.region)
   may_fetch c depths = record {
     queue = m.queue;

@@ -10,8 +10,9 @@ use Rattle.nvme_admin.specs.declared.region.Region.{Region}
 use Rattle.nvme_admin.specs.declared.region.AdminError.TheVariants.{Used, Size}
 use Rattle.nvme_log.specs.Rules.{FrontRules, sq_regions_of, cq_regions_of, slots_at}
 use Rattle.nvme_log.specs.Queues.{admin_queue, is_serving}
-use Rattle.nvme_ctrl.specs.Calls.{depths_of, equal_depths}
-use Rattle.nvme_ctrl.specs.Making.{first_rules, admin_fault}
+use Rattle.nvme_ctrl.specs.Calls.{depths_of}
+use Rattle.nvme_ctrl_log.specs.Calls.{equal_depths}
+use Rattle.nvme_ctrl_log.specs.Making.{first_rules, admin_fault}
 use Rattle.nvme_ctrl.specs.Own.{no_own, own_of}
 use Rattle.nvme_ctrl.specs.Standing.{Stands}
 use Rattle.nvme_engine.proofs.Places.{no_places}

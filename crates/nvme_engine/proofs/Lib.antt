@@ -1,29 +1,29 @@
 pub mod Additions
-pub mod Controllers
+mod Controllers
 pub mod OneDeletion
-pub mod Turn
-pub mod FetchNotes
-pub mod CompletionRegions
-pub mod AddedRegions
-pub mod Fresh
+mod Turn
+mod FetchNotes
+mod CompletionRegions
+mod AddedRegions
+mod Fresh
 pub mod Accounts
 pub mod Reordered
-pub mod Calls
-pub mod Deleting
-pub mod Takes
-pub mod Answering
-pub mod Reading
-pub mod Posting
-pub mod PostSteps
-pub mod Ends
-pub mod Serving
-pub mod MadePlaces
-pub mod NextPicks
-pub mod QuietNotes
-pub mod NoneOwn
-pub mod Endings
-pub mod AdminQueues
-pub mod OpenBounds
-pub mod Observed
-pub mod PickCalls
-pub mod Places
+mod Calls
+mod Deleting
+mod Takes
+mod Answering
+mod Reading
+mod Posting
+mod PostSteps
+mod Ends
+mod Serving
+mod MadePlaces
+mod NextPicks
+mod QuietNotes
+mod NoneOwn
+mod Endings
+mod AdminQueues
+mod OpenBounds
+mod Observed
+mod PickCalls
+mod Places

@@ -17,17 +17,17 @@ use Rattle.nvme_log.specs.Places.{fetched, waiting, entry_at, fate_of, is_waitin
 use Rattle.nvme_log.specs.Queues.{Queue, admin_queue, open_sq, open_cq}
 use Rattle.nvme_log.specs.Rules.{FrontRules, Past, sq_regions_of}
 use Rattle.nvme_log.proofs.Waiting.{waiting-abort, waiting-below}
-use Rattle.nvme_ctrl.specs.kept.Content.{Content}
-use Rattle.nvme_ctrl.specs.kept.Standing.{Holds, hand_of}
-use Rattle.nvme_ctrl.proofs.ServedPlaces.{aborts-leave}
-use Rattle.nvme_ctrl.proofs.AbortCounts.{outstanding-abort, outstanding-oldest}
-use Rattle.nvme_ctrl.proofs.AdminPick.{other_region, target_region, others_wait, others_fate}
-use Rattle.nvme_ctrl.proofs.AfterSteps.{with_events}
-use Rattle.nvme_ctrl.proofs.Counts.{outstanding-pick, region_there}
-use Rattle.nvme_ctrl.proofs.OpenQueues.{admin_is_open}
-use Rattle.nvme_ctrl.proofs.OwnStatus.{waiting_wait}
-use Rattle.nvme_ctrl.proofs.PostedPlaces.{posted_served, waiting_unposted}
-use Rattle.nvme_ctrl.proofs.Regions.{target_is}
+use Rattle.nvme_ctrl_content.specs.Content.{Content}
+use Rattle.nvme_ctrl_content.specs.Standing.{Holds, hand_of}
+use Rattle.nvme_ctrl_log.proofs.ServedPlaces.{aborts-leave}
+use Rattle.nvme_ctrl_log.proofs.AbortCounts.{outstanding-abort, outstanding-oldest}
+use Rattle.nvme_ctrl_content.proofs.AdminPick.{other_region, target_region, others_wait, others_fate}
+use Rattle.nvme_ctrl_log.proofs.LaterEvents.{with_events}
+use Rattle.nvme_ctrl_content.proofs.Counts.{outstanding-pick, region_there}
+use Rattle.nvme_ctrl_content.proofs.OpenQueues.{admin_is_open}
+use Rattle.nvme_ctrl_log.proofs.AbortsLeave.{waiting_wait}
+use Rattle.nvme_ctrl_content.proofs.PostedPlaces.{posted_served, waiting_unposted}
+use Rattle.nvme_ctrl_log.proofs.AbortTargets.{target_is}
 use Rattle.nvme_engine.specs.Standing.{HasPlaces}
 
 -- ---- a pick

@@ -18,21 +18,21 @@ use Rattle.nvme_log.specs.declared.place.Place.{Place}
 use Rattle.nvme_log.proofs.LoadedPlaces.{seen-in}
 use Rattle.nvme_log.proofs.Members.{IsIn}
 use Rattle.nvme_log.specs.declared.event.Event.TheVariants as event
-use Rattle.nvme_ctrl.specs.Notes.{Notes, Logged, logged}
-use Rattle.nvme_ctrl.specs.Observation.{observed_of}
-use Rattle.nvme_ctrl.specs.Steps.{IsNextPick, IsNextWithin, picked_notes}
-use Rattle.nvme_ctrl.proofs.Arranged.{observed_as_in_the_log}
+use Rattle.nvme_ctrl_log.specs.Notes.{Notes, Logged, logged}
+use Rattle.nvme_ctrl_log.specs.Observation.{observed_of}
+use Rattle.nvme_ctrl_log.specs.Steps.{IsNextPick, IsNextWithin, picked_notes}
+use Rattle.nvme_ctrl_log.proofs.Arranged.{observed_as_in_the_log}
 use Rattle.nvme_ctrl.proofs.PickCall.{saw_board}
 use Rattle.nvme_arbiter.specs.Queues.{seen_of}
 use Rattle.nvme_arbiter.proofs.PickLaws.{whole_is_limited}
-use Rattle.nvme_ctrl.specs.kept.Content.{Content}
-use Rattle.nvme_ctrl.proofs.Observing.{IsPickable, pickable, seen_is_observed}
+use Rattle.nvme_ctrl_content.specs.Content.{Content}
+use Rattle.nvme_ctrl_content.proofs.Observing.{IsPickable, pickable, seen_is_observed}
 use Rattle.nvme_engine.specs.Standing.{StandsBut, IsEngine}
 use Rattle.nvme_engine.proofs.Controllers.{is_controller}
 use Rattle.nvme_engine.specs.Calls.{next_of, seen_notes}
 use Rattle.nvme_engine.specs.declared.engine.Engine.{Engine}
 use Rattle.nvme_ctrl.specs.Standing.{Stands, IsController}
-use Rattle.nvme_ctrl.specs.declared.slot.Slot.{Slot}
+use Rattle.nvme_slots.specs.declared.slot.Slot.{Slot}
 
 -- an engine's controller stands with its slots
 pub controller_of : (e : Engine) → IsEngine e → (slots : List Slot) → slots ≡ e.slots.items → IsController e.controller slots

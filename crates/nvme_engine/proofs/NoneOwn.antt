@@ -10,8 +10,9 @@ use Rattle.nvme_entry.specs.declared.admin.AdminCommand.TheVariants as command
 use Rattle.nvme_entry.specs.declared.submission.Sqe.{Sqe}
 use Rattle.nvme_log.specs.Rules.{Past}
 use Rattle.nvme_log.specs.Histories.{admin_entry}
-use Rattle.nvme_ctrl.specs.Notes.{Notes, logged}
-use Rattle.nvme_ctrl.specs.Own.{has_number, no_numbers, no_own, kind_may_be_own, is_announced, names_none, is_own, oldest_is_own}
+use Rattle.nvme_ctrl_log.specs.Notes.{Notes, logged}
+use Rattle.nvme_ctrl.specs.Own.{has_number, no_numbers, no_own, is_announced, is_own, oldest_is_own}
+use Rattle.nvme_ctrl_log.specs.Own.{kind_may_be_own, names_none}
 
 none_set : (n : ℕ) → get_or no_numbers n 0 ≡ 0
 none_set n = elim (cases_lt n 256) [

@@ -9,8 +9,8 @@ use Rattle.nvme_arbiter.specs.declared.pick.Seen.{Seen}
 use Rattle.nvme_log.specs.Rules.{Past, upto}
 use Rattle.nvme_log.specs.Queues.{Queue, open_sq}
 use Rattle.nvme_log.specs.Places.{seen_as}
-use Rattle.nvme_ctrl.specs.Notes.{Notes, logged}
-use Rattle.nvme_ctrl.specs.Observation.{shown, shown_as, seen_in, observed_of}
+use Rattle.nvme_ctrl_log.specs.Notes.{Notes, logged}
+use Rattle.nvme_ctrl_log.specs.Observation.{shown, shown_as, seen_in, observed_of}
 
 -- what is seen of one queue, as a list
 abbrev one_seen : Option Seen → List Seen

@@ -6,8 +6,8 @@ use Rattle.nvme_log.specs.declared.event.Event.TheVariants.{Closing, ClosedSq}
 use Rattle.nvme_log.specs.Rules.{Past, Each}
 use Rattle.nvme_log.specs.Queues.{Deletion, pending}
 use Rattle.nvme_log.specs.Account.{Deletes, deleting_place, latest_admin_place}
-use Rattle.nvme_ctrl.specs.Deletions.{deleting}
-use Rattle.nvme_ctrl.specs.Laws.{NoneDeleting}
+use Rattle.nvme_ctrl_log.specs.Deletions.{deleting}
+use Rattle.nvme_ctrl_log.specs.Laws.{NoneDeleting}
 use Rattle.nvme_engine.specs.Standing.{BeginsAlone}
 
 -- the deletion of a region is the pending one, begun by the command of this place

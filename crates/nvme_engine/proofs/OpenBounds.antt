@@ -8,11 +8,11 @@ use Rattle.nvme_log.specs.declared.event.Event.{Event}
 use Rattle.nvme_log.specs.declared.event.Event.TheVariants as event
 use Rattle.nvme_log.specs.Rules.{FrontRules, Past}
 use Rattle.nvme_log.specs.Queues.{Queue, open_sq, open_cq}
-use Rattle.nvme_ctrl.specs.Notes.{Notes, logged}
+use Rattle.nvme_ctrl_log.specs.Notes.{Notes, logged}
 use Rattle.nvme_ctrl.specs.Standing.{Stands}
-use Rattle.nvme_ctrl.specs.declared.slot.Slot.{Slot}
+use Rattle.nvme_slots.specs.declared.slot.Slot.{Slot}
 use Rattle.nvme_ctrl.specs.declared.state.Controller.{Controller}
-use Rattle.nvme_ctrl.proofs.AfterSteps.{with_events}
+use Rattle.nvme_ctrl_log.proofs.LaterEvents.{with_events}
 use Rattle.nvme_engine.specs.Making.{made_in, dropped_in, aborted_in, above_opened}
 use Rattle.nvme_engine.specs.Standing.{OpensBelow}
 use Rattle.nvme_engine.specs.declared.admin.Ending.{Ending}

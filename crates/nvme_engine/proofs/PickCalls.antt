@@ -25,29 +25,30 @@ use Rattle.nvme_log.specs.Effects.{is_effect, made_by, closing_of, closed_cq_of}
 use Rattle.nvme_log.specs.Dispatches.{dispatched_by}
 use Rattle.nvme_log.specs.Account.{Deletes}
 use Rattle.nvme_log.specs.declared.place.Place.{Place}
-use Rattle.nvme_ctrl.specs.inside.Next.{EachNext}
-use Rattle.nvme_ctrl.specs.Notes.{Notes, logged}
-use Rattle.nvme_ctrl.specs.Deletions.{FollowsDeletions}
-use Rattle.nvme_ctrl.specs.Making.{placing_in, placed, placed_by}
+use Rattle.nvme_ctrl_log.specs.Next.{EachNext}
+use Rattle.nvme_ctrl_log.specs.Notes.{Notes, logged}
+use Rattle.nvme_ctrl_log.specs.Deletions.{FollowsDeletions}
+use Rattle.nvme_ctrl_log.specs.Making.{placing_in, placed, placed_by}
 use Rattle.nvme_ctrl.specs.Own.{own_of, oldest_is_own}
 use Rattle.nvme_ctrl.specs.declared.own.OwnCommands.{OwnCommands}
-use Rattle.nvme_ctrl.specs.Tags.{handed, taken}
-use Rattle.nvme_ctrl.specs.Steps.{IsNextPick, LacksRoom, HasStepped, HasDone, NamesQueues, IsVerdictOf, with_logged, with_answer}
+use Rattle.nvme_ctrl_log.specs.Tags.{handed, taken}
+use Rattle.nvme_ctrl_log.specs.Steps.{IsNextPick, LacksRoom, NamesQueues, IsVerdictOf, with_logged, with_answer}
+use Rattle.nvme_ctrl.specs.Steps.{HasStepped, HasDone}
 use Rattle.nvme_ctrl.specs.Standing as ctrl
 use Rattle.nvme_ctrl.specs.declared.picks.Step.{Step}
 use Rattle.nvme_ctrl.specs.declared.picks.Step.TheVariants as step
-use Rattle.nvme_ctrl.specs.kept.Standing.{Holds}
-use Rattle.nvme_ctrl.proofs.AfterSteps.{with_events}
-use Rattle.nvme_ctrl.proofs.DeletedQueues.{undeleted_region}
-use Rattle.nvme_ctrl.proofs.EffectEvents.{AreEffects, made_are_effects, made_delete}
+use Rattle.nvme_ctrl_content.specs.Standing.{Holds}
+use Rattle.nvme_ctrl_log.proofs.LaterEvents.{with_events}
+use Rattle.nvme_ctrl_content.proofs.DeletedQueues.{undeleted_region}
+use Rattle.nvme_ctrl_log.proofs.EffectEvents.{AreEffects, made_are_effects, made_delete}
 use Rattle.nvme_ctrl.proofs.LaterNotes.{logged-with}
-use Rattle.nvme_ctrl.proofs.OpenQueues.{not_closed_region}
+use Rattle.nvme_ctrl_content.proofs.OpenQueues.{not_closed_region}
 use Rattle.nvme_log.specs.Aborts.{took_abort, is_abort_entry, places_for}
 use Rattle.nvme_log.specs.Completions.{outstanding}
 use Rattle.nvme_log.specs.Limits.{max_outstanding}
 use Rattle.nvme_log.specs.Places.{observation_of}
 use Rattle.nvme_log.proofs.AbortEntries.{delete_is_no_abort}
-use Rattle.nvme_ctrl.proofs.Observing.{IsPickable}
+use Rattle.nvme_ctrl_content.proofs.Observing.{IsPickable}
 use Rattle.nvme_engine.proofs.MadePlaces.{picked_leaves, made_leave_places}
 use Rattle.nvme_engine.specs.Standing.{OpensBelow, StandsAt, HasPlaces, BeginsAlone, ServesItsQueues, DeletesItsQueue}
 use Rattle.nvme_engine.specs.Calls.{MayPick, HasPicked, HasCarriedOut, seen_notes}

@@ -13,18 +13,18 @@ use Rattle.nvme_log.specs.Places.{fetched, waiting, places}
 use Rattle.nvme_log.specs.Queues.{Queue, open_sq}
 use Rattle.nvme_log.specs.Rules.{FrontRules, Past, Each, upto, sq_regions_of, slots_at}
 use Rattle.nvme_log.proofs.Counting.{counts_less}
-use Rattle.nvme_ctrl.specs.kept.Content.{Candidate, Content}
-use Rattle.nvme_ctrl.specs.kept.Standing.{Holds}
-use Rattle.nvme_ctrl.specs.Making.{with_region}
+use Rattle.nvme_ctrl_content.specs.Content.{Candidate, Content}
+use Rattle.nvme_ctrl_content.specs.Standing.{Holds}
+use Rattle.nvme_ctrl_log.specs.Making.{with_region}
 use Rattle.nvme_admin.specs.History.{Kind, Submission, Completion}
-use Rattle.nvme_ctrl.proofs.AddedTables.{sq-more, cq-same}
-use Rattle.nvme_ctrl.proofs.AfterSteps.{CanFetch}
-use Rattle.nvme_ctrl.proofs.Counts.{counts-fetch}
-use Rattle.nvme_ctrl.proofs.FurtherAccounts.{fetched-before}
-use Rattle.nvme_ctrl.proofs.Growing.{sum_by-further}
+use Rattle.nvme_ctrl_log.proofs.AddedTables.{sq-more, cq-same}
+use Rattle.nvme_ctrl_content.proofs.AfterSteps.{CanFetch}
+use Rattle.nvme_ctrl_content.proofs.Counts.{counts-fetch}
+use Rattle.nvme_ctrl_log.proofs.FurtherAccounts.{fetched-before}
+use Rattle.nvme_ctrl_log.proofs.Growing.{sum_by-further}
 use Rattle.nvme_ctrl.proofs.HeldSlots.{fetched_none}
-use Rattle.nvme_ctrl.proofs.Regions.{regions-fetch}
-use Rattle.nvme_ctrl.proofs.Sums.{sum_less, sum_none}
+use Rattle.nvme_ctrl_content.proofs.Regions.{regions-fetch}
+use Rattle.nvme_ctrl_log.proofs.Sums.{sum_less, sum_none}
 use Rattle.nvme_engine.specs.Standing.{HasPlaces}
 
 -- before the first event none is

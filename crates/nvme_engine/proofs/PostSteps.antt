@@ -7,13 +7,14 @@ use Rattle.nvme_log.specs.declared.event.Event.TheVariants as event
 use Rattle.nvme_log.specs.Rules.{FrontRules, cq_regions_of, slots_at}
 use Rattle.nvme_log.specs.Queues.{open_cq, is_closed_region, qid_of_region}
 use Rattle.nvme_log.specs.Completions.{posted_to}
-use Rattle.nvme_ctrl.specs.Notes.{Notes, Logged, Head, logged}
-use Rattle.nvme_ctrl.specs.Doorbells.{cq_slots}
-use Rattle.nvme_ctrl.specs.Calls.{IsHeadOf, HeadRung, HasPosted}
-use Rattle.nvme_ctrl.specs.Making.{placing_in}
+use Rattle.nvme_ctrl_log.specs.Notes.{Notes, Logged, Head, logged}
+use Rattle.nvme_ctrl_log.specs.Doorbells.{cq_slots}
+use Rattle.nvme_ctrl_log.specs.Calls.{IsHeadOf}
+use Rattle.nvme_ctrl.specs.Calls.{HeadRung, HasPosted}
+use Rattle.nvme_ctrl_log.specs.Making.{placing_in}
 use Rattle.nvme_ctrl.specs.Standing.{Stands}
 use Rattle.nvme_ctrl.specs.Posts.{next_post_of}
-use Rattle.nvme_ctrl.specs.declared.slot.Slot.{Slot}
+use Rattle.nvme_slots.specs.declared.slot.Slot.{Slot}
 use Rattle.nvme_ctrl.specs.declared.posts.Post.{Post}
 use Rattle.nvme_ctrl.specs.declared.state.Controller.{Controller}
 use Rattle.nvme_engine.specs.Standing.{StandsAt}

@@ -13,19 +13,20 @@ use Rattle.nvme_log.specs.Aborts.{is_index}
 use Rattle.nvme_log.specs.Completions.{is_posted, posts_of, posted_to}
 use Rattle.nvme_log.specs.Account.{deleting_place}
 use Rattle.nvme_log.proofs.Posts.{posts_of-some}
-use Rattle.nvme_ctrl.specs.Notes.{Notes, Logged, Head, logged}
-use Rattle.nvme_ctrl.specs.Doorbells.{gap, cq_slots, consumed}
-use Rattle.nvme_ctrl.specs.Calls.{IsHeadOf}
-use Rattle.nvme_ctrl.specs.Tags.{cookie_of, is_through}
-use Rattle.nvme_ctrl.specs.Posts.{NonePostable, AllPosted, next_post_of}
+use Rattle.nvme_ctrl_log.specs.Notes.{Notes, Logged, Head, logged}
+use Rattle.nvme_ctrl_log.specs.Doorbells.{gap, cq_slots, consumed}
+use Rattle.nvme_ctrl_log.specs.Calls.{IsHeadOf}
+use Rattle.nvme_ctrl_log.specs.Tags.{cookie_of, is_through}
+use Rattle.nvme_ctrl_log.specs.Posts.{NonePostable, AllPosted}
+use Rattle.nvme_ctrl.specs.Posts.{next_post_of}
 use Rattle.nvme_ctrl.specs.Standing as ctrl
-use Rattle.nvme_ctrl.specs.kept.Standing.{times_ready, times_held, hand_of}
-use Rattle.nvme_ctrl.specs.declared.slot.Slot.{Slot}
+use Rattle.nvme_ctrl_content.specs.Standing.{times_ready, times_held, hand_of}
+use Rattle.nvme_slots.specs.declared.slot.Slot.{Slot}
 use Rattle.nvme_ctrl.specs.declared.state.Controller.{Controller}
 use Rattle.nvme_ctrl.proofs.NoPosts.{none_postable}
 use Rattle.nvme_ctrl.proofs.DoorbellCalls.{cq_is_open}
-use Rattle.nvme_ctrl.proofs.DeletedQueues.{unheld_undeleting}
-use Rattle.nvme_ctrl.proofs.Readying.{unposted-counts}
+use Rattle.nvme_ctrl_content.proofs.DeletedQueues.{unheld_undeleting}
+use Rattle.nvme_ctrl_log.proofs.Readying.{unposted-counts}
 use Rattle.nvme_engine.proofs.Places.{places_posted}
 use Rattle.nvme_engine.specs.Standing.{StandsAt}
 use Rattle.nvme_engine.specs.Calls.{HasPosted}

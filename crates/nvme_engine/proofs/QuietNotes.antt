@@ -19,13 +19,13 @@ use Rattle.nvme_log.specs.Answers.{Answer}
 use Rattle.nvme_log.specs.Effects.{is_effect}
 use Rattle.nvme_log.specs.Account.{Deletes}
 use Rattle.nvme_log.specs.declared.place.Place.{Place}
-use Rattle.nvme_ctrl.specs.Notes.{Notes, Logged, logged}
-use Rattle.nvme_ctrl.specs.Doorbells.{submitted, consumed}
-use Rattle.nvme_ctrl.specs.Tags.{handed, taken, is_passed, answer_of, cookie_of}
-use Rattle.nvme_ctrl.specs.Observation.{is_arrangement}
-use Rattle.nvme_ctrl.specs.Steps.{with_logged, with_answer}
+use Rattle.nvme_ctrl_log.specs.Notes.{Notes, Logged, logged}
+use Rattle.nvme_ctrl_log.specs.Doorbells.{submitted, consumed}
+use Rattle.nvme_ctrl_log.specs.Tags.{handed, taken, is_passed, answer_of, cookie_of}
+use Rattle.nvme_ctrl_log.specs.Observation.{is_arrangement}
+use Rattle.nvme_ctrl_log.specs.Steps.{with_logged, with_answer}
 use Rattle.nvme_ctrl.specs.Standing as ctrl
-use Rattle.nvme_ctrl.proofs.EffectEvents.{AreEffects}
+use Rattle.nvme_ctrl_log.proofs.EffectEvents.{AreEffects}
 use Rattle.nvme_engine.specs.Standing.{OpensBelow, StandsBut, HasPlaces, IsPlain, BeginsAlone, ServesItsQueues, DeletesItsQueue}
 use Rattle.nvme_engine.specs.declared.engine.Engine.{Engine}
 use Rattle.nvme_engine.proofs.Calls.{Leaves, same_pool}

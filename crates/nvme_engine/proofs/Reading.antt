@@ -1,8 +1,8 @@
 -- The head doorbell follows a post.
 use Rattle.std.proofs.Common.{◌≡◌, ℕ, ◌+◌, ◌≤◌, ◌%◌, Bool, if◌then◌else◌, ◌∷◌, refl, ap, ◌∙◌, arith, eq-eqb}
 use Rattle.nvme_log.specs.Rules.{FrontRules}
-use Rattle.nvme_ctrl.specs.Notes.{Notes, Head}
-use Rattle.nvme_ctrl.specs.Doorbells.{gap, cq_slots, consumed}
+use Rattle.nvme_ctrl_log.specs.Notes.{Notes, Head}
+use Rattle.nvme_ctrl_log.specs.Doorbells.{gap, cq_slots, consumed}
 use Rattle.nvme_engine.proofs.Turn.{gap-one, next-slot}
 
 -- from the slot of a count to the one after it it is one slot

@@ -9,7 +9,7 @@ use Rattle.nvme_admin.specs.declared.region.Region.{Region}
 use Rattle.nvme_log.specs.Answers.{outcome_answer}
 use Rattle.nvme_log.specs.Rules.{FrontRules, sq_regions_of, cq_regions_of}
 use Rattle.nvme_log.specs.declared.place.Place.{Place}
-use Rattle.nvme_ctrl.specs.Notes.{Notes}
+use Rattle.nvme_ctrl_log.specs.Notes.{Notes}
 use Rattle.nvme_ctrl.specs.Standing.{Stands}
 use Rattle.nvme_ctrl.proofs.Reordered as ctrl
 use Rattle.nvme_engine.proofs.Places.{no_places}

@@ -10,11 +10,11 @@ use Rattle.nvme_log.specs.Rules.{FrontRules, Past, upto}
 use Rattle.nvme_log.specs.Queues.{Queue, Deletion, open_sq, has_region, pending, is_deleted_region, is_open_region, is_closed_region, is_serving, qid_of_region}
 use Rattle.nvme_log.specs.Completions.{unposted_of}
 use Rattle.nvme_log.specs.Account.{IsClear}
-use Rattle.nvme_ctrl.specs.Notes.{Notes, logged}
-use Rattle.nvme_ctrl.specs.Deletions.{IsDeletingSome}
-use Rattle.nvme_ctrl.specs.Laws.{NoneDeleting}
+use Rattle.nvme_ctrl_log.specs.Notes.{Notes, logged}
+use Rattle.nvme_ctrl_log.specs.Deletions.{IsDeletingSome}
+use Rattle.nvme_ctrl_log.specs.Laws.{NoneDeleting}
 use Rattle.nvme_ctrl.specs.Outlook.{IsAllDone}
-use Rattle.nvme_ctrl.specs.Steps.{NoneFinishable, IsFinishableAt}
+use Rattle.nvme_ctrl_log.specs.Steps.{NoneFinishable, IsFinishableAt}
 use Rattle.nvme_engine.specs.Standing.{StandsAt, IsPlain}
 use Rattle.nvme_engine.specs.declared.engine.Engine.{Engine}
 use Rattle.nvme_engine.proofs.Deleting.{none_pending, has_deleter}

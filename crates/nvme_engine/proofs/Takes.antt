@@ -8,11 +8,11 @@ use Rattle.nvme_log.specs.Rules.{FrontRules}
 use Rattle.nvme_log.specs.Places.{fetched, entry_at}
 use Rattle.nvme_log.specs.declared.place.Place.{Place}
 use Rattle.nvme_log.specs.Dispatches.{place_at}
-use Rattle.nvme_ctrl.specs.Notes.{Notes, Taken, logged}
-use Rattle.nvme_ctrl.specs.Tags.{handed, taken, holder, is_out, is_unanswered, answer_of, cookie_of}
+use Rattle.nvme_ctrl_log.specs.Notes.{Notes, Taken, logged}
+use Rattle.nvme_ctrl_log.specs.Tags.{handed, taken, holder, is_out, is_unanswered, answer_of, cookie_of}
 use Rattle.nvme_ctrl.specs.Standing as ctrl
 use Rattle.nvme_ctrl.specs.kept.Kept.{places_of, untaken}
-use Rattle.nvme_ctrl.specs.declared.slot.Slot.{Slot}
+use Rattle.nvme_slots.specs.declared.slot.Slot.{Slot}
 use Rattle.nvme_ctrl.specs.declared.state.Controller.{Controller}
 use Rattle.nvme_engine.specs.Standing.{StandsBut}
 use Rattle.nvme_engine.specs.Calls.{HasTaken}

@@ -3,8 +3,8 @@ use Rattle.std.proofs.Common.{◌≡◌, ℕ, ◌+◌, ◌*◌, ◌/◌, ◌<◌
 use Rattle.std.proofs.Math.Nat.{mod-eq_of_lt}
 use Rattle.std.proofs.lemmas.Bool.{cases_lt}
 use Rattle.std.proofs.lemmas.Nat.{mod-mul-add, mod_below}
-use Rattle.nvme_ctrl.specs.Doorbells.{gap}
-use Rattle.nvme_ctrl.proofs.Turns.{filled-is}
+use Rattle.nvme_ctrl_log.specs.Doorbells.{gap}
+use Rattle.nvme_slots.proofs.Turns.{filled-is}
 
 -- from the slot of a count to the next one it is one slot
 pub gap-one : (s n : ℕ) → 2 ≤ s → gap s (n % s) ((n + 1) % s) ≡ 1

@@ -19,11 +19,11 @@ use Rattle.nvme_log.specs.Dispatches.{dispatched_by}
 use Rattle.nvme_log.specs.Completions.{outstanding}
 use Rattle.nvme_log.specs.Effects.{made_by}
 use Rattle.nvme_log.specs.Answers.{Answer}
-use Rattle.nvme_ctrl.specs.Notes.{Notes, Logged, Tail, Head, Kept, Taken, Answered, Flagged, logged}
-use Rattle.nvme_ctrl.specs.Steps.{with_logged, with_answer}
-use Rattle.nvme_ctrl.specs.Tags.{holder, answer_of, is_through}
+use Rattle.nvme_ctrl_log.specs.Notes.{Notes, Logged, Tail, Head, Kept, Taken, Answered, Flagged, logged}
+use Rattle.nvme_ctrl_log.specs.Steps.{with_logged, with_answer}
+use Rattle.nvme_ctrl_log.specs.Tags.{holder, answer_of, is_through}
 use Rattle.nvme_ctrl.specs.Posts.{next_post_of}
-use Rattle.nvme_ctrl.specs.declared.status_flags.StatusFlags.{StatusFlags}
+use Rattle.nvme_ctrl_log.specs.declared.status_flags.StatusFlags.{StatusFlags}
 use Rattle.nvme_ctrl.specs.declared.posts.Post.{Post}
 use Rattle.nvme_engine.specs.Standing.{StandsBut, StandsAt}
 use Rattle.nvme_engine.specs.declared.engine.Engine.{Engine}

@@ -16,14 +16,15 @@ use Rattle.nvme_log.specs.Answers.{Answer, outcome_answer}
 use Rattle.nvme_log.specs.Account.{Deletes, LeavesPlaces, latest_admin_place}
 use Rattle.nvme_log.specs.declared.event.Event.{Event}
 use Rattle.nvme_log.specs.declared.event.Event.TheVariants.{Closing}
-use Rattle.nvme_ctrl.specs.Notes.{Notes, logged}
-use Rattle.nvme_ctrl.specs.Doorbells.{submitted, consumed}
-use Rattle.nvme_ctrl.specs.Tags.{handed, taken, answer_of, cookie_of}
-use Rattle.nvme_ctrl.specs.Observation.{NoneArranged}
+use Rattle.nvme_ctrl_log.specs.Notes.{Notes, logged}
+use Rattle.nvme_ctrl_log.specs.Doorbells.{submitted, consumed}
+use Rattle.nvme_ctrl_log.specs.Tags.{handed, taken, answer_of, cookie_of}
+use Rattle.nvme_ctrl_log.specs.Observation.{NoneArranged}
 use Rattle.nvme_engine.specs.Regions.{only_adds}
 use Rattle.nvme_ctrl.specs.Own.{no_own, own_of}
-use Rattle.nvme_ctrl.specs.Calls.{depths_of, equal_depths}
-use Rattle.nvme_ctrl.specs.Laws.{NonePassed}
+use Rattle.nvme_ctrl.specs.Calls.{depths_of}
+use Rattle.nvme_ctrl_log.specs.Calls.{equal_depths}
+use Rattle.nvme_ctrl_log.specs.Laws.{NonePassed}
 use Rattle.nvme_ctrl.specs.Standing as ctrl
 use Rattle.nvme_engine.specs.declared.engine.Engine.{Engine}
 

@@ -92,7 +92,7 @@ impl Engine {
     ghost use Rattle.nvme_log.specs.Effects.{named, abort_of};
     ghost use Rattle.nvme_entry.specs.AdminCommand.{admin_command_of};
     ghost use Rattle.nvme_entry.specs.declared.submission.Sqe.{Sqe};
-    ghost use Rattle.nvme_ctrl.specs.Notes.{Notes, logged};
+    ghost use Rattle.nvme_ctrl_log.specs.Notes.{Notes, logged};
     ghost use Rattle.nvme_engine.specs.Standing.{StandsAt, IsEngine};
     ghost use Rattle.nvme_engine.specs.Calls.{MayPick, HasCarriedOut};
     ghost use Rattle.nvme_engine.specs.Making.{aborted_in, IsEnding};

@@ -18,8 +18,8 @@ impl Engine {
     ghost use Rattle.nvme_log.specs.Rules.{FrontRules};
     ghost use Rattle.nvme_log.specs.Places.{entry_at};
     ghost use Rattle.nvme_log.specs.declared.place.Place.{Place};
-    ghost use Rattle.nvme_ctrl.specs.Notes.{Notes, logged};
-    ghost use Rattle.nvme_ctrl.specs.Tags.{holder, is_out};
+    ghost use Rattle.nvme_ctrl_log.specs.Notes.{Notes, logged};
+    ghost use Rattle.nvme_ctrl_log.specs.Tags.{holder, is_out};
     ghost use Rattle.nvme_engine.specs.Standing.{StandsAt, StandsBut, IsEngine};
     ghost use Rattle.nvme_engine.specs.Calls.{HasTaken, HasAnswered};
 

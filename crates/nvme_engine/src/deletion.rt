@@ -13,7 +13,7 @@ impl Engine {
     ghost use Rattle.nvme_log.specs.Rules.{FrontRules};
     ghost use Rattle.nvme_log.specs.Queues.{Deletion, pending};
     ghost use Rattle.nvme_log.specs.Completions.{unposted_of};
-    ghost use Rattle.nvme_ctrl.specs.Notes.{Notes, logged};
+    ghost use Rattle.nvme_ctrl_log.specs.Notes.{Notes, logged};
     ghost use Rattle.nvme_engine.specs.Standing.{StandsAt, IsEngine};
     ghost use Rattle.nvme_engine.specs.Calls.{HasFinished};
 

@@ -37,8 +37,8 @@ impl Engine {
     ghost use Rattle.std.specs.Prelude.{◌≡◌, ◌≢◌, ℕ, ◌+◌, ◌<◌, ◌≤◌, ◌==◌, true, false, Bool, List, [], length, OnOk, IfOk, OnErr, IfErr, None, Some};
     ghost use Rattle.nvme_admin.specs.History.{Submission, Completion};
     ghost use Rattle.nvme_log.specs.Rules.{FrontRules, sq_regions_of, cq_regions_of};
-    ghost use Rattle.nvme_ctrl.specs.Notes.{Notes, logged};
-    ghost use Rattle.nvme_ctrl.specs.Making.{first_rules, with_region, admin_fault, adding_fault};
+    ghost use Rattle.nvme_ctrl_log.specs.Notes.{Notes, logged};
+    ghost use Rattle.nvme_ctrl_log.specs.Making.{first_rules, with_region, admin_fault, adding_fault};
     ghost use Rattle.nvme_engine.specs.Standing.{StandsAt, IsEngine, HasPool};
 
     /// A controller that waits for its admin regions, without slots.

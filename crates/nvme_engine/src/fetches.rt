@@ -5,7 +5,7 @@ use nvme_entry::Sqe;
 impl Engine {
     ghost use Rattle.std.specs.Prelude.{◌≡◌, ℕ, ◌+◌, ◌<◌, ◌%◌, Bool};
     ghost use Rattle.nvme_log.specs.Rules.{FrontRules};
-    ghost use Rattle.nvme_ctrl.specs.Notes.{Notes};
+    ghost use Rattle.nvme_ctrl_log.specs.Notes.{Notes};
     ghost use Rattle.nvme_engine.specs.Standing.{StandsAt, IsEngine};
     ghost use Rattle.nvme_engine.specs.Calls.{MayFetch, HasFetched};
 

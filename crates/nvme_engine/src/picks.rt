@@ -11,7 +11,7 @@ impl Engine {
     ghost use Rattle.nvme_log.specs.Places.{observation_of};
     ghost use Rattle.nvme_log.specs.Aborts.{places_for};
     ghost use Rattle.nvme_log.specs.Completions.{outstanding};
-    ghost use Rattle.nvme_ctrl.specs.Notes.{Notes, logged};
+    ghost use Rattle.nvme_ctrl_log.specs.Notes.{Notes, logged};
     ghost use Rattle.nvme_engine.specs.Standing.{StandsAt, IsEngine};
     ghost use Rattle.nvme_engine.specs.Calls.{next_of, MayPick, HasPicked};
 

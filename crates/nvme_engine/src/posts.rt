@@ -8,8 +8,8 @@ impl Engine {
     ghost use Rattle.nvme_entry.specs.declared.completion.Cqe.{Cqe};
     ghost use Rattle.nvme_log.specs.Rules.{FrontRules, cq_regions_of, slots_at};
     ghost use Rattle.nvme_log.specs.Queues.{open_cq};
-    ghost use Rattle.nvme_ctrl.specs.Notes.{Notes, logged};
-    ghost use Rattle.nvme_ctrl.specs.Posts.{AllPosted};
+    ghost use Rattle.nvme_ctrl_log.specs.Notes.{Notes, logged};
+    ghost use Rattle.nvme_ctrl_log.specs.Posts.{AllPosted};
     ghost use Rattle.nvme_engine.specs.Standing.{StandsAt, IsEngine};
     ghost use Rattle.nvme_engine.specs.Calls.{next_cqe, HasPosted};
 

@@ -8,7 +8,7 @@ impl Engine {
     ghost use Rattle.nvme_log.specs.Queues.{Queue, open_sq, open_cq, is_serving, qid_of_region, is_closed_region};
     ghost use Rattle.nvme_log.specs.Places.{waiting};
     ghost use Rattle.nvme_log.specs.Account.{IsClear};
-    ghost use Rattle.nvme_ctrl.specs.Notes.{Notes, logged};
+    ghost use Rattle.nvme_ctrl_log.specs.Notes.{Notes, logged};
     ghost use Rattle.nvme_engine.specs.Standing.{StandsAt};
 
     /// The region of an open submission queue.

@@ -14,10 +14,10 @@ use Rattle.nvme_log.specs.Limits.{max_outstanding}
 use Rattle.nvme_log.specs.Places.{fetched}
 use Rattle.nvme_log.specs.Completions.{posted_to}
 use Rattle.nvme_log.specs.Rules.{FrontRules, Past}
-use Rattle.nvme_ctrl.specs.Making.{with_region}
-use Rattle.nvme_ctrl.specs.Notes.{Notes}
-use Rattle.nvme_ctrl.specs.kept.Pool.{IsNew, AreApart}
-use Rattle.nvme_ctrl.proofs.Pools.{IsNew-head, IsNew-tail, IsNew-append, IsNew-cons, IsNew-left, IsNew-right, AreApart-push}
+use Rattle.nvme_ctrl_log.specs.Making.{with_region}
+use Rattle.nvme_ctrl_log.specs.Notes.{Notes}
+use Rattle.nvme_slots.specs.Pool.{IsNew, AreApart}
+use Rattle.nvme_slots.proofs.Pools.{IsNew-head, IsNew-tail, IsNew-append, IsNew-cons, IsNew-left, IsNew-right, AreApart-push}
 use Rattle.nvme_engine.specs.Standing.{StandsAt, HasPool}
 use Rattle.nvme_engine.specs.declared.engine.Engine.{Engine}
 use Rattle.nvme_jobs.specs.inside.Jobs.{JobsView}

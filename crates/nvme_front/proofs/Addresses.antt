@@ -15,9 +15,9 @@ use Rattle.nvme_admin.specs.declared.bounds.TheConstants.{MAX_REGIONS, MIN_SLOTS
 use Rattle.nvme_admin.specs.declared.region.Region.{Region}
 use Rattle.nvme_admin.specs.declared.region.AdminError.TheVariants.{Used, TooMany, Size}
 use Rattle.nvme_log.specs.Rules.{sq_regions_of, cq_regions_of}
-use Rattle.nvme_ctrl.specs.Making.{adding_fault, is_region, regions_of}
-use Rattle.nvme_ctrl.specs.kept.Pool.{IsNew}
-use Rattle.nvme_ctrl.proofs.Pools.{IsNew-nil, IsNew-cons, IsNew-head, IsNew-tail, IsNew-left, IsNew-right}
+use Rattle.nvme_ctrl_log.specs.Making.{adding_fault, is_region, regions_of}
+use Rattle.nvme_slots.specs.Pool.{IsNew}
+use Rattle.nvme_slots.proofs.Pools.{IsNew-nil, IsNew-cons, IsNew-head, IsNew-tail, IsNew-left, IsNew-right}
 use Rattle.nvme_engine.proofs.Additions.{on_regions}
 use Rattle.nvme_front.specs.declared.region.SqRegion.{SqRegion}
 use Rattle.nvme_front.specs.declared.state.FrontState.{FrontState}

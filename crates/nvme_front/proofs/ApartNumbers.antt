@@ -5,7 +5,7 @@ use Rattle.std.specs.List.Sorted.{IsPermutation}
 use Rattle.std.proofs.lemmas.Bool.{cases_eq, eqb-false, ne_eqb}
 use Rattle.std.proofs.lemmas.List.Elements.{All-weaker, recursion_from_All, All-from_recursion}
 use Rattle.std.proofs.lemmas.Map.Keys.{IsDistinct-IsPermutation}
-use Rattle.nvme_ctrl.specs.kept.Pool.{AreApart}
+use Rattle.nvme_slots.specs.Pool.{AreApart}
 
 -- numbers are apart just where they are distinct
 distinct : (xs : List ℕ) → AreApart xs → IsDistinct eqb xs

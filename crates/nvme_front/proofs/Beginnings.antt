@@ -10,9 +10,9 @@ use Rattle.nvme_admin.specs.declared.bounds.TheConstants.{MAX_REGIONS, MIN_SLOTS
 use Rattle.nvme_admin.specs.declared.region.Region.{Region}
 use Rattle.nvme_admin.specs.declared.region.AdminError.TheVariants.{Used, Size}
 use Rattle.nvme_log.specs.Rules.{sq_regions_of, cq_regions_of}
-use Rattle.nvme_ctrl.specs.Making.{with_region, first_rules, admin_fault, adding_fault}
-use Rattle.nvme_ctrl.specs.kept.Pool.{IsNew, AreApart}
-use Rattle.nvme_ctrl.proofs.Pools.{IsNew-head, IsNew-left, IsNew-right, IsNew-append, IsNew-others}
+use Rattle.nvme_ctrl_log.specs.Making.{with_region, first_rules, admin_fault, adding_fault}
+use Rattle.nvme_slots.specs.Pool.{IsNew, AreApart}
+use Rattle.nvme_slots.proofs.Pools.{IsNew-head, IsNew-left, IsNew-right, IsNew-append, IsNew-others}
 use Rattle.nvme_engine.specs.Standing.{StandsAt}
 use Rattle.nvme_engine.specs.declared.engine.Engine.{Engine}
 use Rattle.nvme_front.specs.declared.region.SqRegion.{SqRegion}

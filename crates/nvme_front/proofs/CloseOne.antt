@@ -14,7 +14,7 @@ use Rattle.nvme_log.specs.Queues.{Deletion, pending}
 use Rattle.nvme_log.specs.Rules.{Past}
 use Rattle.nvme_log.proofs.Members.{IsIn, in-all, in-filter}
 use Rattle.nvme_log.proofs.Waiting.{upto-below}
-use Rattle.nvme_ctrl.specs.Notes.{Notes, Logged, Answered, logged}
+use Rattle.nvme_ctrl_log.specs.Notes.{Notes, Logged, Answered, logged}
 use Rattle.nvme_engine.specs.Calls.{HasFinished}
 use Rattle.nvme_engine.specs.Standing.{StandsAt}
 use Rattle.nvme_jobs.specs.inside.Standing.{HoldsJobs}

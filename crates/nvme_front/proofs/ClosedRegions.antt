@@ -13,7 +13,7 @@ use Rattle.nvme_log.specs.Completions.{is_posted}
 use Rattle.nvme_log.specs.Account.{Deletes}
 use Rattle.nvme_log.specs.Dispatches.{dispatched, place_at}
 use Rattle.nvme_log.proofs.Posts.{all_below}
-use Rattle.nvme_log.proofs.Tickets.{job_there}
+use Rattle.nvme_jobs.proofs.Tickets.{job_there}
 use Rattle.nvme_jobs.specs.Hands.{in_hand, is_in_hand, job_in}
 use Rattle.nvme_jobs.specs.JobAccount.{HasItsTicket}
 use Rattle.nvme_jobs.specs.declared.dispatched.Dispatched.{Dispatched}

@@ -11,9 +11,9 @@ use Rattle.nvme_log.specs.Places.{is_served}
 use Rattle.nvme_log.specs.Queues.{cq_region_of, open_cq}
 use Rattle.nvme_log.specs.Rules.{Past}
 use Rattle.nvme_log.specs.declared.place.Place.{Place}
-use Rattle.nvme_ctrl.specs.Notes.{logged}
-use Rattle.nvme_ctrl.specs.Posts.{AllPosted}
-use Rattle.nvme_ctrl.specs.Tags.{handed, taken, holder, is_through}
+use Rattle.nvme_ctrl_log.specs.Notes.{logged}
+use Rattle.nvme_ctrl_log.specs.Posts.{AllPosted}
+use Rattle.nvme_ctrl_log.specs.Tags.{handed, taken, holder, is_through}
 use Rattle.nvme_ctrl.proofs.OpenRegions.{IsOpenOn, cq_is_open}
 use Rattle.nvme_ctrl.proofs.UnpostedPlaces.{served_is}
 use Rattle.nvme_engine.proofs.OneDeletion.{deleting_is_pending}

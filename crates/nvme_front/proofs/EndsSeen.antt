@@ -10,7 +10,7 @@ use Rattle.nvme_log.specs.Rules.{Past}
 use Rattle.nvme_log.specs.Places.{fetched}
 use Rattle.nvme_log.specs.Completions.{posted_to}
 use Rattle.nvme_log.specs.Account.{IsAccount}
-use Rattle.nvme_ctrl.specs.Notes.{logged}
+use Rattle.nvme_ctrl_log.specs.Notes.{logged}
 use Rattle.nvme_engine.proofs.Accounts.{engines_keep_accounts}
 use Rattle.nvme_front.specs.inside.State.{rules_of, past_of, view_of}
 use Rattle.nvme_front.specs.inside.Room.{IsConsistent, IsRunning}

@@ -20,12 +20,12 @@ use Rattle.nvme_log.specs.Queues.{Queue, admin_queue, open_sq, qid_of_region}
 use Rattle.nvme_log.specs.Places.{fetched, waiting, picked, places, unaborted_below, observation_of}
 use Rattle.nvme_log.specs.Histories.{arbitration_of}
 use Rattle.nvme_log.specs.Completions.{outstanding, takes_place, is_posted}
-use Rattle.nvme_ctrl.specs.Notes.{Notes, logged}
-use Rattle.nvme_ctrl.specs.Tags.{is_out}
-use Rattle.nvme_ctrl.specs.kept.Content.{Attachment, Candidate}
-use Rattle.nvme_ctrl.specs.kept.Pool.{AreApart}
-use Rattle.nvme_ctrl.proofs.Arranged.{observed_as_in_the_log}
-use Rattle.nvme_ctrl.proofs.OpenQueues.{admin_is_open}
+use Rattle.nvme_ctrl_log.specs.Notes.{Notes, logged}
+use Rattle.nvme_ctrl_log.specs.Tags.{is_out}
+use Rattle.nvme_ctrl_content.specs.Content.{Attachment, Candidate}
+use Rattle.nvme_slots.specs.Pool.{AreApart}
+use Rattle.nvme_ctrl_log.proofs.Arranged.{observed_as_in_the_log}
+use Rattle.nvme_ctrl_content.proofs.OpenQueues.{admin_is_open}
 use Rattle.nvme_ctrl.proofs.OutPlaces.{few_out}
 use Rattle.nvme_ctrl.proofs.PickCall.{saw_board}
 use Rattle.nvme_engine.specs.Calls.{next_of}

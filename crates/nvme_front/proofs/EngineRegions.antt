@@ -3,7 +3,7 @@ use Rattle.std.proofs.Common.{◌≡◌, Bool, true, [], ap}
 use Rattle.nvme_admin.specs.Accepted.{queue_table}
 use Rattle.nvme_admin.specs.QueueTable.{QueueTable}
 use Rattle.nvme_log.specs.Rules.{FrontRules}
-use Rattle.nvme_ctrl.specs.Notes.{Notes}
+use Rattle.nvme_ctrl_log.specs.Notes.{Notes}
 use Rattle.nvme_engine.specs.Regions.{only_adds}
 use Rattle.nvme_engine.specs.Standing.{StandsAt, HasPool}
 use Rattle.nvme_engine.specs.declared.engine.Engine.{Engine}

@@ -24,9 +24,10 @@ use Rattle.nvme_jobs.specs.Hands.{Hands, in_hand, is_in_hand, job_in}
 use Rattle.nvme_front.specs.View.{FrontView, NoneInHandPosted, past_in}
 use Rattle.nvme_log.specs.Account.{IsClear}
 use Rattle.nvme_log.specs.Places.{fetched, fate_of, is_waiting, is_served, one_if}
-use Rattle.nvme_log.specs.Dispatches.{dispatched, place_at, AreJobs, ExecutesOnce}
+use Rattle.nvme_log.specs.Dispatches.{dispatched, place_at}
+use Rattle.nvme_jobs.specs.Executions.{AreJobs, ExecutesOnce}
 use Rattle.nvme_log.proofs.Posts.{posts_of-some, all_below}
-use Rattle.nvme_ctrl.specs.Notes.{Notes, logged}
+use Rattle.nvme_ctrl_log.specs.Notes.{Notes, logged}
 use Rattle.nvme_ctrl.proofs.OutPlaces.{IsOutPlace, out_is}
 use Rattle.nvme_ctrl.proofs.UnpostedPlaces as tagged
 use Rattle.nvme_jobs.specs.inside.Jobs.{IsClosed}

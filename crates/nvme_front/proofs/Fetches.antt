@@ -17,7 +17,7 @@ use Rattle.nvme_log.specs.Queues.{Queue, open_sq, pending}
 use Rattle.nvme_log.specs.Places.{fetched, waiting}
 use Rattle.nvme_log.specs.Completions.{posted_to}
 use Rattle.nvme_log.proofs.Waiting.{fetched-fetch, fetched-fetch_other}
-use Rattle.nvme_ctrl.specs.Notes.{Notes, Logged, Tail, Kept, logged}
+use Rattle.nvme_ctrl_log.specs.Notes.{Notes, Logged, Tail, Kept, logged}
 use Rattle.nvme_engine.specs.Calls.{MayFetch, HasFetched}
 use Rattle.nvme_engine.specs.Standing.{StandsAt}
 use Rattle.nvme_jobs.specs.inside.Jobs.{JobsView}

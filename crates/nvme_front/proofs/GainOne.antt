@@ -17,7 +17,7 @@ use Rattle.nvme_pool.specs.Seat.{Ends, SameSeat, OneGained}
 use Rattle.nvme_log.specs.Limits.{most_events}
 use Rattle.nvme_log.specs.Places.{entry_at}
 use Rattle.nvme_log.specs.Rules.{Past}
-use Rattle.nvme_ctrl.specs.Notes.{Answered, Flagged, logged}
+use Rattle.nvme_ctrl_log.specs.Notes.{Answered, Flagged, logged}
 use Rattle.nvme_engine.specs.Calls.{HasAnswered}
 use Rattle.nvme_engine.specs.declared.engine.Engine.{Engine}
 use Rattle.nvme_jobs.specs.Balance.{Balances}

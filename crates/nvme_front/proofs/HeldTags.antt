@@ -9,19 +9,19 @@ use Rattle.nvme_entry.specs.Status.{success}
 use Rattle.nvme_log.specs.declared.place.Place.{Place}
 use Rattle.nvme_log.specs.Limits.{max_outstanding}
 use Rattle.nvme_log.specs.Rules.{FrontRules}
-use Rattle.nvme_ctrl.specs.Notes.{Notes}
-use Rattle.nvme_ctrl.specs.Tags.{handed, taken, holder, is_out, is_through}
+use Rattle.nvme_ctrl_log.specs.Notes.{Notes}
+use Rattle.nvme_ctrl_log.specs.Tags.{handed, taken, holder, is_out, is_through}
 use Rattle.nvme_ctrl.specs.kept.Kept as ctrl
 use Rattle.nvme_ctrl.specs.kept.Kept.{Item, IsAmongOuts}
-use Rattle.nvme_ctrl.specs.declared.slot.Slot.{Slot}
+use Rattle.nvme_slots.specs.declared.slot.Slot.{Slot}
 use Rattle.nvme_ctrl.specs.declared.state.Controller.{Controller}
-use Rattle.nvme_ctrl.specs.kept.Pool.{AreApart}
+use Rattle.nvme_slots.specs.Pool.{AreApart}
 use Rattle.nvme_ctrl.proofs.AnswerCall.{among_others}
 use Rattle.nvme_ctrl.proofs.AnsweredPlaces.{IsOther, others_out}
 use Rattle.nvme_ctrl.proofs.OutEntries.{is_two}
 use Rattle.nvme_ctrl.proofs.OutPlaces.{IsOutPlace, out_is, few_out}
 use Rattle.nvme_ctrl.proofs.Passed.{held_is_devices, devices_passed}
-use Rattle.nvme_ctrl.proofs.ReadyHand.{All-taken}
+use Rattle.nvme_ctrl_content.proofs.ReadyHand.{All-taken}
 use Rattle.nvme_engine.specs.Standing.{StandsAt}
 use Rattle.nvme_engine.specs.declared.engine.Engine.{Engine}
 

@@ -86,26 +86,6 @@ drained_at v drainers drained c x l read p =
     let e : drainer_place x ≡ put_place (get_or v.puts c p) = ap drainer_place read ∙ seen_at drainer_place put_place drainers v.puts drained c l x p in
     (sym (ap (λ z. z.0) e), sym (ap (λ z. z.1) e), sym (ap (λ z. z.2) e))
 
--- ends at the same places are paired as before
-pub paired_places : (v w : FrontView) (f f' : List (Feeder Sqe)) (d d' : List (Drainer Cqe)) → map get_place w.gets ≡ map get_place v.gets → map put_place w.puts ≡ map put_place v.puts
-    → map feeder_place f' ≡ map feeder_place f → map drainer_place d' ≡ map drainer_place d → ArePaired v f d → ArePaired w f' d'
-paired_places v w f f' d d' gets puts feeders drainers pairs = record {
-  sqs = λ r x g l l' same.
-      let low : r < length f = subst (λ z. r < z) (seen_length feeder_place feeder_place f' f feeders) l in
-      let low' : r < length v.gets = subst (λ z. r < z) (seen_length get_place get_place w.gets v.gets gets) l' in
-      let e = seen_at feeder_place feeder_place f' f feeders r l x x in
-      let h = seen_at get_place get_place w.gets v.gets gets r l' g g in
-      let p = pairs.sqs r x g low low' (sym (ap (λ z. z.1) e) ∙ same ∙ ap (λ z. z.1) h) in
-      (ap (λ z. z.0) e ∙ p.0 ∙ sym (ap (λ z. z.0) h), same, ap (λ z. z.2) e ∙ p.2 ∙ sym (ap (λ z. z.2) h));
-  cqs = λ c x q l l' same.
-      let low : c < length d = subst (λ z. c < z) (seen_length drainer_place drainer_place d' d drainers) l in
-      let low' : c < length v.puts = subst (λ z. c < z) (seen_length put_place put_place w.puts v.puts puts) l' in
-      let e = seen_at drainer_place drainer_place d' d drainers c l x x in
-      let h = seen_at put_place put_place w.puts v.puts puts c l' q q in
-      let p = pairs.cqs c x q low low' (sym (ap (λ z. z.1) e) ∙ same ∙ ap (λ z. z.1) h) in
-      (ap (λ z. z.0) h ∙ p.0 ∙ sym (ap (λ z. z.0) e), sym same, ap (λ z. z.2) h ∙ p.2 ∙ sym (ap (λ z. z.2) e));
-}
-
 -- ---- lists after one element was replaced
 -- what is seen of each element stays, where that of the new element is that of the old
 pub seen-set : {X Y : Type 0} (f : X → Y) (xs : List X) (i : ℕ) (x : X) → i < length xs → ((d : X) → f x ≡ f (get_or xs i d)) → map f (set xs i x) ≡ map f xs

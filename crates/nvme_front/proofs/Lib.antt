@@ -1,51 +1,51 @@
-pub mod Comes
-pub mod States
+mod Comes
+mod States
 pub mod Starting
-pub mod RegionSteps
-pub mod RegionLists
+mod RegionSteps
+mod RegionLists
 pub mod Addresses
-pub mod EngineRegions
-pub mod AddedRegions
-pub mod Beginnings
-pub mod FirstRuns
-pub mod Newly
-pub mod SqEnds
-pub mod SameTags
-pub mod EngineFacts
-pub mod RunningFacts
-pub mod ApartNumbers
-pub mod HeldTags
-pub mod TagSteps
-pub mod Drained
-pub mod Weighing
-pub mod TakenCommands
-pub mod ReadyPlaces
-pub mod Fetches
-pub mod Scans
-pub mod PostOne
-pub mod CloseOne
-pub mod PickedJobs
-pub mod PickedQueue
-pub mod OpenQueues
-pub mod Beside
+mod EngineRegions
+mod AddedRegions
+mod Beginnings
+mod FirstRuns
+mod Newly
+mod SqEnds
+mod SameTags
+mod EngineFacts
+mod RunningFacts
+mod ApartNumbers
+mod HeldTags
+mod TagSteps
+mod Drained
+mod Weighing
+mod TakenCommands
+mod ReadyPlaces
+mod Fetches
+mod Scans
+mod PostOne
+mod CloseOne
+mod PickedJobs
+mod PickedQueue
+mod OpenQueues
+mod Beside
 pub mod EndsSeen
-pub mod Ended
-pub mod Hosted
-pub mod Executions
-pub mod Rested
-pub mod Turns
-pub mod Still
-pub mod Filling
-pub mod HandedOver
-pub mod ServedAnswers
-pub mod ClearAnswer
-pub mod Results
-pub mod ClosedRegions
-pub mod GainOne
+mod Ended
+mod Hosted
+mod Executions
+mod Rested
+mod Turns
+mod Still
+mod Filling
+mod HandedOver
+mod ServedAnswers
+mod ClearAnswer
+mod Results
+mod ClosedRegions
+mod GainOne
 pub mod HostPairs
 pub mod Loading
-pub mod LoadedFetch
-pub mod LoadedPick
-pub mod PickedAdmin
-pub mod Picking
-pub mod Deletes
+mod LoadedFetch
+mod LoadedPick
+mod PickedAdmin
+mod Picking
+mod Deletes

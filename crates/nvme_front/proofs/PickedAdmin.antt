@@ -22,10 +22,10 @@ use Rattle.nvme_log.specs.Effects.{made_by, closing_of, closed_cq_of, abort_in, 
 use Rattle.nvme_log.specs.Histories.{picks_in}
 use Rattle.nvme_log.proofs.PickCounts.{picks_in-append}
 use Rattle.nvme_log.proofs.Tables.{with_events}
-use Rattle.nvme_ctrl.specs.Notes.{Notes, Logged, Answered, logged}
-use Rattle.nvme_ctrl.specs.Steps.{with_logged, with_answer}
-use Rattle.nvme_ctrl.specs.Tags.{holder, answer_of, is_unanswered}
-use Rattle.nvme_ctrl.proofs.EffectEvents.{AreEffects, made_are_effects}
+use Rattle.nvme_ctrl_log.specs.Notes.{Notes, Logged, Answered, logged}
+use Rattle.nvme_ctrl_log.specs.Steps.{with_logged, with_answer}
+use Rattle.nvme_ctrl_log.specs.Tags.{holder, answer_of, is_unanswered}
+use Rattle.nvme_ctrl_log.proofs.EffectEvents.{AreEffects, made_are_effects}
 use Rattle.nvme_engine.specs.Calls.{MayPick, HasCarriedOut, seen_notes}
 use Rattle.nvme_engine.specs.Standing.{StandsAt}
 use Rattle.nvme_jobs.specs.inside.Jobs.{JobsView}

@@ -10,10 +10,10 @@ use Rattle.nvme_log.specs.Places.{entry_at}
 use Rattle.nvme_log.specs.Answers.{Answer}
 use Rattle.nvme_log.specs.Dispatches.{place_at}
 use Rattle.nvme_log.specs.declared.place.Place.{Place}
-use Rattle.nvme_ctrl.specs.Notes.{Notes, Taken, logged}
-use Rattle.nvme_ctrl.specs.Tags.{holder, answer_of, is_out, is_unanswered}
-use Rattle.nvme_ctrl.specs.kept.Pool.{AreApart}
-use Rattle.nvme_ctrl.proofs.Pools.{AreApart-push}
+use Rattle.nvme_ctrl_log.specs.Notes.{Notes, Taken, logged}
+use Rattle.nvme_ctrl_log.specs.Tags.{holder, answer_of, is_out, is_unanswered}
+use Rattle.nvme_slots.specs.Pool.{AreApart}
+use Rattle.nvme_slots.proofs.Pools.{AreApart-push}
 use Rattle.nvme_jobs.specs.declared.dispatched.Dispatched.{Dispatched}
 use Rattle.nvme_jobs.specs.Hands.{in_hand}
 use Rattle.nvme_jobs.specs.inside.Jobs.{JobsView, with_job, next_job}

@@ -20,7 +20,7 @@ use Rattle.nvme_log.specs.Places.{fetched, waiting, observation_of}
 use Rattle.nvme_log.specs.Aborts.{places_for}
 use Rattle.nvme_log.specs.Completions.{outstanding, posted_to}
 use Rattle.nvme_log.specs.Dispatches.{place_at, dispatched_by}
-use Rattle.nvme_ctrl.specs.Notes.{Notes, logged}
+use Rattle.nvme_ctrl_log.specs.Notes.{Notes, logged}
 use Rattle.nvme_engine.specs.Calls.{MayPick, HasPicked, seen_notes}
 use Rattle.nvme_engine.specs.Standing.{StandsAt, StandsBut, IsEngine}
 use Rattle.nvme_engine.specs.declared.engine.Engine.{Engine}

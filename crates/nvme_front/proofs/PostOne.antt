@@ -15,7 +15,7 @@ use Rattle.nvme_log.specs.Places.{fetched, is_served}
 use Rattle.nvme_log.specs.Queues.{open_cq, cq_region_of}
 use Rattle.nvme_log.specs.Rules.{Past, cq_regions_of, slots_at}
 use Rattle.nvme_log.proofs.WithoutPosts.{open_cq-posts}
-use Rattle.nvme_ctrl.specs.Notes.{Notes, Logged, Head, logged}
+use Rattle.nvme_ctrl_log.specs.Notes.{Notes, Logged, Head, logged}
 use Rattle.nvme_ctrl.proofs.OpenRegions.{open_cq_is_few}
 use Rattle.nvme_engine.specs.Calls.{HasPosted}
 use Rattle.nvme_engine.specs.Standing.{StandsAt, IsEngine}

@@ -19,7 +19,7 @@ use Rattle.nvme_log.specs.Completions.{is_posted}
 use Rattle.nvme_log.specs.Aborts.{is_index}
 use Rattle.nvme_log.specs.Account.{deleting_place}
 use Rattle.nvme_log.proofs.Waiting.{times_among, contains-times, fate_of-same, one_fate_of, fetched-fetch, fetched-fetch_other, picked-pick_other}
-use Rattle.nvme_ctrl.specs.Notes.{Notes, Taken}
+use Rattle.nvme_ctrl_log.specs.Notes.{Notes, Taken}
 use Rattle.nvme_jobs.specs.declared.dispatched.Dispatched.{Dispatched}
 use Rattle.nvme_jobs.specs.Hands.{in_hand, is_in_hand}
 use Rattle.nvme_jobs.specs.inside.Jobs.{JobsView}

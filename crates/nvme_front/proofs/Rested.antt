@@ -24,8 +24,9 @@ use Rattle.nvme_log.specs.Places.{fetched}
 use Rattle.nvme_log.specs.Completions.{posted_to}
 use Rattle.nvme_log.specs.Account.{IsAccount}
 use Rattle.nvme_jobs.specs.JobAccount.{AccountsForJobs}
-use Rattle.nvme_log.specs.Dispatches.{ExecutesOnce, place_at}
-use Rattle.nvme_log.proofs.Tickets.{each-is_executed_once}
+use Rattle.nvme_log.specs.Dispatches.{place_at}
+use Rattle.nvme_jobs.specs.Executions.{ExecutesOnce}
+use Rattle.nvme_jobs.proofs.Tickets.{each-is_executed_once}
 use Rattle.nvme_jobs.specs.Answers.{AnswersHaveTickets}
 use Rattle.nvme_jobs.specs.Hands.{Hands, in_hand}
 use Rattle.nvme_jobs.specs.inside.Jobs.{IsClosed}

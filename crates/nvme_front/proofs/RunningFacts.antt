@@ -23,8 +23,8 @@ use Rattle.nvme_log.specs.Aborts.{places_for}
 use Rattle.nvme_log.specs.Completions.{outstanding}
 use Rattle.nvme_log.proofs.LoadedPlaces.{seen-in}
 use Rattle.nvme_log.proofs.Members.{IsIn}
-use Rattle.nvme_ctrl.specs.Notes.{Notes, logged}
-use Rattle.nvme_ctrl.specs.Tags.{is_out}
+use Rattle.nvme_ctrl_log.specs.Notes.{Notes, logged}
+use Rattle.nvme_ctrl_log.specs.Tags.{is_out}
 use Rattle.nvme_engine.specs.Calls.{next_of}
 use Rattle.nvme_engine.specs.Standing.{StandsAt, IsEngine}
 use Rattle.nvme_jobs.specs.declared.dispatched.Dispatched.{Dispatched}

@@ -3,8 +3,8 @@ use Rattle.std.proofs.Common.{◌≡◌, ℕ, get_or, Option, Some, None, refl, 
 use Rattle.std.specs.Prelude.{is_none}
 use Rattle.nvme_log.specs.declared.place.Place.{Place}
 use Rattle.nvme_log.specs.Answers.{Answer}
-use Rattle.nvme_ctrl.specs.Notes.{Notes}
-use Rattle.nvme_ctrl.specs.Tags.{holder, answer_of, is_out, is_unanswered}
+use Rattle.nvme_ctrl_log.specs.Notes.{Notes}
+use Rattle.nvme_ctrl_log.specs.Tags.{holder, answer_of, is_out, is_unanswered}
 use Rattle.nvme_jobs.specs.Hands.{in_hand}
 use Rattle.nvme_jobs.specs.inside.Jobs.{JobsView}
 use Rattle.nvme_front.specs.inside.Room.{HoldsTags}

@@ -20,7 +20,7 @@ use Rattle.nvme_front.specs.inside.State.{gets_of, rules_of, past_of, view_of}
 use Rattle.nvme_front.specs.inside.Room.{IsConsistent}
 use Rattle.nvme_front.specs.inside.Goes.{Goes, HasAdmin, IsSame, IsScanned}
 use Rattle.nvme_front.specs.View.{known_in, NoneCanBePosted}
-use Rattle.nvme_front.proofs.States.{IsSame-sym, Goes-same, rules-goes, same_view}
+use Rattle.nvme_front.proofs.States.{Goes-same, rules-goes, same_view}
 use Rattle.nvme_front.proofs.SqEnds.{known_in-read, known_in-set}
 use Rattle.nvme_front.proofs.RunningFacts.{IsOpenOn, two_regions}
 use Rattle.nvme_front.proofs.Fetches.{Fetched, fetch_past, fetch_goes, region_there, window_is}
@@ -48,9 +48,6 @@ pub scanned_on : (a b : FrontState) → IsSame a b → (q : ℕ) → IsScanned a
 scanned_on a b same q h =
     scanned_by a b (rules-goes a b (Goes-same a b same)) (ap (λ (xs : List Event). reverse xs) same.log)
     (λ r. ap (λ (sqs : List SqRegion). get_or (map (λ (g : GetView Sqe). g.known) (gets_of sqs)) r []) same.sqs) q h
-
-pub scanned_same : (a b : FrontState) → IsSame a b → (q : ℕ) → IsScanned b q → IsScanned a q
-scanned_same a b same q h = scanned_on b a (IsSame-sym a b same) q h
 
 -- nor is a completion ready that wasn't before
 pub posted_same : (a b : FrontState) → IsSame a b → NoneCanBePosted (view_of a) → NoneCanBePosted (view_of b)

@@ -15,7 +15,7 @@ use Rattle.nvme_log.specs.Rules.{Past}
 use Rattle.nvme_log.specs.Places.{fetched}
 use Rattle.nvme_log.specs.Completions.{posted_to}
 use Rattle.nvme_pool.specs.Seat.{SeatView, SameSeat, rings_at}
-use Rattle.nvme_ctrl.specs.kept.Pool.{AreApart}
+use Rattle.nvme_slots.specs.Pool.{AreApart}
 use Rattle.nvme_jobs.specs.Hands.{gained_count}
 use Rattle.nvme_jobs.specs.inside.Jobs.{JobsView}
 use Rattle.nvme_front.specs.declared.region.SqRegion.{SqRegion}
@@ -43,10 +43,6 @@ module _ {X Y : Type 0} (f : X → Y) (d : Y) (xs : List X) (k : ℕ) (x : X) wh
   look-read h y read = get_or-map f xs k y d h ∙ ap f (sym read)
 
 -- ---- the log backwards
--- events in front of a log that is read backwards, the first one first
-abbrev pub with_events : List Event → Past → Past
-with_events [] past = past
-with_events (e ∷ rest) past = with_events rest (e ∷ past)
 
 pub past-push : (xs : List Event) (e : Event) → reverse (xs ++ e ∷ []) ≡ e ∷ reverse xs
 past-push xs e = reverse-append xs (e ∷ [])

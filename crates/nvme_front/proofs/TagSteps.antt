@@ -13,12 +13,12 @@ use Rattle.nvme_log.specs.declared.place.Place.{Place}
 use Rattle.nvme_log.specs.Answers.{Answer}
 use Rattle.nvme_log.specs.Limits.{max_outstanding}
 use Rattle.nvme_log.specs.Rules.{FrontRules}
-use Rattle.nvme_ctrl.specs.Notes.{Notes, Logged, Head, Answered, Flagged}
-use Rattle.nvme_ctrl.specs.Tags.{holder, answer_of, is_out, is_unanswered, is_through}
-use Rattle.nvme_ctrl.specs.declared.status_flags.StatusFlags.{StatusFlags}
-use Rattle.nvme_ctrl.specs.kept.Pool.{AreApart}
-use Rattle.nvme_ctrl.proofs.OutTags.{still_not_out-answered, still_not_out-flagged}
-use Rattle.nvme_ctrl.proofs.OwnStatus.{All-unmap}
+use Rattle.nvme_ctrl_log.specs.Notes.{Notes, Logged, Head, Answered, Flagged}
+use Rattle.nvme_ctrl_log.specs.Tags.{holder, answer_of, is_out, is_unanswered, is_through}
+use Rattle.nvme_ctrl_log.specs.declared.status_flags.StatusFlags.{StatusFlags}
+use Rattle.nvme_slots.specs.Pool.{AreApart}
+use Rattle.nvme_ctrl_log.proofs.OutTags.{still_not_out-answered, still_not_out-flagged}
+use Rattle.nvme_ctrl_content.proofs.OwnStatus.{All-unmap}
 use Rattle.nvme_engine.specs.Standing.{StandsAt}
 use Rattle.nvme_engine.specs.declared.engine.Engine.{Engine}
 use Rattle.nvme_jobs.specs.Hands.{in_hand}

@@ -6,8 +6,8 @@ use Rattle.nvme_log.specs.Rules.{FrontRules, Past}
 use Rattle.nvme_log.specs.Places.{entry_at}
 use Rattle.nvme_log.specs.Dispatches.{place_at}
 use Rattle.nvme_log.specs.declared.place.Place.{Place}
-use Rattle.nvme_ctrl.specs.Notes.{Notes, Taken, logged}
-use Rattle.nvme_ctrl.specs.Tags.{holder, answer_of}
+use Rattle.nvme_ctrl_log.specs.Notes.{Notes, Taken, logged}
+use Rattle.nvme_ctrl_log.specs.Tags.{holder, answer_of}
 use Rattle.nvme_engine.specs.Calls.{HasTaken}
 use Rattle.nvme_engine.specs.Standing.{StandsAt, StandsBut, IsEngine}
 use Rattle.nvme_engine.specs.declared.answers.Taking.{Taking}

@@ -17,7 +17,7 @@ use Rattle.nvme_log.specs.Places.{fetched, waiting, places}
 use Rattle.nvme_log.specs.Completions.{is_posted, posted_to}
 use Rattle.nvme_log.specs.Account.{IsAccount}
 use Rattle.nvme_log.specs.Dispatches.{place_at}
-use Rattle.nvme_log.specs.Laws.{IsExecutedOnce}
+use Rattle.nvme_jobs.specs.Executions.{IsExecutedOnce}
 use Rattle.nvme_jobs.specs.Answers.{IsAnsweredIo, HasTicket}
 use Rattle.nvme_front.specs.View.{FrontView}
 use Rattle.nvme_front.specs.Hosts.{IsAtRest, sent_at, taken_at, collected_at}

@@ -2,7 +2,7 @@
 ghost use Rattle.std.specs.Prelude.{◌≡◌, ℕ, ◌+◌, ◌^◌, ◌<◌, ◌≤◌, Bool, List, length, map};
 ghost use Rattle.nvme_log.specs.Rules.{FrontRules};
 ghost use Rattle.nvme_log.specs.Dispatches.{place_at};
-ghost use Rattle.nvme_ctrl.specs.Notes.{Notes};
+ghost use Rattle.nvme_ctrl_log.specs.Notes.{Notes};
 ghost use Rattle.nvme_engine.specs.Standing.{StandsBut, IsEngine};
 ghost use Rattle.nvme_front.specs.inside.Dispatching.{HasDispatched};
 

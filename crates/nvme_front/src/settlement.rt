@@ -11,7 +11,7 @@ ghost use Rattle.nvme_entry.specs.declared.submission.Sqe.{Sqe};
 ghost use Rattle.nvme_entry.specs.declared.completion.Cqe.{Cqe};
 ghost use Rattle.nvme_front.specs.Hosts.{ArePaired, AreHosts, IsFedBy, IsDrainedBy, told, told_by};
 ghost use Rattle.nvme_front.specs.inside.Resting.{Rests, Collects};
-ghost use Rattle.nvme_log.specs.Dispatches.{ExecutesOnce};
+ghost use Rattle.nvme_jobs.specs.Executions.{ExecutesOnce};
 ghost use Rattle.nvme_pool.specs.Worker.{WorkerView};
 ghost use Rattle.std.specs.List.{All};
 ghost use Rattle.nvme_front.specs.Settles.{IsSettled, IsSettledAccount, AnswersWereExecuted, CollectsMore, HasItsPool, AreAtRest, HandsBack, LeavesBy, settled_past};

@@ -1,1 +1,1 @@
-pub mod Promises
+mod Promises

@@ -35,7 +35,7 @@ impl Device {
     ghost use mathlib.Core.List.{IsPrefix};
     ghost use Rattle.nvme_lane.specs.Feeder.{script_of};
     ghost use Rattle.nvme_lane.specs.Drainer.{items_of};
-    ghost use Rattle.nvme_log.specs.Dispatches.{ExecutesOnce};
+    ghost use Rattle.nvme_jobs.specs.Executions.{ExecutesOnce};
     ghost use Rattle.nvme_log.specs.Laws.{KeepsThePromise};
     ghost use Rattle.nvme_front.specs.View.{GoesOn, AccountsForEnds};
     ghost use Rattle.nvme_front.specs.Hosts.{sent_at, collected_at};

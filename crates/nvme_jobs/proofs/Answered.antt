@@ -13,8 +13,9 @@ use Rattle.nvme_pool.proofs.Retiring.{sum_by_map}
 use Rattle.nvme_log.specs.Rules.{Past}
 use Rattle.nvme_log.specs.Places.{fetched, fate_of, is_waiting, is_picked, one_if}
 use Rattle.nvme_log.specs.declared.place.Place.{Place}
-use Rattle.nvme_log.specs.Dispatches.{dispatched, place_at, IsJobOf}
-use Rattle.nvme_log.proofs.Tickets.{job_there}
+use Rattle.nvme_log.specs.Dispatches.{dispatched, place_at}
+use Rattle.nvme_jobs.specs.Executions.{IsJobOf}
+use Rattle.nvme_jobs.proofs.Tickets.{job_there}
 use Rattle.nvme_log.proofs.Waiting.{one_fate_of}
 use Rattle.nvme_jobs.specs.Answers.{IsAnsweredIo, HasTicket, AnswersHaveTickets, AnswersHaveResults}
 use Rattle.nvme_jobs.specs.Hands.{Hands, in_hand, is_in_hand, job_in}

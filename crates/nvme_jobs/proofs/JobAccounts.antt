@@ -18,7 +18,7 @@ use Rattle.nvme_pool.specs.declared.jobs.Finished.{Finished}
 use Rattle.nvme_log.specs.Rules.{Past}
 use Rattle.nvme_log.specs.Places.{entry_at}
 use Rattle.nvme_log.specs.declared.place.Place.{Place}
-use Rattle.nvme_log.specs.Dispatches.{AreJobs}
+use Rattle.nvme_jobs.specs.Executions.{AreJobs}
 use Rattle.nvme_jobs.specs.declared.dispatched.Dispatched.{Dispatched}
 use Rattle.nvme_jobs.specs.Hands.{Hands, in_hand}
 

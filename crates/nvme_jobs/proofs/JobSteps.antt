@@ -22,7 +22,8 @@ use Rattle.nvme_log.specs.Limits.{max_outstanding}
 use Rattle.nvme_log.specs.Rules.{Past}
 use Rattle.nvme_log.specs.Queues.{Queue, open_sq, has_region}
 use Rattle.nvme_log.specs.Places.{waiting, entry_at, fate_of, is_picked, one_if}
-use Rattle.nvme_log.specs.Dispatches.{place_at, dispatched_by, dispatched, AreJobs}
+use Rattle.nvme_log.specs.Dispatches.{place_at, dispatched_by, dispatched}
+use Rattle.nvme_jobs.specs.Executions.{AreJobs}
 use Rattle.nvme_log.proofs.Posts.{slice_get-next}
 use Rattle.nvme_log.proofs.Waiting.{contains-times, fate_of-same, picked-pick_other}
 use Rattle.nvme_jobs.specs.declared.dispatched.Dispatched.{Dispatched}

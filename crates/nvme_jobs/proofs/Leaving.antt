@@ -15,7 +15,8 @@ use Rattle.nvme_log.specs.declared.place.Place.{Place}
 use Rattle.nvme_log.specs.Rules.{Past}
 use Rattle.nvme_log.specs.Queues.{Queue, admin_queue, open_sq, open_cq, has_region}
 use Rattle.nvme_log.specs.Places.{fetched, waiting, entry_at, fate_of, is_picked}
-use Rattle.nvme_log.specs.Dispatches.{AreJobs, dispatched, dispatched_by}
+use Rattle.nvme_log.specs.Dispatches.{dispatched, dispatched_by}
+use Rattle.nvme_jobs.specs.Executions.{AreJobs}
 use Rattle.nvme_log.specs.Effects.{made_by, closing_of, closed_cq_of, abort_in, has_cid, named, target_of}
 use Rattle.nvme_log.proofs.Tables.{with_events}
 use Rattle.nvme_log.proofs.Waiting.{fate_of-same, picked-pick_other, waiting-pick_other, waiting-contains, waiting-abort, is_aborted-abort_other}

@@ -8,7 +8,8 @@ use Rattle.nvme_pool.specs.Jobs.{result_of}
 use Rattle.nvme_log.specs.Rules.{Past}
 use Rattle.nvme_log.specs.Places.{is_aborted}
 use Rattle.nvme_log.specs.Completions.{is_posted}
-use Rattle.nvme_log.specs.Dispatches.{IsJobOf, dispatched, place_at}
+use Rattle.nvme_log.specs.Dispatches.{dispatched, place_at}
+use Rattle.nvme_jobs.specs.Executions.{IsJobOf}
 use Rattle.nvme_jobs.specs.Hands.{Hands}
 
 -- a place of an I/O queue wasn't aborted, and its completion was posted

@@ -7,7 +7,8 @@ use Rattle.nvme_pool.specs.declared.jobs.Finished.{Finished}
 use Rattle.nvme_pool.specs.Jobs.{result_of}
 use Rattle.nvme_log.specs.Rules.{Past}
 use Rattle.nvme_log.specs.declared.place.Place.{Place}
-use Rattle.nvme_log.specs.Dispatches.{AreJobs, dispatched}
+use Rattle.nvme_log.specs.Dispatches.{dispatched}
+use Rattle.nvme_jobs.specs.Executions.{AreJobs}
 use Rattle.nvme_jobs.specs.declared.dispatched.Dispatched.{Dispatched}
 use Rattle.nvme_jobs.specs.Answers.{HasTicket}
 use Rattle.nvme_jobs.specs.Hands.{Hands, job_in, in_hand}

@@ -1,3 +1,5 @@
+pub mod Executions
+pub mod Examples
 pub mod Answers
 pub mod Balance
 pub mod Hands

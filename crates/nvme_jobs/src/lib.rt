@@ -6,6 +6,7 @@
 mod dispatched;
 mod fifo;
 mod jobs;
+pub mod laws;
 mod running;
 
 pub use dispatched::Dispatched;

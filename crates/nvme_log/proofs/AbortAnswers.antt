@@ -36,7 +36,6 @@ use Rattle.nvme_log.specs.AbortLaws.{TakesCommand, TellsFound, AbortsAreTold}
 use Rattle.nvme_log.proofs.Members.{IsIn, in-first, in-take_first, cuts}
 use Rattle.nvme_log.proofs.Prefixes.{Each-after, fetched-after}
 use Rattle.nvme_log.proofs.Turns.{in-waits, stays, stays_on, taken-waits_not, admin-stays, admin-unaborted}
-use Rattle.nvme_log.proofs.AbortLaws.{}
 
 -- ---- what an Abort command is told
 -- each pick takes something

@@ -1,11 +1,11 @@
 pub mod Prefixes
 pub mod Fates
 pub mod Posts
-pub mod ExampleLogs
-pub mod FourNumbers
-pub mod AbortLogs
+mod ExampleLogs
+mod FourNumbers
+mod AbortLogs
 pub mod Members
-pub mod Aborting
+mod Aborting
 pub mod AbortEntries
 pub mod Tables
 pub mod Waiting
@@ -20,17 +20,16 @@ pub mod LoadedPlaces
 pub mod LoadedRegions
 pub mod LoadedSteps
 pub mod LoadedLaws
-pub mod LoadedExamples
+mod LoadedExamples
 pub mod WithoutPosts
 pub mod LoadedTurns
 pub mod PostsApart
 pub mod OwnStays
 pub mod PostCounts
-pub mod Tickets
-pub mod PickedOnce
-pub mod BrokenPromises
+mod PickedOnce
+mod BrokenPromises
 pub mod LogLengths
 pub mod AdminPicks
 pub mod Foreseen
 pub mod AnswerLaws
-pub mod AnswerExamples
+mod AnswerExamples

@@ -9,7 +9,6 @@ use Rattle.std.proofs.lemmas.List.Folds.{list_any-append}
 use Rattle.std.proofs.lemmas.List.{length_push}
 use mathlib.Core.List.{IsPrefix}
 use Rattle.nvme_entry.specs.declared.submission.Sqe.{Sqe}
-use Rattle.nvme_lane.proofs.Prefixes.{IsPrefix-trans}
 use Rattle.nvme_arbiter.specs.Limits.{queue_limit}
 use Rattle.nvme_arbiter.specs.Lawful.{lawful_pick}
 use Rattle.nvme_arbiter.specs.declared.pick.Seen.{Seen}
@@ -28,7 +27,7 @@ use Rattle.nvme_log.specs.Account.{ServedWhileOpen}
 use Rattle.nvme_log.specs.Loaded.{is_filled, are_filled, ends_deletion, NoneWaits, LoadedSoFar, IsLoadedLog}
 use Rattle.nvme_log.proofs.Members.{all-in}
 use Rattle.nvme_log.proofs.Posts.{all_below, slice_get-next}
-use Rattle.nvme_log.proofs.Prefixes.{fetched-after, arbitration_of-append}
+use Rattle.nvme_log.proofs.Prefixes.{fetched-after, arbitration_of-append, IsPrefix-trans}
 use Rattle.nvme_log.proofs.Tables.{with_events}
 use Rattle.nvme_log.proofs.Waiting.{fetched-fetch, fetched-fetch_other, waiting-fetch_other}
 use Rattle.nvme_log.proofs.LoadedPlaces.{AreCounted, are-counted, fetched-waits, seen-in}

@@ -2,7 +2,6 @@
 use Rattle.std.proofs.Common.{◌≡◌, ℕ, ◌==◌, Bool, true, false, List, [], ◌∷◌, ◌++◌, refl, sym, ap, ◌∙◌, append_assoc, if◌then◌else◌}
 use Rattle.std.proofs.lemmas.List.{append-nil}
 use mathlib.Core.List.{IsPrefix}
-use Rattle.nvme_lane.proofs.Prefixes.{IsPrefix-trans}
 use Rattle.nvme_arbiter.proofs.PickLaws.{prefixes}
 use Rattle.nvme_log.specs.declared.event.Event.{Event}
 use Rattle.nvme_log.specs.declared.event.Event.TheVariants.{Fetch, Pick, SetArbitration, Post}
@@ -16,6 +15,9 @@ use Rattle.nvme_log.specs.AnswerLaws.{PrefixesAreAccountedBy}
 
 pub IsPrefix-refl : {T : Type 0} (xs : List T) → IsPrefix xs xs
 IsPrefix-refl xs = ([], append-nil xs)
+
+pub IsPrefix-trans : {T : Type 0} (a b c : List T) → IsPrefix a b → IsPrefix b c → IsPrefix a c
+IsPrefix-trans a b c p q = (p.0 ++ q.0, sym (append_assoc a p.0 q.0) ∙ ap (λ z. z ++ q.0) p.1 ∙ q.1)
 
 pub IsPrefix-push : {T : Type 0} (b : Bool) (xs ys : List T) (y : T) → IsPrefix xs ys → IsPrefix xs (if b then ys ++ y ∷ [] else ys)
 IsPrefix-push true xs ys y h = (h.0 ++ y ∷ [], sym (append_assoc xs h.0 (y ∷ [])) ∙ ap (λ z. z ++ y ∷ []) h.1)

@@ -10,7 +10,6 @@ use Rattle.nvme_arbiter.specs.declared.settings.Class.TheVariants.{Medium}
 use Rattle.nvme_arbiter.specs.declared.settings.Mechanism.TheVariants.{RoundRobin}
 use Rattle.nvme_arbiter.specs.declared.pick.Seen.{Seen}
 use Rattle.nvme_admin.specs.History.{Submission, Completion, RegionAdded}
-use Rattle.nvme_pool.specs.declared.jobs.Job.{Job}
 use Rattle.nvme_log.specs.declared.event.Event.{Event}
 use Rattle.nvme_log.specs.declared.event.Event.TheVariants.{Fetch, Pick, SetArbitration, OpenSq, OpenCq, Closing, Abort, Post, ClosedSq, ClosedCq}
 use Rattle.nvme_log.specs.Rules.{Past, FrontRules}
@@ -121,10 +120,3 @@ five_told_first = five_done 20 ∷ five_done 21 ∷ five_done 22 ∷ five_done 2
 
 abbrev pub four_told_first : List Cqe
 four_told_first = four_done 13 true aborted_by_deletion ∷ four_done 10 true success ∷ four_done 11 false success ∷ []
-
--- the job of a Read, by its ticket and its identifier
-abbrev pub job_with : ℕ → ℕ → Job
-job_with ticket cid = record { ticket = ticket; entry = read cid; spaces = 1000 ∷ [] }
-
-abbrev pub three_jobs : List Job
-three_jobs = job_with 0 10 ∷ job_with 1 11 ∷ job_with 2 12 ∷ []

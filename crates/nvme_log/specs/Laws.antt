@@ -1,9 +1,8 @@
 -- Laws of logs, which test the definitions (profile).
-use Rattle.std.specs.Prelude.{◌≡◌, ℕ, ◌+◌, ◌<◌, ◌≤◌, ◌==◌, ◌⊎◌, Bool, true, false, if◌then◌else◌, List, [], ◌∷◌, ◌++◌, length, filter, Option, Some, None, slice_get, sum_by}
+use Rattle.std.specs.Prelude.{◌≡◌, ℕ, ◌+◌, ◌<◌, ◌≤◌, ◌==◌, ◌⊎◌, Bool, true, false, if◌then◌else◌, List, [], ◌∷◌, ◌++◌, length, filter, Option, Some, None, slice_get}
 use mathlib.Core.List.{IsPrefix}
 use Rattle.nvme_entry.specs.declared.submission.Sqe.{Sqe}
 use Rattle.nvme_entry.specs.declared.completion.Cqe.{Cqe}
-use Rattle.nvme_lane.specs.View.{GetView}
 use Rattle.nvme_arbiter.specs.Lawful.{IsLawfulRun}
 use Rattle.nvme_arbiter.specs.declared.pick.Pick.{Pick}
 use Rattle.nvme_arbiter.specs.declared.pick.Seen.{Seen}
@@ -11,22 +10,18 @@ use Rattle.nvme_admin.specs.History.{TableHistory}
 use Rattle.nvme_admin.specs.Accepted.{sq_at, cq_at}
 use Rattle.nvme_admin.specs.declared.verdict.SqEntry.{SqEntry}
 use Rattle.nvme_admin.specs.declared.verdict.Verdict.TheVariants as verdict
-use Rattle.nvme_pool.specs.declared.jobs.Job.{Job}
-use Rattle.nvme_pool.specs.declared.jobs.Finished.{Finished}
-use Rattle.nvme_pool.specs.Seat.{SeatView}
-use Rattle.nvme_pool.specs.Worker.{WorkerView}
 use Rattle.nvme_log.specs.declared.event.Event.{Event}
 use Rattle.nvme_log.specs.declared.event.Event.TheVariants.{Closing, Post}
 use Rattle.nvme_log.specs.declared.event.Event.TheVariants as event
 use Rattle.nvme_log.specs.Limits.{max_outstanding}
 use Rattle.nvme_log.specs.Rules.{Past, FrontRules, Each}
-use Rattle.nvme_log.specs.Places.{fetched, waiting, places, fate_of, is_waiting, is_picked, is_aborted, one_if}
+use Rattle.nvme_log.specs.Places.{fetched, waiting, places, fate_of, is_waiting, is_picked, is_aborted}
 use Rattle.nvme_log.specs.declared.place.Place.{Place}
 use Rattle.nvme_log.specs.Queues.{Queue, open_sq, open_cq}
 use Rattle.nvme_log.specs.Histories.{arbitration_of, table_history}
 use Rattle.nvme_log.specs.Answers.{Executor, by_outcome}
 use Rattle.nvme_log.specs.Completions.{posted_to, posts_of, outstanding, IsOwnBy}
-use Rattle.nvme_log.specs.Dispatches.{place_at, dispatched, IsJobOf, ExecutesOnce}
+use Rattle.nvme_log.specs.Dispatches.{place_at}
 use Rattle.nvme_log.specs.Effects.{made_last, effects_since, EffectsAtOnce}
 use Rattle.nvme_log.specs.Account.{IndexCounts, ServedWhileOpen, Observed, Deletes, PostsOwnBy, LeavesPlaces, IsAccount, IsWholeAccount, latest_admin_place}
 use Rattle.nvme_log.specs.AbortLaws.{TakesCommand}
@@ -228,18 +223,3 @@ pub record TakesThePlace (rules : FrontRules) (past : Past) (e : Event) : Type 0
 pub record PlacesAreTaken (rules : FrontRules) (past : Past) : Type 0 where
   pub by_pick : (seen : List Seen) (pick : Pick) → TakesThePlace rules past (event.Pick seen pick)
   pub by_abort : (r i : ℕ) → TakesThePlace rules past (event.Abort r i)
-
--- the job of a place was handed over under a ticket, and no other job was. Over all workers it was taken once and executed once, and one
--- result of it was gained
-pub record IsExecutedOnce (sizes : List ℕ) (past : Past) (seat : SeatView) (workers : List WorkerView) (ticket : ℕ) (place : Place) : Type 0 where
-  pub job : Job
-  pub handed : slice_get seat.handed ticket ≡ Some job
-  pub is_of_place : IsJobOf sizes past ticket place job
-  pub taken : sum_by (λ (x : WorkerView). sum_by (λ (j : Job). one_if (j.ticket == ticket)) x.taken) workers ≡ 1
-  pub executed : sum_by (λ (x : WorkerView). sum_by (λ (j : Job). one_if (j.ticket == ticket)) x.executed) workers ≡ 1
-  pub gained : sum_by (λ (g : GetView Finished). sum_by (λ (f : Finished). one_if (f.ticket == ticket)) g.got) seat.ends ≡ 1
-
--- each picked I/O command is executed once, and its position among them is the ticket of its job
-abbrev pub EachIsExecutedOnce : Type 0
-EachIsExecutedOnce = (sizes : List ℕ) (past : Past) (seat : SeatView) (workers : List WorkerView) → ExecutesOnce sizes past seat workers
-    → (k : ℕ) (place : Place) → slice_get (dispatched past) k ≡ Some place → IsExecutedOnce sizes past seat workers k place

@@ -9,9 +9,9 @@ ghost use Rattle.nvme_log.specs.Histories.{arbitration_of, picks_in};
 ghost use Rattle.nvme_log.specs.Places.{fetched, waiting, is_served};
 ghost use Rattle.nvme_log.specs.Examples.{admin_posted, arbitration_told, at_admin, four_commands, four_completions, last_picked, two_slots, two_slots_past};
 ghost use Rattle.nvme_log.specs.Examples.{at_two, one_deletion, admin_script, reads, read, delete_sq, done, admin_done, reads_done, admin_seen, reads_seen, picked_of, admin_fetched, reads_fetched, one_picked, delete_picked, closing, aborted_posted, all_posted, deleted, queue_created, closed, read_done, window_filled};
-ghost use Rattle.nvme_log.specs.Dispatches.{AreJobs, dispatched, place_at};
+ghost use Rattle.nvme_log.specs.Dispatches.{dispatched, place_at};
 ghost use Rattle.nvme_log.specs.Queues.{is_serving, pending};
-ghost use Rattle.nvme_log.specs.FourNumbers.{four_numbers, admin_five, four_reads, at_zero_and_two, five_told, four_told, four_done, all_closed, three_jobs, job_with};
+ghost use Rattle.nvme_log.specs.FourNumbers.{four_numbers, admin_five, four_reads, at_zero_and_two, five_told, four_told, four_done, all_closed};
 ghost use Rattle.nvme_log.specs.FourNumbers.{seen_4, two_picked, three_fetched, burst_set, one_more_picked, delete_4_picked, closing_4, posted_4, closed_4, last_unposted, four_told_first, five_told_first};
 ghost use Rattle.nvme_log.specs.Aborts.{is_aborted_with_queue, places_for};
 ghost use Rattle.nvme_log.specs.AbortExamples.{abort, abort_1_1, fused_abort, two_aborts, reads_and, told, two_aborts_told, reads_told, two_waiting, abort_picked, one_aborted, abort_posted, second_picked, both_told, one_of, two_of};
@@ -35,7 +35,7 @@ ghost use Rattle.nvme_log.specs.Account.{IsAccountBy, PostsOwnBy};
 ghost use Rattle.nvme_log.specs.AnswerLaws.{IsAnsweredPick, AccountsAnswerAlike, AccountsAnswerByOutcome, AnswersByOutcomeAreAccounted, AccountsKeepTheLaws, PrefixesAreAccountedBy, WholeAccountsAnswerBy, WholeAccountsKeepThePromiseBy, PromisesServeOnceBy};
 ghost use Rattle.nvme_log.specs.AnswerExamples.{faulty, failed, read_failed, creates_done, failed_told};
 ghost use Rattle.nvme_log.specs.Laws.{KeepsThePromise, NoneAfterDelete, PickedOnce, AbortedUnpicked, CompletedAfter, PromisesServeOnce};
-ghost use Rattle.nvme_log.specs.Laws.{QueuesAreTheTables, StartsWithAdmin, OneFateEach, PlacesAreTaken, EachIsExecutedOnce, PrefixesAreAccounted, OnePostEach, WholeAccountsAnswer, WholeAccountsKeepThePromise};
+ghost use Rattle.nvme_log.specs.Laws.{QueuesAreTheTables, StartsWithAdmin, OneFateEach, PlacesAreTaken, PrefixesAreAccounted, OnePostEach, WholeAccountsAnswer, WholeAccountsKeepThePromise};
 
 /// Each fetched place has exactly one fate: it waits, was picked or was aborted.
 pub fn each_place_has_one_fate()
@@ -243,15 +243,11 @@ pub fn deletions_forbid()
     ensures posted_after_closed { Deletes closed_4 (Post 1 2 0 (four_done 10 true success)) → ⊥ }
 {}
 
-/// Worked steps of that log: the places that workers get, in order, with their jobs; how many commands were picked, are
+/// Worked steps of that log: the places that workers get, in order; how many commands were picked, are
 /// outstanding and have no post; which command deletes; which regions and places are served; and that a region that
 /// doesn't exist has no slots.
 pub fn worked_steps_are_counted()
     ensures dispatched { dispatched all_closed ≡ place_at 2 0 ∷ place_at 2 1 ∷ place_at 2 2 ∷ [] }
-    ensures jobs { AreJobs four_numbers.sizes all_closed 0 (dispatched all_closed) three_jobs }
-    ensures a_job_missing { AreJobs four_numbers.sizes all_closed 0 (dispatched all_closed) (job_with 0 10 ∷ job_with 1 11 ∷ []) → ⊥ }
-    ensures a_job_too_many { AreJobs four_numbers.sizes all_closed 0 (dispatched all_closed) (three_jobs ++ job_with 3 13 ∷ []) → ⊥ }
-    ensures jobs_over_other_spaces { AreJobs (999 ∷ []) all_closed 0 (dispatched all_closed) three_jobs → ⊥ }
     ensures picks { picks_in all_closed ≡ 7 }
     ensures posts { posts_of all_closed 2 3 ≡ 1 }
     ensures unposted { unposted_of closing_4 2 ≡ 4 }
@@ -457,12 +453,6 @@ pub fn loaded_logs_that_end_early_are_refused()
 /// A pick and an abort may take the last place that may be outstanding, and none beyond it.
 pub fn last_place_may_be_taken()
     ensures { (rules : FrontRules) (past : Past) → PlacesAreTaken rules past }
-{}
-
-/// The ticket of each picked I/O command's job is its position among the picked ones. The job was handed over and
-/// executed once, whatever the number of workers, and one result of it was gained.
-pub fn each_is_executed_once()
-    ensures { EachIsExecutedOnce }
 {}
 
 /// The limits are the constants. An admin pick logs at most two events and one for each candidate of a full window. At

@@ -1,1 +1,1 @@
-pub mod Combinations
+mod Combinations

@@ -1,3 +1,3 @@
-pub mod Explaining
-pub mod Inputs
-pub mod Foreseeing
+mod Explaining
+mod Inputs
+mod Foreseeing

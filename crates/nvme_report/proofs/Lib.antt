@@ -1,8 +1,7 @@
-pub mod Completions
+mod Completions
 pub mod LoadedReports
-pub mod Counted
-pub mod Lines
-pub mod Loops
-pub mod Parts
-pub mod PostedOnce
-pub mod Tallied
+mod Counted
+mod Lines
+mod Loops
+mod Parts
+mod Tallied

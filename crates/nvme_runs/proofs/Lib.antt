@@ -1,14 +1,14 @@
-pub mod Accounts
-pub mod Adding
+mod Accounts
+mod Adding
 pub mod Answering
-pub mod Driven
-pub mod Failing
-pub mod Fitting
-pub mod LoadedRuns
-pub mod Meaning
-pub mod Rings
-pub mod Settled
-pub mod Sites
-pub mod Telling
-pub mod Told
-pub mod TooLong
+mod Driven
+mod Failing
+mod Fitting
+mod LoadedRuns
+mod Meaning
+mod Rings
+mod Settled
+mod Sites
+mod Telling
+mod Told
+mod TooLong

@@ -9,7 +9,8 @@ use Rattle.nvme_pool.specs.Seat.{SeatView}
 use Rattle.nvme_pool.proofs.Retiring.{sum_by_map}
 use Rattle.nvme_log.specs.Rules.{Past}
 use Rattle.nvme_log.specs.declared.place.Place.{Place}
-use Rattle.nvme_log.specs.Dispatches.{AreJobs, ExecutesOnce, dispatched}
+use Rattle.nvme_log.specs.Dispatches.{dispatched}
+use Rattle.nvme_jobs.specs.Executions.{AreJobs, ExecutesOnce}
 use Rattle.nvme_threads.specs.Runs.{AllRan}
 use Rattle.nvme_runs.specs.Runs.{AreTold, GatesRan, view_after}
 

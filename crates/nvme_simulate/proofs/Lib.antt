@@ -1,3 +1,3 @@
-pub mod Mixes
-pub mod Steps
-pub mod Totals
+mod Mixes
+mod Steps
+mod Totals

@@ -4,7 +4,7 @@ use Rattle.std.proofs.lemmas.Bool.Decides.{nat_tests}
 use Rattle.nvme_clock.specs.Held.{Held}
 use Rattle.nvme_clock.specs.declared.events.Event.{Event as Timed}
 use Rattle.nvme_log.specs.Rules.{FrontRules}
-use Rattle.nvme_ctrl.specs.Notes.{Notes}
+use Rattle.nvme_ctrl_log.specs.Notes.{Notes}
 use Rattle.nvme_model.specs.declared.model.End.{End}
 use Rattle.nvme_occupancy.specs.Occupancies.{Comes}
 use Rattle.nvme_occupancy.specs.declared.occupancy.Occupancy.{Occupancy}

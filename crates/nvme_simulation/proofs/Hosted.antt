@@ -5,7 +5,6 @@ use Rattle.std.proofs.lemmas.Bool.{cases_eq}
 use Rattle.nvme_simulation.specs.declared.host.Host.{Host}
 use Rattle.nvme_simulation.specs.declared.hosts.Hosts.{Hosts}
 use Rattle.nvme_simulation.specs.Progress.{AllGoOn, Between, EndsOne, GoOn, OneEnds}
-use Rattle.nvme_simulation.proofs.Moves.{set_here, set_there}
 use Rattle.nvme_simulation.proofs.Progress.{and_then, ends_after, ends_before, stay}
 
 between_stay : (o : Option Host) → Between GoOn o o
@@ -41,35 +40,6 @@ all_stay hs = record { each = λ k. between_stay (slice_get hs.all.items k) }
 
 pub all_then : (a b c : Hosts) → AllGoOn a b → AllGoOn b c → AllGoOn a c
 all_then a b c first second = record { each = λ k. between_then (slice_get a.all.items k) (slice_get b.all.items k) (slice_get c.all.items k) (first.each k) (second.each k) }
-
--- one host's commands go on
-pub one_goes : (before after : Hosts) (place : ℕ) (h w : Host) → after.all.items ≡ slice_set before.all.items place w → place < length before.all.items
-    → slice_get before.all.items place ≡ Some h → GoOn h.flights w.flights → AllGoOn before after
-one_goes before after place h w items within at goes = record {
-  each = λ k. elim (cases_eq k place) [
-    | inl same ↦
-        let was : slice_get before.all.items k ≡ Some h = ap (slice_get before.all.items) same ∙ at in
-        let is : slice_get after.all.items k ≡ Some w = ap (slice_get after.all.items) same ∙ ap (λ (xs : List Host). slice_get xs place) items ∙ set_here before.all.items place w within in
-        rw (was, is) goes
-    | inr other ↦
-        let is : slice_get after.all.items k ≡ slice_get before.all.items k = ap (λ (xs : List Host). slice_get xs k) items ∙ set_there before.all.items place k w other in
-        rw is (between_stay (slice_get before.all.items k))
-  ];
-}
-
--- a command of one host ends
-pub one_ends : (before after : Hosts) (qid number place : ℕ) (h w : Host) → qid ≡ place + 1 → after.all.items ≡ slice_set before.all.items place w
-    → place < length before.all.items → slice_get before.all.items place ≡ Some h → EndsOne number h.flights w.flights → OneEnds qid number before after
-one_ends before after qid number place h w queue items within at ends = record {
-  place = place;
-  queue = queue;
-  ends =
-      let is : slice_get after.all.items place ≡ Some w = ap (λ (xs : List Host). slice_get xs place) items ∙ set_here before.all.items place w within in
-      rw (at, is) ends;
-  others = λ k other.
-      let is : slice_get after.all.items k ≡ slice_get before.all.items k = ap (λ (xs : List Host). slice_get xs k) items ∙ set_there before.all.items place k w other in
-      rw is (between_stay (slice_get before.all.items k));
-}
 
 pub one_after : (qid number : ℕ) (a b c : Hosts) → AllGoOn a b → OneEnds qid number b c → OneEnds qid number a c
 one_after qid number a b c first e = record {

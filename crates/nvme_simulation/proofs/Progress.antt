@@ -77,9 +77,6 @@ come before after c = record {
   ];
 }
 
-pub as_far : (before after : Flights) → Stays before after → GoOn before after
-as_far before after s = record { rises = λ n. no_less (stage_at after n) (stage_at before n) (s n); done = λ n is. sym (s n) ∙ is }
-
 -- commands go on before one ends, and after
 pub ends_after : (number : ℕ) (a b c : Flights) → GoOn a b → EndsOne number b c → EndsOne number a c
 ends_after number a b c first e = record {

@@ -138,13 +138,3 @@ resume_room now k d =
     either (λ (o : Outcome). room_of o.1 ≤ room_of d) (nat_lt k (length d.channels)) _ _ (λ t.
     let l : k < length d.channels = grind (arith, nat_tests) in
     omega (arith, refill_room now k (resumed (channel_at d k)) d l (omega arith))) (λ t. omega arith)
-
-pub pause_room : (k : ℕ) (d : Device) → room_of (pause_of k d).1 ≤ room_of d
-pause_room k d = go (nat_lt k (length d.channels)) refl
-  where
-    go : (b : Bool) → nat_lt k (length d.channels) ≡ b → room_of (pause_of k d).1 ≤ room_of d
-    go true t =
-        let l : k < length d.channels = grind (arith, nat_tests) in
-        let counts = running_set d.channels k (paused (channel_at d k)) l in
-        rw t (omega (arith, counts))
-    go false t = rw t (omega arith)

@@ -1,8 +1,8 @@
 -- What a step tells of picks and of times. (Base Specification, Command Arbitration; room and time: profile)
 use Rattle.std.specs.Prelude.{◌≡◌, ◌⊎◌, ℕ, None, Some}
 use Rattle.nvme_log.specs.Rules.{FrontRules}
-use Rattle.nvme_ctrl.specs.Notes.{Notes}
-use Rattle.nvme_ctrl.specs.Steps.{IsNextPick, IsNextWithin}
+use Rattle.nvme_ctrl_log.specs.Notes.{Notes}
+use Rattle.nvme_ctrl_log.specs.Steps.{IsNextPick, IsNextWithin}
 use Rattle.nvme_simulation.specs.declared.happening.Happening.{Happening}
 use Rattle.nvme_simulation.specs.declared.happening.Happening.TheVariants.{Picked, Settled, Finished}
 

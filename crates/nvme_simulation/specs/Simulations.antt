@@ -1,7 +1,7 @@
 -- What stands at each step of a simulation, and what a step leaves. (profile)
 use Rattle.std.specs.Prelude.{◌≡◌, ℕ, Bool}
 use Rattle.nvme_log.specs.Rules.{FrontRules}
-use Rattle.nvme_ctrl.specs.Notes.{Notes}
+use Rattle.nvme_ctrl_log.specs.Notes.{Notes}
 use Rattle.nvme_model.specs.declared.model.End.{End}
 use Rattle.nvme_occupancy.specs.declared.occupancy.Occupancy.{Occupancy}
 use Rattle.nvme_simulation.specs.Devices.{IsBehind, IsDevice, device_in, room_in}

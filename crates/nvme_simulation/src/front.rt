@@ -41,8 +41,8 @@ impl Front {
     ghost use Rattle.std.specs.Prelude.{◌≡◌, Bool, IfOk, None, Some};
     ghost use Rattle.nvme_arbiter.specs.declared.pick.Pick.{Pick};
     ghost use Rattle.nvme_log.specs.Rules.{FrontRules};
-    ghost use Rattle.nvme_ctrl.specs.Notes.{Notes};
-    ghost use Rattle.nvme_ctrl.specs.Steps.{IsNextPick, IsNextWithin};
+    ghost use Rattle.nvme_ctrl_log.specs.Notes.{Notes};
+    ghost use Rattle.nvme_ctrl_log.specs.Steps.{IsNextPick, IsNextWithin};
     ghost use Rattle.nvme_ctrl.specs.declared.picks.Step.TheVariants as step;
     ghost use Rattle.nvme_simulation.specs.Fronts.{IsFront, IsFrontOf, StandsBy, StaysFront};
 

@@ -24,7 +24,7 @@ const NO_COMMAND: SimulationFault = SimulationFault::Broken(Broken::Command);
 impl Machine {
     ghost use Rattle.std.specs.Prelude.{◌≡◌, ◌≤◌, ◌<◌, ◌+◌, ◌-◌, ◌*◌, ℕ, Bool, IfOk, OnOk};
     ghost use Rattle.nvme_log.specs.Rules.{FrontRules};
-    ghost use Rattle.nvme_ctrl.specs.Notes.{Notes};
+    ghost use Rattle.nvme_ctrl_log.specs.Notes.{Notes};
     ghost use Rattle.nvme_simulation.specs.Picks.{IsLawful, IsTimed};
     ghost use Rattle.nvme_model.specs.declared.model.End.{End};
     ghost use Rattle.nvme_occupancy.specs.declared.occupancy.Occupancy.{Occupancy};

@@ -29,7 +29,7 @@ pub struct Simulation {
 impl Simulation {
     ghost use Rattle.std.specs.Prelude.{◌≡◌, ◌≤◌, ◌+◌, ◌-◌, ◌*◌, Bool, true, false, IfOk, OnOk};
     ghost use Rattle.nvme_log.specs.Rules.{FrontRules};
-    ghost use Rattle.nvme_ctrl.specs.Notes.{Notes};
+    ghost use Rattle.nvme_ctrl_log.specs.Notes.{Notes};
     ghost use Rattle.nvme_occupancy.specs.Occupancies.{Comes, Leaves};
     ghost use Rattle.nvme_simulation.specs.Beginnings.{IsNewOf};
     ghost use Rattle.nvme_simulation.specs.Counts.{may_come};

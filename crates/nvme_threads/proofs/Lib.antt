@@ -1,5 +1,5 @@
-pub mod FedTurns
-pub mod Joins
-pub mod LoadedTurns
-pub mod Running
-pub mod Turned
+mod FedTurns
+mod Joins
+mod LoadedTurns
+mod Running
+mod Turned

@@ -1,7 +1,7 @@
-pub mod PlainLines
-pub mod WrittenJson
-pub mod ShortLines
-pub mod ReadLines
-pub mod TracedLines
-pub mod AccountedSettings
-pub mod TraceLaws
+mod PlainLines
+mod WrittenJson
+mod ShortLines
+mod ReadLines
+mod TracedLines
+mod AccountedSettings
+mod TraceLaws

@@ -3,7 +3,7 @@ ghost use Rattle.std.specs.Prelude.{◌≡◌, ◌≢◌, ◌*◌, ◌<◌, ◌�
 ghost use Rattle.std.specs.Simd.{first_chunks};
 ghost use Rattle.nvme_ctrl.specs.Own.{own_of};
 ghost use Rattle.nvme_ctrl.specs.Standing.{IsController};
-ghost use Rattle.nvme_ctrl.specs.Generations.{SameGenerations};
+ghost use Rattle.nvme_slots.specs.Generations.{SameGenerations};
 ghost use Rattle.nvme_ctrl.specs.Calls.{depths_of};
 ghost use Rattle.nvme_capi.specs.Controllers.{is_ctrl, has_slots, IsKept, StaysMade};
 ghost use Rattle.nvme_capi.specs.Batches.{Each, FetchesOne, TakesOne, PostsOne, NoneToFetch, NoneToTake, NoneToPost, with_slots, entries_in};

@@ -3,11 +3,11 @@ ghost use Rattle.std.specs.Prelude.{◌≡◌, ◌≢◌, ◌<◌, ◌==◌, ◌
 ghost use Rattle.nvme_arbiter.specs.declared.settings.Class.{Class};
 ghost use Rattle.nvme_log.specs.Rules.{FrontRules};
 ghost use Rattle.nvme_ctrl.specs.Own.{own_of};
-ghost use Rattle.nvme_ctrl.specs.Notes.{Notes, Held, Classed};
-ghost use Rattle.nvme_ctrl.specs.Account.{MayBeHeld, MayBeClassed};
+ghost use Rattle.nvme_ctrl_log.specs.Notes.{Notes, Held, Classed};
+ghost use Rattle.nvme_ctrl_log.specs.Account.{MayBeHeld, MayBeClassed};
 ghost use Rattle.nvme_ctrl.specs.Standing.{Stands};
 ghost use Rattle.nvme_ctrl.specs.Calls.{depths_of};
-ghost use Rattle.nvme_ctrl.specs.declared.slot.Slot.{Slot};
+ghost use Rattle.nvme_slots.specs.declared.slot.Slot.{Slot};
 ghost use Rattle.nvme_capi.specs.Controllers.{is_ctrl, has_depth, io_class_of, IsKept, StaysMade};
 
 use crate::ctrl::state::{CtrlState, is_ctrl, is_depth};

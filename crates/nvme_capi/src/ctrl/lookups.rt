@@ -1,19 +1,19 @@
 // What is seen of a controller of C.
 ghost use Rattle.std.specs.Prelude.{◌≡◌, ◌≢◌, ◌≤◌, ◌⊎◌, ◌↔◌, ℕ, Bool, true, false, List, length, None, Some, IsTrue, IsFalse, IsSomeAnd, is_some};
-ghost use Rattle.nvme_ctrl.specs.Making.{placing_in};
-ghost use Rattle.nvme_ctrl.specs.Steps.{IsIdentifier};
+ghost use Rattle.nvme_ctrl_log.specs.Making.{placing_in};
+ghost use Rattle.nvme_ctrl_log.specs.Steps.{IsIdentifier};
 ghost use Rattle.nvme_log.specs.Rules.{FrontRules};
 ghost use Rattle.nvme_log.specs.Queues.{Queue, open_sq, open_cq};
 ghost use Rattle.nvme_log.specs.Places.{entry_at, waiting};
 ghost use Rattle.nvme_log.specs.declared.place.Place.{Place};
-ghost use Rattle.nvme_ctrl.specs.Notes.{Notes, logged};
+ghost use Rattle.nvme_ctrl_log.specs.Notes.{Notes, logged};
 ghost use Rattle.nvme_ctrl.specs.Standing.{Stands};
-ghost use Rattle.nvme_ctrl.specs.Calls.{IsTagOf};
-ghost use Rattle.nvme_ctrl.specs.Observation.{seen_in};
-ghost use Rattle.nvme_ctrl.specs.Waits.{WaitsAt};
-ghost use Rattle.nvme_ctrl.specs.Tags.{holder, cookie_of};
-ghost use Rattle.nvme_ctrl.specs.Generations.{tag_of, tag_at};
-ghost use Rattle.nvme_ctrl.specs.declared.slot.Slot.{Slot};
+ghost use Rattle.nvme_ctrl_log.specs.Calls.{IsTagOf};
+ghost use Rattle.nvme_ctrl_log.specs.Observation.{seen_in};
+ghost use Rattle.nvme_ctrl_log.specs.Waits.{WaitsAt};
+ghost use Rattle.nvme_ctrl_log.specs.Tags.{holder, cookie_of};
+ghost use Rattle.nvme_slots.specs.Generations.{tag_of, tag_at};
+ghost use Rattle.nvme_slots.specs.declared.slot.Slot.{Slot};
 ghost use Rattle.nvme_capi.specs.Controllers.{is_ctrl, has_slots, IsOutUnder, IsCommandIn};
 ghost use Rattle.nvme_capi.specs.States.{seen_of_fields};
 

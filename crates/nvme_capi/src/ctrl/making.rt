@@ -3,13 +3,14 @@ ghost use Rattle.std.specs.Prelude.{◌≡◌, ◌≢◌, ◌⊎◌, ◌↔◌, 
 ghost use Rattle.nvme_admin.specs.History.{Submission, Completion};
 ghost use Rattle.nvme_admin.specs.declared.region.AdminError.TheVariants.{Used, TooMany, Size};
 ghost use Rattle.nvme_log.specs.Rules.{FrontRules, sq_regions_of, cq_regions_of};
-ghost use Rattle.nvme_ctrl.specs.Generations.{SameGenerations};
+ghost use Rattle.nvme_slots.specs.Generations.{SameGenerations};
 ghost use Rattle.nvme_ctrl.specs.Own.{own_of, no_own, with_opcode, with_feature};
-ghost use Rattle.nvme_ctrl.specs.Notes.{Notes};
+ghost use Rattle.nvme_ctrl_log.specs.Notes.{Notes};
 ghost use Rattle.nvme_ctrl.specs.Standing.{Stands, IsController};
-ghost use Rattle.nvme_ctrl.specs.Calls.{depths_of, equal_depths};
-ghost use Rattle.nvme_ctrl.specs.Making.{admin_fault, adding_fault, with_region, is_late};
-ghost use Rattle.nvme_ctrl.specs.declared.slot.Slot.{Slot};
+ghost use Rattle.nvme_ctrl.specs.Calls.{depths_of};
+ghost use Rattle.nvme_ctrl_log.specs.Calls.{equal_depths};
+ghost use Rattle.nvme_ctrl_log.specs.Making.{admin_fault, adding_fault, with_region, is_late};
+ghost use Rattle.nvme_slots.specs.declared.slot.Slot.{Slot};
 ghost use Rattle.nvme_capi.specs.Controllers.{is_ctrl, has_depths, is_config, is_placement, IsMadeOf, IsMadeAnywhereOf, IsKept, StaysMade};
 ghost use Rattle.nvme_placing.specs.Telling.{is_ring_size};
 

@@ -1,12 +1,13 @@
 // The next queue of a controller of C that has work.
 ghost use Rattle.std.specs.Prelude.{◌≡◌, ◌≢◌, ◌⊎◌, ◌↔◌, ℕ, Bool, List, length, min, None, IsTrue, IsFalse};
 ghost use Rattle.nvme_log.specs.Rules.{FrontRules};
-ghost use Rattle.nvme_ctrl.specs.Notes.{Notes};
+ghost use Rattle.nvme_ctrl_log.specs.Notes.{Notes};
 ghost use Rattle.nvme_ctrl.specs.Standing.{Stands};
-ghost use Rattle.nvme_ctrl.specs.Calls.{depth_of, MayFetch};
+ghost use Rattle.nvme_ctrl.specs.Calls.{depth_of};
+ghost use Rattle.nvme_ctrl_log.specs.Calls.{MayFetch};
 ghost use Rattle.nvme_ctrl.specs.Posts.{next_post_of};
 ghost use Rattle.nvme_ctrl.specs.NextQueue.{IsNextWith, HasFetch, HasPost};
-ghost use Rattle.nvme_ctrl.specs.declared.slot.Slot.{Slot};
+ghost use Rattle.nvme_slots.specs.declared.slot.Slot.{Slot};
 ghost use Rattle.nvme_capi.specs.Controllers.{is_ctrl, has_slots};
 
 use crate::ctrl::state::{CtrlState, has_slots, is_ctrl};

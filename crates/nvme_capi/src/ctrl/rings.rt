@@ -4,12 +4,13 @@ ghost use Rattle.nvme_entry.specs.Submission.{IsSubmissionEntry};
 ghost use Rattle.nvme_entry.specs.declared.submission.Sqe.{Sqe};
 ghost use Rattle.nvme_log.specs.Rules.{FrontRules};
 ghost use Rattle.nvme_log.specs.Queues.{open_sq, open_cq};
-ghost use Rattle.nvme_ctrl.specs.Generations.{SameGenerations};
+ghost use Rattle.nvme_slots.specs.Generations.{SameGenerations};
 ghost use Rattle.nvme_ctrl.specs.Own.{own_of};
-ghost use Rattle.nvme_ctrl.specs.Notes.{Notes, logged};
+ghost use Rattle.nvme_ctrl_log.specs.Notes.{Notes, logged};
 ghost use Rattle.nvme_ctrl.specs.Standing.{Stands, IsController};
-ghost use Rattle.nvme_ctrl.specs.Calls.{depths_of, depth_of, IsTailOf, TailRung, IsHeadOf, HeadRung, MayFetch, HasFetched};
-ghost use Rattle.nvme_ctrl.specs.declared.slot.Slot.{Slot};
+ghost use Rattle.nvme_ctrl.specs.Calls.{depths_of, depth_of, TailRung, HeadRung, HasFetched};
+ghost use Rattle.nvme_ctrl_log.specs.Calls.{IsTailOf, IsHeadOf, MayFetch};
+ghost use Rattle.nvme_slots.specs.declared.slot.Slot.{Slot};
 ghost use Rattle.nvme_capi.specs.Batches.{FetchesOne, NoneToFetch, with_slots};
 ghost use Rattle.nvme_capi.specs.Controllers.{is_ctrl, has_slots, IsKept, StaysMade};
 

@@ -5,8 +5,8 @@ use Rattle.nvme_admin.specs.Standing.{sq_of}
 use Rattle.nvme_admin.specs.declared.verdict.SqEntry.{SqEntry}
 use Rattle.nvme_log.specs.Limits.{window_of}
 use Rattle.nvme_ctrl.specs.Calls.{depth_of}
-use Rattle.nvme_ctrl.specs.Doorbells.{gap}
-use Rattle.nvme_ctrl.specs.declared.ring.Ring.{Ring}
+use Rattle.nvme_ctrl_log.specs.Doorbells.{gap}
+use Rattle.nvme_slots.specs.declared.ring.Ring.{Ring}
 use Rattle.nvme_ctrl.specs.declared.state.Controller.{Controller}
 use Rattle.nvme_ctrl.specs.kept.State.{sq_at, picked_in}
 

@@ -3,12 +3,12 @@ use Rattle.std.specs.Prelude.{◌≡◌, ◌≢◌, ℕ, ◌<◌, ◌==◌, fals
 use Rattle.std.specs.List.{All}
 use Rattle.nvme_entry.specs.Status.{StatusCode}
 use Rattle.nvme_log.specs.Rules.{FrontRules}
-use Rattle.nvme_ctrl.specs.StatusFlags.{own_flags}
-use Rattle.nvme_ctrl.specs.Notes.{Notes}
-use Rattle.nvme_ctrl.specs.declared.slot.Slot.{Slot}
+use Rattle.nvme_ctrl_log.specs.StatusFlags.{own_flags}
+use Rattle.nvme_ctrl_log.specs.Notes.{Notes}
+use Rattle.nvme_slots.specs.declared.slot.Slot.{Slot}
 use Rattle.nvme_ctrl.specs.declared.state.Controller.{Controller}
-use Rattle.nvme_ctrl.specs.kept.Content.{Ready, Content}
-use Rattle.nvme_ctrl.specs.kept.Pool.{slot_at, IsNew}
+use Rattle.nvme_ctrl_content.specs.Content.{Ready, Content}
+use Rattle.nvme_slots.specs.Pool.{slot_at, IsNew}
 use Rattle.nvme_ctrl.specs.kept.Kept.{ReadyItem, DeleteItem, Items, tags_of, ready_tags, ready_state, HasNumbers, HasItems, HoldsDoorbells, HoldsTags}
 
 -- a slot is in no list, and the device hadn't its command

@@ -7,9 +7,9 @@ use Rattle.nvme_arbiter.specs.Queues.{seen_of}
 use Rattle.nvme_arbiter.specs.Standing.{pick_of}
 use Rattle.nvme_arbiter.specs.declared.pick.Pick.{Pick}
 use Rattle.nvme_ctrl.specs.Standing.{IsController}
-use Rattle.nvme_ctrl.specs.declared.slot.Slot.{Slot}
+use Rattle.nvme_slots.specs.declared.slot.Slot.{Slot}
 use Rattle.nvme_ctrl.specs.declared.state.Controller.{Controller}
-use Rattle.nvme_ctrl.specs.kept.Pool.{slot_at}
+use Rattle.nvme_slots.specs.Pool.{slot_at}
 use Rattle.nvme_ctrl.specs.kept.State.{sq_at}
 
 -- the entry of the first command of the admin queue's window

@@ -1,6 +1,6 @@
 -- What a controller counts after a post (profile).
 use Rattle.std.specs.Prelude.{◌-◌, ◌==◌, if◌then◌else◌, slice_set}
-use Rattle.nvme_ctrl.specs.declared.slot.Slot.{Slot}
+use Rattle.nvme_slots.specs.declared.slot.Slot.{Slot}
 use Rattle.nvme_ctrl.specs.declared.state.Controller.{Controller}
 use Rattle.nvme_ctrl.specs.kept.State.{sq_at}
 

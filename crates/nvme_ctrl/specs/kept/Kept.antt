@@ -1,32 +1,32 @@
 -- When a controller keeps some content, and stands at its log (profile).
-use Rattle.std.specs.Prelude.{◌≡◌, ◌≢◌, ℕ, suc, ◌+◌, ◌<◌, ◌≤◌, ◌^◌, ◌==◌, ◌&&◌, ◌⊎◌, Bool, true, false, if◌then◌else◌, List, [], ◌∷◌, ◌++◌, length, map, take, drop, Option, Some, None, option_map, unwrap_or, is_some, IsTrue}
+use Rattle.std.specs.Prelude.{◌≡◌, ◌≢◌, ℕ, ◌+◌, ◌<◌, ◌≤◌, ◌^◌, ◌==◌, ◌&&◌, ◌⊎◌, Bool, true, false, if◌then◌else◌, List, [], ◌∷◌, ◌++◌, length, map, take, drop, Option, Some, None, option_map, unwrap_or, IsTrue}
 use Rattle.std.specs.List.{All}
 use Rattle.nvme_entry.specs.declared.submission.Sqe.{Sqe}
 use Rattle.nvme_arbiter.specs.Layout.{is_arbiter, board_of}
 use Rattle.nvme_placing.specs.Telling.{Tells}
 use Rattle.nvme_admin.specs.declared.verdict.SqEntry.{SqEntry}
 use Rattle.nvme_log.specs.Rules.{FrontRules, Past}
-use Rattle.nvme_log.specs.Queues.{Queue, open_sq}
 use Rattle.nvme_log.specs.Places.{fetched, is_aborted, entry_at, fate_of, is_waiting}
 use Rattle.nvme_log.specs.Completions.{posted_to, phase_after}
 use Rattle.nvme_log.specs.Dispatches.{place_at}
 use Rattle.nvme_log.specs.declared.place.Place.{Place}
-use Rattle.nvme_ctrl.specs.Notes.{Notes, logged}
-use Rattle.nvme_ctrl.specs.Doorbells.{submitted, consumed}
-use Rattle.nvme_ctrl.specs.Rings.{HasCounts}
-use Rattle.nvme_ctrl.specs.StatusFlags.{flags_or}
-use Rattle.nvme_ctrl.specs.Tags.{is_passed, is_of_device, handed, taken, holder, answer_of, cookie_of, flags_of, is_out, all_fetches, all_posts}
-use Rattle.nvme_ctrl.specs.Observation.{is_held, class_set}
-use Rattle.nvme_ctrl.specs.Account.{IsAccount}
-use Rattle.nvme_ctrl.specs.declared.status_flags.StatusFlags.{StatusFlags}
-use Rattle.nvme_ctrl.specs.declared.slot.Slot.{Slot}
+use Rattle.nvme_ctrl_log.specs.Notes.{Notes, logged}
+use Rattle.nvme_ctrl_log.specs.Doorbells.{submitted, consumed}
+use Rattle.nvme_slots.specs.Rings.{HasCounts}
+use Rattle.nvme_ctrl_log.specs.StatusFlags.{flags_or}
+use Rattle.nvme_ctrl_log.specs.Tags.{is_passed, is_of_device, handed, taken, holder, answer_of, cookie_of, flags_of, is_out, all_fetches, all_posts}
+use Rattle.nvme_ctrl_log.specs.Account.{IsAccount}
+use Rattle.nvme_ctrl_log.specs.declared.status_flags.StatusFlags.{StatusFlags}
+use Rattle.nvme_slots.specs.declared.slot.Slot.{Slot}
 use Rattle.nvme_ctrl.specs.declared.state.Controller.{Controller}
 use Rattle.nvme_ctrl.specs.declared.state.Deletion.{Deletion}
-use Rattle.nvme_ctrl.specs.kept.Content.{Candidate, Ready, PendingDelete, Content}
-use Rattle.nvme_ctrl.specs.kept.Standing.{Holds, answer_in, is_opened_cq}
-use Rattle.nvme_ctrl.specs.kept.Pool.{slot_at, flags_in, IsChain, AreApart}
+use Rattle.nvme_ctrl_content.specs.Content.{Candidate, Ready, PendingDelete, Content}
+use Rattle.nvme_ctrl_content.specs.Standing.{Holds, answer_in}
+use Rattle.nvme_ctrl_log.specs.Regions.{is_opened_cq}
+use Rattle.nvme_slots.specs.Pool.{slot_at, flags_in, IsChain, AreApart}
 use Rattle.nvme_ctrl.specs.kept.QueueSets.{HoldsRung, HoldsReadied}
 use Rattle.nvme_ctrl.specs.kept.State.{no_sq_state, no_cq_state, sq_at, cq_at, deletion_at, pending_tag, count_pending, picked_in}
+use Rattle.nvme_ctrl_content.specs.Shown.{HoldsShown, HasRegionsMade}
 
 -- ---- commands in slots
 -- a command in a slot that waits, or that the device has: its slot, its place, which nobody keeps, and its entry
@@ -318,16 +318,6 @@ pub record HoldsTags (notes : Notes) (c : Controller) (slots : List Slot) (k : C
   -- what isn't answered isn't flagged
   pub none_flagged : (r i : ℕ) → answer_of notes r i ≡ None → flags_of notes r i ≡ None
   pub flags : (x : ℕ) → All (HasFlags notes) (g.readies x)
-
--- each open queue is held as its log says, and has the class that was set
-pub record HoldsShown (notes : Notes) (k : Content) : Type 0 where
-  pub held : (q : ℕ) (queue : Queue) → open_sq (logged notes) q ≡ Some queue → k.held queue.region ≡ is_held notes q
-  pub classed : (q : ℕ) (queue : Queue) → open_sq (logged notes) q ≡ Some queue → k.classed queue.region ≡ class_set notes q
-
--- where queues may lie anywhere, the regions are those of the admin queues and of the queues that were created
-pub record HasRegionsMade (k : Content) : Type 0 where
-  pub sqs : is_some k.table.placing ≡ true → k.nsq ≡ suc k.table.sqs_made
-  pub cqs : is_some k.table.placing ≡ true → k.ncq ≡ suc k.table.cqs_made
 
 -- a controller stands at its log. The log is accounted where no region was added late
 pub record StandsAt (rules : FrontRules) (late : Bool) (notes : Notes) (c : Controller) (slots : List Slot) : Type 0 where

@@ -1,8 +1,8 @@
 -- The state of a controller as it lies in memory, by queue (profile).
 use Rattle.std.specs.Prelude.{◌≡◌, ◌≢◌, ℕ, ◌==◌, not, if◌then◌else◌, List, get_or, sum_by, Option, Some, None}
 use Rattle.nvme_log.specs.Places.{one_if}
-use Rattle.nvme_ctrl.specs.declared.ring.Ring.{Ring}
-use Rattle.nvme_ctrl.specs.declared.chain.Chain.{Chain}
+use Rattle.nvme_slots.specs.declared.ring.Ring.{Ring}
+use Rattle.nvme_slots.specs.declared.chain.Chain.{Chain}
 use Rattle.nvme_ctrl.specs.declared.state.SqState.{SqState}
 use Rattle.nvme_ctrl.specs.declared.state.CqState.{CqState}
 use Rattle.nvme_ctrl.specs.declared.state.Deletion.{Deletion}

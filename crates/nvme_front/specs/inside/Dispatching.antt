@@ -3,8 +3,8 @@ use Rattle.std.specs.Prelude.{◌≡◌, ℕ, ◌+◌, Bool, List, [], ◌∷◌
 use Rattle.nvme_log.specs.Rules.{FrontRules}
 use Rattle.nvme_log.specs.Places.{entry_at}
 use Rattle.nvme_log.specs.Dispatches.{place_at}
-use Rattle.nvme_ctrl.specs.Notes.{Notes, Taken, logged}
-use Rattle.nvme_ctrl.specs.Tags.{holder, answer_of}
+use Rattle.nvme_ctrl_log.specs.Notes.{Notes, Taken, logged}
+use Rattle.nvme_ctrl_log.specs.Tags.{holder, answer_of}
 use Rattle.nvme_engine.specs.Standing.{StandsAt}
 use Rattle.nvme_engine.specs.declared.engine.Engine.{Engine}
 use Rattle.nvme_jobs.specs.declared.dispatched.Dispatched.{Dispatched}

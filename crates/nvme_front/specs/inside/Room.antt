@@ -7,9 +7,9 @@ use Rattle.nvme_lane.specs.View.{PutView}
 use Rattle.nvme_log.specs.Limits.{max_outstanding}
 use Rattle.nvme_log.specs.Places.{fetched}
 use Rattle.nvme_log.specs.Completions.{posted_to}
-use Rattle.nvme_ctrl.specs.Notes.{Notes, logged}
-use Rattle.nvme_ctrl.specs.Tags.{holder, is_out}
-use Rattle.nvme_ctrl.specs.kept.Pool.{AreApart}
+use Rattle.nvme_ctrl_log.specs.Notes.{Notes, logged}
+use Rattle.nvme_ctrl_log.specs.Tags.{holder, is_out}
+use Rattle.nvme_slots.specs.Pool.{AreApart}
 use Rattle.nvme_engine.specs.Standing.{StandsAt, HasPool}
 use Rattle.nvme_jobs.specs.declared.dispatched.Dispatched.{Dispatched}
 use Rattle.nvme_jobs.specs.Hands.{in_hand}

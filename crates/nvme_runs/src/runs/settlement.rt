@@ -3,7 +3,7 @@ ghost use Rattle.std.specs.Prelude.{◌≡◌, ◌≢◌, ◌↔◌, ◌⊎◌, 
 ghost use Rattle.nvme_admin.specs.declared.bounds.TheConstants.{MAX_REGIONS};
 ghost use Rattle.nvme_front.specs.Hosts.{IsFedBy, IsDrainedBy, told, told_by};
 ghost use Rattle.nvme_front.specs.Settles.{HasItsPool, AreAtRest, IsSettled, IsSettledAccount, AnswersWereExecuted, settled_past};
-ghost use Rattle.nvme_log.specs.Dispatches.{ExecutesOnce};
+ghost use Rattle.nvme_jobs.specs.Executions.{ExecutesOnce};
 ghost use Rattle.nvme_lane.specs.Feeder.{script_of, count_of};
 ghost use Rattle.nvme_front.specs.declared.settled.SettleError.TheVariants as settling;
 ghost use Rattle.nvme_lane.specs.declared.mode.Mode.TheVariants.{Loaded};

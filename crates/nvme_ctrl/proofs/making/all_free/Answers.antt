@@ -1,8 +1,8 @@
 use Rattle.std.proofs.Common.{◌∙◌, ap, refl, arith, length, List}
-use Rattle.nvme_ctrl.specs.declared.slot.Slot.{Slot}
-use Rattle.nvme_ctrl.proofs.Freeing.{frees_one}
-use Rattle.nvme_ctrl.proofs.Pools.{length-put_item}
-use Rattle.nvme_ctrl.proofs.Generations.{left_both, put_left, items_left}
+use Rattle.nvme_slots.specs.declared.slot.Slot.{Slot}
+use Rattle.nvme_slots.proofs.Freeing.{frees_one}
+use Rattle.nvme_slots.proofs.Pools.{length-put_item}
+use Rattle.nvme_slots.proofs.Generations.{left_both, put_left, items_left}
 use Rattle.nvme_ctrl.proofs.making.all_free.Goals as goal
 
 pub loop-x-preserved : goal.loop-x-preserved

@@ -1,7 +1,7 @@
 -- The slots before the next one are free, and a chain.
 use Rattle.std.proofs.Common.{◌≡◌, length}
-use Rattle.nvme_ctrl.specs.Generations.{SameGenerations}
-use Rattle.nvme_ctrl.proofs.Freeing.{IsFreed}
+use Rattle.nvme_slots.specs.Generations.{SameGenerations}
+use Rattle.nvme_slots.proofs.Freeing.{IsFreed}
 use Rattle.nvme_ctrl.proofs.making.all_free.Given as goal
 
 abbrev pub invariant-loop-x : goal.invariant-loop-x

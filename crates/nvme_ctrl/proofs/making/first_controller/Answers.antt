@@ -1,6 +1,6 @@
 use Rattle.std.proofs.Common.{◌≡◌, ℕ, ◌<◌, ◌^◌, [], false, length, subst, sym}
 use Rattle.nvme_ctrl.specs.declared.state.Controller.{Controller}
-use Rattle.nvme_ctrl.specs.Calls.{equal_depths}
+use Rattle.nvme_ctrl_log.specs.Calls.{equal_depths}
 use Rattle.nvme_ctrl.specs.kept.Kept.{StandsAt}
 use Rattle.nvme_ctrl.proofs.NewCall.{made, new-stands}
 use Rattle.nvme_ctrl.proofs.making.first_controller.Goals as goal

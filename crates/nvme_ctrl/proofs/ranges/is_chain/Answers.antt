@@ -1,5 +1,5 @@
 use Rattle.std.proofs.Common.{◌-◌, false, true, sym, ap, ◌∙◌, arith}
-use Rattle.nvme_ctrl.specs.declared.slot.Slot.{Slot}
+use Rattle.nvme_slots.specs.declared.slot.Slot.{Slot}
 use Rattle.nvme_ctrl.specs.Ranges.{are_linked}
 use Rattle.nvme_ctrl.proofs.KeptRanges.{goes_on, stops, ended, chain_by}
 use Rattle.nvme_ctrl.proofs.ranges.is_chain.Goals as goal

@@ -2,9 +2,6 @@ use Rattle.std.proofs.Common.{refl}
 use Rattle.nvme_admin.specs.Accepted.{effects_of, queue_table}
 use Rattle.nvme_log.proofs.laws.worked_steps_are_counted.Goals as goal
 
-pub returns-clause-jobs : goal.returns-clause-jobs
-returns-clause-jobs c = (record { ticket_is = refl; entry_is = refl; spaces_are = refl }, (record { ticket_is = refl; entry_is = refl; spaces_are = refl }, (record { ticket_is = refl; entry_is = refl; spaces_are = refl }, tt)))
-
 pub returns-clause-outstanding : goal.returns-clause-outstanding
 unfolding effects_of queue_table
 returns-clause-outstanding c = refl

@@ -3,7 +3,7 @@ use Rattle.std.proofs.Common.{◌≡◌, ◌≤◌, length, take}
 use Rattle.std.specs.Prelude.{zip}
 use Rattle.nvme_ctrl.specs.Standing.{IsController}
 use Rattle.nvme_ctrl.specs.Own.{own_of}
-use Rattle.nvme_ctrl.specs.Generations.{SameGenerations}
+use Rattle.nvme_slots.specs.Generations.{SameGenerations}
 use Rattle.nvme_ctrl.specs.Calls.{depths_of}
 use Rattle.nvme_capi.specs.Batches.{Each, FetchesOne, with_slots}
 use Rattle.nvme_capi.proofs.ctrl.batches.fetch_all.Given as goal

@@ -2,7 +2,7 @@
 use Rattle.std.proofs.Common.{◌≡◌, take, drop}
 use Rattle.nvme_ctrl.specs.Standing.{IsController}
 use Rattle.nvme_ctrl.specs.Own.{own_of}
-use Rattle.nvme_ctrl.specs.Generations.{SameGenerations}
+use Rattle.nvme_slots.specs.Generations.{SameGenerations}
 use Rattle.nvme_ctrl.specs.Calls.{depths_of}
 use Rattle.nvme_capi.specs.Batches.{Each, PostsOne, with_slots}
 use Rattle.nvme_capi.proofs.ctrl.batches.post_all.Given as goal

@@ -1,7 +1,7 @@
 use Rattle.std.proofs.Common.{◌≡◌, ℕ, ◌∙◌, ◌<◌, true, false, sym, subst, arith}
 use Rattle.nvme_entry.specs.Status.{StatusCode}
 use Rattle.nvme_ctrl.specs.Calls.{HasAnswered}
-use Rattle.nvme_ctrl.specs.Generations.{tag_of}
+use Rattle.nvme_slots.specs.Generations.{tag_of}
 use Rattle.nvme_capi.specs.Controllers.{is_ctrl, has_slots}
 use Rattle.nvme_capi.proofs.Refusals.{no_refusal}
 use Rattle.nvme_capi.proofs.SlotsOfTags.{out_under, not_out_under, slot_is, found_slot}

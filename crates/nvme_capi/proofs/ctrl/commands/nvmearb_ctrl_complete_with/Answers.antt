@@ -1,8 +1,8 @@
 use Rattle.std.proofs.Common.{◌≡◌, ◌<◌, true, false, subst}
 use Rattle.std.specs.Prelude.{IsFalse}
 use Rattle.nvme_ctrl.specs.Calls.{HasAnswered}
-use Rattle.nvme_ctrl.specs.Generations.{tag_of}
-use Rattle.nvme_ctrl.specs.declared.status_flags.StatusFlags.{StatusFlags}
+use Rattle.nvme_slots.specs.Generations.{tag_of}
+use Rattle.nvme_ctrl_log.specs.declared.status_flags.StatusFlags.{StatusFlags}
 use Rattle.nvme_capi.specs.Controllers.{is_ctrl, has_slots, device_answer}
 use Rattle.nvme_capi.proofs.Refusals.{no_flags}
 use Rattle.nvme_capi.proofs.ctrl.commands.nvmearb_ctrl_complete_with.Goals as goal

@@ -1,6 +1,6 @@
 use Rattle.std.proofs.Common.{Option, Some, sym, subst}
 use Rattle.nvme_arbiter.specs.declared.pick.Pick.{Pick}
-use Rattle.nvme_ctrl.specs.Steps.{IsNextPick}
+use Rattle.nvme_ctrl_log.specs.Steps.{IsNextPick}
 use Rattle.nvme_capi.proofs.ctrl.commands.nvmearb_ctrl_peek.Goals as goal
 
 pub returns-in-Some-clause-picked : goal.returns-in-Some-clause-picked

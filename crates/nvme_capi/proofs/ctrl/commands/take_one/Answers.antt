@@ -1,8 +1,8 @@
 use Rattle.std.proofs.Common.{◌≡◌, ℕ, ◌∙◌, sym, ap, subst}
 use Rattle.nvme_ctrl.specs.Calls.{HasTaken}
-use Rattle.nvme_ctrl.specs.Generations.{IsNextGeneration, tag_at, tag_of}
-use Rattle.nvme_ctrl.specs.Tags.{holder, is_out}
-use Rattle.nvme_ctrl.specs.kept.Pool.{slot_at}
+use Rattle.nvme_slots.specs.Generations.{IsNextGeneration, tag_at, tag_of}
+use Rattle.nvme_ctrl_log.specs.Tags.{holder, is_out}
+use Rattle.nvme_slots.specs.Pool.{slot_at}
 use Rattle.nvme_capi.proofs.SlotsOfTags.{told_slot}
 use Rattle.nvme_capi.proofs.ctrl.commands.take_one.Goals as goal
 

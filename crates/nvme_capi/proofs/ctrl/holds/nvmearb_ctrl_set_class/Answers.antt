@@ -1,8 +1,8 @@
 use Rattle.std.proofs.Common.{◌≡◌, ◌∙◌, ◌∷◌, true, false, sym, subst}
 use Rattle.std.proofs.lemmas.Option.{same_Some}
 use Rattle.nvme_arbiter.specs.declared.settings.Class.{Class}
-use Rattle.nvme_ctrl.specs.Notes.{Classed}
-use Rattle.nvme_ctrl.specs.Account.{MayBeClassed}
+use Rattle.nvme_ctrl_log.specs.Notes.{Classed}
+use Rattle.nvme_ctrl_log.specs.Account.{MayBeClassed}
 use Rattle.nvme_ctrl.specs.Standing.{Stands}
 use Rattle.nvme_capi.proofs.ctrl.holds.nvmearb_ctrl_set_class.Goals as goal
 

@@ -1,5 +1,5 @@
 use Rattle.std.proofs.Common.{◌∙◌, sym, ap}
-use Rattle.nvme_ctrl.specs.Tags.{holder}
+use Rattle.nvme_ctrl_log.specs.Tags.{holder}
 use Rattle.nvme_capi.proofs.SlotsOfTags.{out_under, not_out_under, slot_is, found_slot}
 use Rattle.nvme_capi.proofs.ctrl.lookups.nvmearb_ctrl_command.Goals as goal
 

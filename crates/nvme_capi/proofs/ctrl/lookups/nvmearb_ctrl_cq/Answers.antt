@@ -1,7 +1,7 @@
 use Rattle.std.proofs.Common.{◌∙◌, Some, sym, ap}
 use Rattle.std.specs.Prelude.{is_some}
 use Rattle.nvme_log.specs.Queues.{open_cq}
-use Rattle.nvme_ctrl.specs.Notes.{logged}
+use Rattle.nvme_ctrl_log.specs.Notes.{logged}
 use Rattle.nvme_capi.proofs.Queues.{none_there}
 use Rattle.nvme_capi.proofs.ctrl.lookups.nvmearb_ctrl_cq.Goals as goal
 

@@ -1,6 +1,6 @@
 use Rattle.std.proofs.Common.{◌∙◌, ℕ, sym, ap, subst}
-use Rattle.nvme_ctrl.specs.Calls.{IsTagOf}
-use Rattle.nvme_ctrl.specs.Generations.{tag_at}
+use Rattle.nvme_ctrl_log.specs.Calls.{IsTagOf}
+use Rattle.nvme_slots.specs.Generations.{tag_at}
 use Rattle.nvme_capi.proofs.SlotsOfTags.{told_slot}
 use Rattle.nvme_capi.proofs.ctrl.lookups.nvmearb_ctrl_named.Goals as goal
 

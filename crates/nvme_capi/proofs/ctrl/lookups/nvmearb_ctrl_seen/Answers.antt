@@ -1,8 +1,8 @@
 use Rattle.std.proofs.Common.{◌∙◌, Some, sym, ap}
 use Rattle.nvme_arbiter.specs.declared.pick.Seen.{Seen}
 use Rattle.nvme_log.specs.Queues.{open_sq}
-use Rattle.nvme_ctrl.specs.Notes.{logged}
-use Rattle.nvme_ctrl.specs.Observation.{shown_as}
+use Rattle.nvme_ctrl_log.specs.Notes.{logged}
+use Rattle.nvme_ctrl_log.specs.Observation.{shown_as}
 use Rattle.nvme_capi.proofs.Queues.{none_made}
 use Rattle.nvme_capi.proofs.ctrl.lookups.nvmearb_ctrl_seen.Goals as goal
 

@@ -2,7 +2,7 @@ use Rattle.std.proofs.Common.{◌≡◌, ◌∙◌, Option, length, not, sym, ap
 use Rattle.std.specs.Prelude.{IsSomeAnd}
 use Rattle.nvme_log.specs.Queues.{Queue, open_sq}
 use Rattle.nvme_log.specs.Places.{waiting}
-use Rattle.nvme_ctrl.specs.Notes.{logged}
+use Rattle.nvme_ctrl_log.specs.Notes.{logged}
 use Rattle.nvme_capi.proofs.Queues.{none_there, some_there}
 use Rattle.nvme_capi.proofs.ctrl.lookups.nvmearb_ctrl_waiting.Goals as goal
 

@@ -1,6 +1,6 @@
 use Rattle.std.proofs.Common.{◌≡◌, ◌∙◌, true, false, None, Some, not, sym, ap}
 use Rattle.nvme_log.specs.Queues.{open_cq}
-use Rattle.nvme_ctrl.specs.Notes.{logged}
+use Rattle.nvme_ctrl_log.specs.Notes.{logged}
 use Rattle.nvme_capi.proofs.Queues.{none_there, some_there}
 use Rattle.nvme_capi.proofs.ctrl.rings.nvmearb_ctrl_cq_head.Goals as goal
 

@@ -10,7 +10,7 @@ use Rattle.nvme_admin.specs.declared.verdict.SqEntry.{SqEntry}
 use Rattle.nvme_ctrl.specs.declared.state.Controller.{Controller}
 use Rattle.nvme_ctrl.specs.kept.Kept.{tags_of}
 use Rattle.nvme_ctrl.proofs.Aborting.{told_queue, none_left, chain_there, went_some, WentBoard, requested_one, few_unposted_more, few_outstanding_more}
-use Rattle.nvme_ctrl.proofs.Generations.{left_both, items_left}
+use Rattle.nvme_slots.proofs.Generations.{left_both, items_left}
 use Rattle.nvme_ctrl.proofs.state.Controller.abort.Goals as goal
 
 pub returns-in_default-take_named-clause-none_named : goal.returns-in_default-take_named-clause-none_named

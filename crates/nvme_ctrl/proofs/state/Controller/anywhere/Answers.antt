@@ -1,6 +1,6 @@
 use Rattle.std.proofs.Common.{[], false}
 use Rattle.nvme_placing.specs.Telling.{placing_by}
-use Rattle.nvme_ctrl.specs.Making.{anywhere_rules}
+use Rattle.nvme_ctrl_log.specs.Making.{anywhere_rules}
 use Rattle.nvme_ctrl.proofs.NewCall.{first_anywhere}
 use Rattle.nvme_ctrl.proofs.state.Controller.anywhere.Goals as goal
 

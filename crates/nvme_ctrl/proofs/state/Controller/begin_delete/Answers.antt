@@ -3,10 +3,10 @@ use Rattle.std.specs.Prelude.{min, IsSome}
 use Rattle.nvme_arbiter.specs.Layout.{board_of}
 use Rattle.nvme_arbiter.specs.Queues.{queue_at}
 use Rattle.nvme_ctrl.specs.declared.state.Controller.{Controller}
-use Rattle.nvme_ctrl.specs.declared.slot.Slot.{Slot}
-use Rattle.nvme_ctrl.specs.kept.Pool.{slot_at}
-use Rattle.nvme_ctrl.proofs.Pools.{length-put_item}
-use Rattle.nvme_ctrl.proofs.Generations.{left_both, put_left}
+use Rattle.nvme_slots.specs.declared.slot.Slot.{Slot}
+use Rattle.nvme_slots.specs.Pool.{slot_at}
+use Rattle.nvme_slots.proofs.Pools.{length-put_item}
+use Rattle.nvme_slots.proofs.Generations.{left_both, put_left}
 use Rattle.nvme_ctrl.proofs.DeleteBegins.{keeps_counted, droppable_counted, begun_deleting, n_counted}
 use Rattle.nvme_ctrl.proofs.state.Controller.begin_delete.Goals as goal
 

@@ -4,16 +4,16 @@ use Rattle.nvme_arbiter.specs.Board.{BoardView}
 use Rattle.nvme_arbiter.specs.Queues.{queue_at}
 use Rattle.nvme_admin.specs.declared.effect.Effect.TheVariants as effect
 use Rattle.nvme_admin.specs.declared.verdict.Verdict.TheVariants as verdict
-use Rattle.nvme_ctrl.specs.Making.{slots_asked}
+use Rattle.nvme_ctrl_log.specs.Making.{slots_asked}
 use Rattle.nvme_entry.specs.AdminCommand.{admin_command_of}
-use Rattle.nvme_ctrl.specs.declared.slot.Slot.{Slot}
-use Rattle.nvme_ctrl.specs.kept.Pool.{slot_at}
+use Rattle.nvme_slots.specs.declared.slot.Slot.{Slot}
+use Rattle.nvme_slots.specs.Pool.{slot_at}
 use Rattle.nvme_ctrl.proofs.AppliedQueues.{opens_within, opens_free, opens_io}
 use Rattle.nvme_ctrl.proofs.CarryOut.{ended_plain, ended_opened, ended_cq_opened, ended_cq_closed, ended_set, carried_as, carried_by, applied_as, some_asked}
 use Rattle.nvme_ctrl.proofs.CarryQueues.{begins_on_board, ended_begun}
 use Rattle.nvme_ctrl.proofs.CarryAbort.{carried_found, carried_none}
-use Rattle.nvme_ctrl.proofs.Generations.{left_both}
-use Rattle.nvme_ctrl.proofs.ToldVerdicts.{told_plain, told_sq, told_cq}
+use Rattle.nvme_slots.proofs.Generations.{left_both}
+use Rattle.nvme_ctrl_log.proofs.ToldVerdicts.{told_plain, told_sq, told_cq}
 use Rattle.nvme_ctrl.proofs.state.Controller.carry_out.Goals.{then-abort, else-abort}
 use Rattle.nvme_ctrl.proofs.state.Controller.carry_out.Goals as goal
 

@@ -3,7 +3,7 @@ use Rattle.std.specs.Prelude.{slice_set}
 use Rattle.nvme_ctrl.specs.declared.state.CqState.{CqState}
 use Rattle.nvme_ctrl.specs.declared.state.Controller.{Controller}
 use Rattle.nvme_ctrl.specs.inside.Loose.{Keeps}
-use Rattle.nvme_ctrl.specs.inside.Carrying.{closing_cq}
+use Rattle.nvme_ctrl_content.specs.Carrying.{closing_cq}
 use Rattle.nvme_ctrl.proofs.Opening.{keeps_cq_closed}
 use Rattle.nvme_ctrl.proofs.state.Controller.close_cq.Goals as goal
 

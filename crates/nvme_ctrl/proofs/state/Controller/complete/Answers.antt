@@ -1,17 +1,17 @@
 -- What was answered is a command that the device has, whose slot is put behind those that are ready.
 use Rattle.std.proofs.Common.{◌≡◌, ℕ, List, ◌∷◌, sym, ap, subst, ◌∙◌, refl, true}
 use Rattle.nvme_log.specs.Answers.{Answer}
-use Rattle.nvme_ctrl.specs.Notes.{Answered, Flagged}
+use Rattle.nvme_ctrl_log.specs.Notes.{Answered, Flagged}
 use Rattle.nvme_ctrl.specs.Calls.{HasAnswered}
-use Rattle.nvme_ctrl.specs.declared.status_flags.StatusFlags.{StatusFlags}
-use Rattle.nvme_ctrl.specs.declared.slot.Slot.{Slot}
+use Rattle.nvme_ctrl_log.specs.declared.status_flags.StatusFlags.{StatusFlags}
+use Rattle.nvme_slots.specs.declared.slot.Slot.{Slot}
 use Rattle.nvme_ctrl.specs.declared.state.SqState.{SqState}
 use Rattle.nvme_ctrl.specs.declared.state.Controller.{Controller}
-use Rattle.nvme_ctrl.specs.kept.Pool.{slot_at, longer}
+use Rattle.nvme_slots.specs.Pool.{slot_at, longer}
 use Rattle.nvme_ctrl.specs.kept.State.{sq_at, cq_at}
 use Rattle.nvme_ctrl.proofs.AnswerCall.{answered_pool, answered_controller, answer-stands, other_is_not_out, out_is_out}
-use Rattle.nvme_ctrl.proofs.Chains.{IsPushed, is_pushed}
-use Rattle.nvme_ctrl.proofs.Generations.{left_both, put_left, items_left}
+use Rattle.nvme_slots.proofs.Chains.{IsPushed, is_pushed}
+use Rattle.nvme_slots.proofs.Generations.{left_both, put_left, items_left}
 use Rattle.nvme_ctrl.specs.kept.QueueSets.{with_queue}
 use Rattle.nvme_ctrl.proofs.state.Controller.complete.Goals as goal
 

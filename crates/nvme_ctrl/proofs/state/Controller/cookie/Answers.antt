@@ -1,6 +1,6 @@
 use Rattle.std.proofs.Common.{◌≡◌, Some, sym, subst}
-use Rattle.nvme_ctrl.specs.Tags.{cookie_of}
-use Rattle.nvme_ctrl.specs.declared.slot.Slot.{Slot}
+use Rattle.nvme_ctrl_log.specs.Tags.{cookie_of}
+use Rattle.nvme_slots.specs.declared.slot.Slot.{Slot}
 use Rattle.nvme_ctrl.proofs.OutEntries.{out_cookie}
 use Rattle.nvme_ctrl.proofs.state.Controller.cookie.Goals as goal
 

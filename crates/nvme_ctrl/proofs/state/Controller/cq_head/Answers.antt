@@ -3,7 +3,7 @@ use Rattle.std.specs.Prelude.{slice_set}
 use Rattle.std.proofs.lemmas.List.{set-get_or}
 use Rattle.nvme_admin.specs.QueueTable.{QueueTable}
 use Rattle.nvme_placing.specs.Telling.{Tells}
-use Rattle.nvme_ctrl.specs.declared.ring.Ring.{Ring}
+use Rattle.nvme_slots.specs.declared.ring.Ring.{Ring}
 use Rattle.nvme_ctrl.specs.kept.State.{no_cq_state}
 use Rattle.std.proofs.lemmas.Bool.{false≢true}
 use Rattle.nvme_ctrl.specs.Calls.{HeadRung}

@@ -2,7 +2,7 @@ use Rattle.std.proofs.Common.{refl, ap, ◌∙◌, arith}
 use Rattle.nvme_ctrl.specs.declared.state.Controller.{Controller}
 use Rattle.nvme_ctrl.specs.declared.state.SqState.{SqState}
 use Rattle.nvme_ctrl.proofs.Dropping.{dropping_start, dropping_next, dropping_done, window_length}
-use Rattle.nvme_ctrl.proofs.Generations.{left_self, left_both}
+use Rattle.nvme_slots.proofs.Generations.{left_self, left_both}
 use Rattle.nvme_ctrl.proofs.state.Controller.drop_window.Goals as goal
 
 pub loop-init : goal.loop-init

@@ -1,12 +1,12 @@
 -- The oldest candidates were dropped, and the others are to be dropped.
 use Rattle.std.proofs.Common.{◌≡◌, ℕ, drop, length}
 use Rattle.nvme_log.specs.Rules.{FrontRules}
-use Rattle.nvme_ctrl.specs.Notes.{Notes}
-use Rattle.nvme_ctrl.specs.Generations.{SameGenerations}
-use Rattle.nvme_ctrl.specs.kept.Content.{Content}
+use Rattle.nvme_ctrl_log.specs.Notes.{Notes}
+use Rattle.nvme_slots.specs.Generations.{SameGenerations}
+use Rattle.nvme_ctrl_content.specs.Content.{Content}
 use Rattle.nvme_ctrl.specs.kept.Kept.{Items}
 use Rattle.nvme_ctrl.specs.inside.Loose.{IsLoose, Keeps}
-use Rattle.nvme_ctrl.specs.inside.Carrying.{IsDroppable}
+use Rattle.nvme_ctrl_content.specs.Carrying.{IsDroppable}
 use Rattle.nvme_ctrl.specs.kept.State.{sq_at}
 use Rattle.nvme_ctrl.proofs.Dropping.{IsDropping}
 use Rattle.nvme_ctrl.proofs.state.Controller.drop_window.Given as goal

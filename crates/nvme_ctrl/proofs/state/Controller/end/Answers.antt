@@ -1,12 +1,12 @@
 use Rattle.std.proofs.Common.{◌≡◌, true, ap, ◌∙◌, refl}
 use Rattle.nvme_ctrl.specs.declared.state.Controller.{Controller}
-use Rattle.nvme_ctrl.specs.declared.status_flags.StatusFlags.{StatusFlags}
-use Rattle.nvme_ctrl.specs.kept.Pool.{slot_at, put_item, bit}
+use Rattle.nvme_ctrl_log.specs.declared.status_flags.StatusFlags.{StatusFlags}
+use Rattle.nvme_slots.specs.Pool.{slot_at, put_item, bit}
 use Rattle.nvme_ctrl.specs.kept.QueueSets.{with_queue}
 use Rattle.nvme_ctrl.specs.kept.State.{cq_at}
-use Rattle.nvme_ctrl.proofs.Chains.{is_pushed}
+use Rattle.nvme_slots.proofs.Chains.{is_pushed}
 use Rattle.nvme_ctrl.proofs.Ending.{keeps_end}
-use Rattle.nvme_ctrl.proofs.Generations.{left_both, put_left, items_left}
+use Rattle.nvme_slots.proofs.Generations.{left_both, put_left, items_left}
 use Rattle.nvme_ctrl.proofs.state.Controller.end.Goals as goal
 
 pub returns-clause-kept : goal.returns-clause-kept

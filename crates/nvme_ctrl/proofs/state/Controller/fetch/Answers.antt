@@ -1,5 +1,6 @@
 use Rattle.std.proofs.Common.{◌≡◌, ℕ, Some, length, sym, ap, subst}
-use Rattle.nvme_ctrl.specs.Calls.{depth_of, MayFetch}
+use Rattle.nvme_ctrl.specs.Calls.{depth_of}
+use Rattle.nvme_ctrl_log.specs.Calls.{MayFetch}
 use Rattle.nvme_ctrl.specs.declared.state.SqState.{SqState}
 use Rattle.nvme_ctrl.proofs.FetchCalls.{may_fetch, told_fetchable}
 use Rattle.nvme_ctrl.proofs.FetchTold.{is_fetchable, slot_told}

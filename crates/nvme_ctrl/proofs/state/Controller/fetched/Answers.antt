@@ -8,19 +8,19 @@ use Rattle.nvme_arbiter.specs.declared.pick.OpenQueue.{OpenQueue}
 use Rattle.nvme_log.specs.declared.event.Event.TheVariants.{Fetch}
 use Rattle.nvme_log.specs.Places.{fetched}
 use Rattle.nvme_log.specs.Rules.{FrontRules}
-use Rattle.nvme_ctrl.specs.Notes.{Notes, Logged, Kept, logged}
-use Rattle.nvme_ctrl.specs.Rings.{HasCounts}
+use Rattle.nvme_ctrl_log.specs.Notes.{Notes, Logged, Kept, logged}
+use Rattle.nvme_slots.specs.Rings.{HasCounts}
 use Rattle.nvme_ctrl.specs.Calls.{HasFetched}
 use Rattle.nvme_ctrl.specs.Standing.{Stands, IsController}
-use Rattle.nvme_ctrl.specs.declared.chain.Chain.{Chain}
-use Rattle.nvme_ctrl.specs.declared.slot.Slot.{Slot}
+use Rattle.nvme_slots.specs.declared.chain.Chain.{Chain}
+use Rattle.nvme_slots.specs.declared.slot.Slot.{Slot}
 use Rattle.nvme_ctrl.specs.declared.state.SqState.{SqState}
 use Rattle.nvme_ctrl.specs.declared.state.Controller.{Controller}
-use Rattle.nvme_ctrl.specs.kept.Pool.{IsNew, IsChain, SameItems, SameLinks}
+use Rattle.nvme_slots.specs.Pool.{IsNew, IsChain, SameItems, SameLinks}
 use Rattle.nvme_ctrl.specs.kept.State.{sq_at}
 use Rattle.nvme_ctrl.proofs.DoorbellCalls.{has_none}
 use Rattle.nvme_ctrl.proofs.FetchCalls.{Fetches, fetched_state, has_fetched, may_come, few_queues, told_fetchable}
-use Rattle.nvme_ctrl.proofs.Generations.{left_both, put_left, items_left}
+use Rattle.nvme_slots.proofs.Generations.{left_both, put_left, items_left}
 use Rattle.nvme_ctrl.proofs.FetchTold.{is_fetchable, some_popped, MayBeFetched, may_be_fetched}
 use Rattle.nvme_ctrl.specs.kept.QueueSets.{with_queue}
 use Rattle.nvme_ctrl.proofs.state.Controller.fetched.Goals as goal

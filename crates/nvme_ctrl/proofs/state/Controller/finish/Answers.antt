@@ -2,7 +2,7 @@ use Rattle.std.proofs.Common.{◌∷◌, ap, refl, ◌∙◌}
 use Rattle.std.specs.Prelude.{slice_set}
 use Rattle.nvme_entry.specs.Status.{success}
 use Rattle.nvme_log.specs.declared.event.Event.TheVariants as event
-use Rattle.nvme_ctrl.specs.Notes.{Logged, Answered}
+use Rattle.nvme_ctrl_log.specs.Notes.{Logged, Answered}
 use Rattle.nvme_ctrl.specs.Steps.{HasFinished}
 use Rattle.nvme_ctrl.specs.declared.state.Controller.{Controller}
 use Rattle.nvme_ctrl.specs.declared.state.Deletion.{Deletion}

@@ -1,9 +1,9 @@
 use Rattle.std.proofs.Common.{not, sym, ap, ◌∙◌, subst}
 use Rattle.nvme_log.specs.Queues.{open_sq}
-use Rattle.nvme_ctrl.specs.Notes.{logged}
+use Rattle.nvme_ctrl_log.specs.Notes.{logged}
 use Rattle.nvme_ctrl.specs.declared.state.SqState.{SqState}
 use Rattle.nvme_ctrl.specs.kept.Kept.{tags_of}
-use Rattle.nvme_ctrl.specs.kept.Pool.{IsChain, found_in}
+use Rattle.nvme_slots.specs.Pool.{IsChain, found_in}
 use Rattle.nvme_ctrl.proofs.WaitingNames.{admin_names_none, unopened_names_none, some_open, none_open, window_names, window_linked}
 use Rattle.nvme_ctrl.proofs.state.Controller.has_waiting.Goals as goal
 

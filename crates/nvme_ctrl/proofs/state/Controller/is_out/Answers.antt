@@ -1,7 +1,7 @@
 use Rattle.std.proofs.Common.{◌==◌, ap, sym, ◌∙◌, inl, inr}
 use Rattle.std.proofs.lemmas.Bool.{cases_eq, eq-eqb, ne_eqb}
-use Rattle.nvme_ctrl.specs.declared.slot.Slot.{Slot}
-use Rattle.nvme_ctrl.specs.kept.Pool.{slot_at}
+use Rattle.nvme_slots.specs.declared.slot.Slot.{Slot}
+use Rattle.nvme_slots.specs.Pool.{slot_at}
 use Rattle.nvme_ctrl.proofs.AnswerCall.{out_is_out, other_is_not_out}
 use Rattle.nvme_ctrl.proofs.state.Controller.is_out.Goals as goal
 

@@ -1,12 +1,13 @@
 use Rattle.std.proofs.Common.{◌≡◌, ◌&&◌, Bool, true, sym, ap, ◌∙◌}
 use Rattle.nvme_entry.specs.AdminCommand.{admin_command_of}
 use Rattle.nvme_entry.specs.declared.submission.Sqe.{Sqe}
-use Rattle.nvme_ctrl.specs.Notes.{logged}
-use Rattle.nvme_ctrl.specs.Own.{kind_is_own, names_none, is_own}
-use Rattle.nvme_ctrl.specs.declared.slot.Slot.{Slot}
+use Rattle.nvme_ctrl_log.specs.Notes.{logged}
+use Rattle.nvme_ctrl.specs.Own.{kind_is_own, is_own}
+use Rattle.nvme_ctrl_log.specs.Own.{names_none}
+use Rattle.nvme_slots.specs.declared.slot.Slot.{Slot}
 use Rattle.nvme_ctrl.specs.declared.state.SqState.{SqState}
 use Rattle.nvme_ctrl.specs.inside.Picks.{oldest_entry}
-use Rattle.nvme_ctrl.specs.kept.Pool.{slot_at}
+use Rattle.nvme_slots.specs.Pool.{slot_at}
 use Rattle.nvme_ctrl.proofs.state.Controller.is_own.Goals as goal
 
 pub returns-then-has : goal.returns-then-has

@@ -3,7 +3,7 @@ use Rattle.std.specs.Prelude.{nat_lt}
 use Rattle.nvme_log.specs.Aborts.{places_for}
 use Rattle.nvme_log.specs.Completions.{outstanding}
 use Rattle.nvme_log.specs.Limits.{max_outstanding}
-use Rattle.nvme_ctrl.specs.Notes.{logged}
+use Rattle.nvme_ctrl_log.specs.Notes.{logged}
 use Rattle.nvme_ctrl.proofs.PlacesNeeded.{lacks}
 use Rattle.nvme_ctrl.proofs.state.Controller.lacks_places.Goals as goal
 

@@ -1,8 +1,8 @@
 use Rattle.std.proofs.Common.{◌<◌, ℕ, sym, ap, ◌∙◌, arith, length, inl, inr, true≢false}
 use Rattle.std.proofs.lemmas.Bool.{cases_eq}
-use Rattle.nvme_ctrl.specs.declared.slot.Slot.{Slot}
-use Rattle.nvme_ctrl.specs.kept.Pool.{slot_at}
-use Rattle.nvme_ctrl.specs.inside.Lookups.{is_found}
+use Rattle.nvme_slots.specs.declared.slot.Slot.{Slot}
+use Rattle.nvme_slots.specs.Pool.{slot_at}
+use Rattle.nvme_slots.specs.Lookups.{is_found}
 use Rattle.nvme_ctrl.proofs.NamedTags.{named_tag, tag_named, tag_inside}
 use Rattle.nvme_ctrl.proofs.state.Controller.named.Goals as goal
 

@@ -2,8 +2,8 @@ use Rattle.std.proofs.Common.{not, sym, ap, ◌∙◌}
 use Rattle.nvme_entry.specs.AdminCommand.{admin_command_of}
 use Rattle.nvme_entry.specs.declared.admin.AdminCommand.{AdminCommand}
 use Rattle.nvme_entry.specs.declared.admin.AdminCommand.TheVariants as command
-use Rattle.nvme_ctrl.specs.Notes.{logged}
-use Rattle.nvme_ctrl.specs.Own.{names_none}
+use Rattle.nvme_ctrl_log.specs.Notes.{logged}
+use Rattle.nvme_ctrl_log.specs.Own.{names_none}
 use Rattle.nvme_ctrl.proofs.WaitingNames.{others_name_none, not_twice}
 use Rattle.nvme_ctrl.proofs.state.Controller.names_none.Goals as goal
 

@@ -2,7 +2,7 @@ use Rattle.std.proofs.Common.{◌≡◌, ◌&&◌, Bool, true, false, if◌then�
 use Rattle.std.proofs.lemmas.Bool.{eq-eqb, ne_eqb}
 use Rattle.nvme_log.specs.Aborts.{is_abort_entry}
 use Rattle.nvme_log.specs.Histories.{admin_entry}
-use Rattle.nvme_ctrl.specs.Notes.{logged}
+use Rattle.nvme_ctrl_log.specs.Notes.{logged}
 use Rattle.nvme_ctrl.proofs.state.Controller.needs.Goals.{else-pick-eq0-via-then-pick-eq0+else-is_abort_first, else-pick-eq0-via-else-pick-eq0}
 use Rattle.nvme_ctrl.proofs.state.Controller.needs.Goals as goal
 

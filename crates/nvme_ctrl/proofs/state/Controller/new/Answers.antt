@@ -1,5 +1,5 @@
 use Rattle.std.proofs.Common.{[], false}
-use Rattle.nvme_ctrl.specs.Making.{first_rules}
+use Rattle.nvme_ctrl_log.specs.Making.{first_rules}
 use Rattle.nvme_ctrl.proofs.NewCall.{first_of_new}
 use Rattle.nvme_ctrl.proofs.state.Controller.new.Goals as goal
 

@@ -1,7 +1,8 @@
 use Rattle.std.proofs.Common.{ℕ, ◌<◌, ◌≤◌, length, sym, subst, inl, inr, arith}
 use Rattle.std.proofs.lemmas.Bool.{cases_eq, cases_lt}
 use Rattle.std.proofs.lemmas.Option.{none-some}
-use Rattle.nvme_ctrl.specs.Calls.{depth_of, MayFetch}
+use Rattle.nvme_ctrl.specs.Calls.{depth_of}
+use Rattle.nvme_ctrl_log.specs.Calls.{MayFetch}
 use Rattle.nvme_ctrl.specs.NextQueue.{turns_before}
 use Rattle.nvme_ctrl.proofs.FetchCalls.{few_queues, told_fetchable}
 use Rattle.nvme_ctrl.proofs.FetchTold.{is_fetchable}

@@ -2,7 +2,7 @@
 use Rattle.std.proofs.Common.{ap, ◌∙◌}
 use Rattle.nvme_arbiter.specs.Board.{BoardView}
 use Rattle.nvme_arbiter.specs.Queues.{seen_of}
-use Rattle.nvme_ctrl.proofs.Observing.{seen_is_observed}
+use Rattle.nvme_ctrl_content.proofs.Observing.{seen_is_observed}
 use Rattle.nvme_ctrl.proofs.state.Controller.observed.Goals as goal
 
 pub returns : goal.returns

@@ -1,11 +1,11 @@
 use Rattle.std.proofs.Common.{◌∙◌, ap, sym, subst}
 use Rattle.std.specs.Prelude.{slice_set}
-use Rattle.nvme_ctrl.specs.declared.ring.Ring.{Ring}
+use Rattle.nvme_slots.specs.declared.ring.Ring.{Ring}
 use Rattle.nvme_ctrl.specs.declared.state.CqState.{CqState}
 use Rattle.nvme_ctrl.specs.declared.state.Controller.{Controller}
-use Rattle.nvme_ctrl.specs.Rings.{first_ring}
+use Rattle.nvme_slots.specs.Rings.{first_ring}
 use Rattle.nvme_ctrl.specs.inside.Loose.{Keeps}
-use Rattle.nvme_ctrl.specs.inside.Carrying.{opening_cq}
+use Rattle.nvme_ctrl_content.specs.Carrying.{opening_cq}
 use Rattle.nvme_ctrl.proofs.Opening.{keeps_cq_opened}
 use Rattle.nvme_ctrl.proofs.state.Controller.open_cq.Goals as goal
 

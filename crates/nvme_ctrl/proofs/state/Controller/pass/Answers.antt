@@ -1,7 +1,7 @@
 -- The pick of the board is the next pick, and its command is the device's.
 use Rattle.std.proofs.Common.{◌≡◌, ℕ, ◌+◌, sym, ap, subst, ◌∙◌}
 use Rattle.std.specs.Prelude.{slice_set, min}
-use Rattle.nvme_ctrl.specs.Notes.{logged}
+use Rattle.nvme_ctrl_log.specs.Notes.{logged}
 use Rattle.nvme_ctrl.specs.Steps.{HasPassed}
 use Rattle.nvme_ctrl.specs.inside.Picks.{oldest_entry}
 use Rattle.nvme_ctrl.specs.declared.state.SqState.{SqState}

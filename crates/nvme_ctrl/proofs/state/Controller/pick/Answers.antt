@@ -1,8 +1,8 @@
 use Rattle.std.specs.Prelude.{option_map}
 use Rattle.std.proofs.Common.{Bool, ap, sym, ◌∙◌, Option, Some, subst}
 use Rattle.nvme_arbiter.specs.declared.pick.Pick.{Pick}
-use Rattle.nvme_ctrl.specs.Notes.{logged}
-use Rattle.nvme_ctrl.specs.Steps.{IsNextPick}
+use Rattle.nvme_ctrl_log.specs.Notes.{logged}
+use Rattle.nvme_ctrl_log.specs.Steps.{IsNextPick}
 use Rattle.nvme_ctrl.specs.Own.{is_own}
 use Rattle.nvme_ctrl.proofs.MayPick.{can_pick, next_within, some_room}
 use Rattle.nvme_ctrl.proofs.OldestEntry.{entry_is}

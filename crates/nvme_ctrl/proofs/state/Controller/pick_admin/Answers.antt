@@ -4,15 +4,15 @@ use Rattle.std.specs.Prelude.{unwrap_or, min, is_some}
 use Rattle.nvme_admin.specs.Accepted.{queue_table, verdict_of}
 use Rattle.nvme_admin.specs.Effects.{verdict_in, NamesRegions}
 use Rattle.nvme_placing.specs.Telling.{Tells, IsTold, content_of, placing_of}
-use Rattle.nvme_ctrl.specs.declared.slot.Slot.{Slot}
+use Rattle.nvme_slots.specs.declared.slot.Slot.{Slot}
 use Rattle.nvme_ctrl.proofs.AdminCall.{admin_call}
 use Rattle.nvme_ctrl.proofs.NamedQueues.{names_queues}
 use Rattle.nvme_ctrl.proofs.ToldEffects.{told_by, placing_is, is_anywhere}
 use Rattle.nvme_admin.specs.History.{Placing}
 use Rattle.nvme_admin.specs.declared.effect.Effect.{Effect}
-use Rattle.nvme_ctrl.specs.Making.{placing_in}
-use Rattle.nvme_ctrl.specs.Notes.{logged}
-use Rattle.nvme_ctrl.specs.Steps.{NamesQueues}
+use Rattle.nvme_ctrl_log.specs.Making.{placing_in}
+use Rattle.nvme_ctrl_log.specs.Notes.{logged}
+use Rattle.nvme_ctrl_log.specs.Steps.{NamesQueues}
 use Rattle.nvme_entry.specs.AdminCommand.{admin_command_of}
 use Rattle.nvme_admin.specs.QueueTable.{QueueTable}
 use Rattle.nvme_ctrl.proofs.CommandVerdicts.{verdict_is_of, of_told}

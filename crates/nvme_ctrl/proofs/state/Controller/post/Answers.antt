@@ -1,21 +1,21 @@
 -- What `next_post` tells is posted.
 use Rattle.std.proofs.Common.{◌≡◌, ◌==◌, not, Bool, List, refl, sym, ap, ◌∙◌, subst}
 use Rattle.nvme_log.specs.Rules.{FrontRules}
-use Rattle.nvme_ctrl.specs.Notes.{Notes}
+use Rattle.nvme_ctrl_log.specs.Notes.{Notes}
 use Rattle.nvme_ctrl.specs.Standing.{Stands}
 use Rattle.nvme_ctrl.specs.Calls.{HasPosted}
 use Rattle.nvme_ctrl.specs.Posts.{completion_of, post_in}
-use Rattle.nvme_ctrl.specs.declared.chain.Chain.{Chain}
+use Rattle.nvme_slots.specs.declared.chain.Chain.{Chain}
 use Rattle.nvme_ctrl.specs.declared.posts.Post.{Post}
-use Rattle.nvme_ctrl.specs.declared.slot.Slot.{Slot}
+use Rattle.nvme_slots.specs.declared.slot.Slot.{Slot}
 use Rattle.nvme_ctrl.specs.declared.state.CqState.{CqState}
 use Rattle.nvme_ctrl.specs.declared.state.Controller.{Controller}
-use Rattle.nvme_ctrl.specs.kept.Pool.{IsChain, flags_in, put_item}
+use Rattle.nvme_slots.specs.Pool.{IsChain, flags_in, put_item}
 use Rattle.nvme_ctrl.proofs.NextPost.{some_is_in, IsPostable, postable, by_command, entry_by_command, post_of_command, chain-some, chain-first}
 use Rattle.nvme_ctrl.proofs.NoPosts.{none_postable}
 use Rattle.nvme_ctrl.proofs.PostCall.{HasDone}
 use Rattle.nvme_ctrl.proofs.PostLog.{steps_post}
-use Rattle.nvme_ctrl.proofs.Generations.{left_both, put_left, items_left}
+use Rattle.nvme_slots.proofs.Generations.{left_both, put_left, items_left}
 use Rattle.nvme_ctrl.specs.kept.QueueSets.{with_queue}
 use Rattle.nvme_ctrl.proofs.state.Controller.post.Goals as goal
 

@@ -1,7 +1,7 @@
 use Rattle.std.proofs.Common.{◌≢◌, ◌∷◌, refl, sym, ◌∙◌}
 use Rattle.std.proofs.lemmas.Bool.{false≢true}
 use Rattle.nvme_arbiter.specs.declared.settings.Class.TheVariants.{Admin}
-use Rattle.nvme_ctrl.specs.Notes.{Classed}
+use Rattle.nvme_ctrl_log.specs.Notes.{Classed}
 use Rattle.nvme_ctrl.proofs.HoldCall.{may_be_classed, class_call}
 use Rattle.nvme_ctrl.proofs.state.Controller.set_class.Goals.{then-qid-eq0-via-then-qid-eq0, then-qid-eq0-via-else-qid-eq0+then-matches, in-Admin, in_default}
 use Rattle.nvme_ctrl.proofs.state.Controller.set_class.Goals as goal

@@ -1,7 +1,8 @@
 use Rattle.std.proofs.Common.{◌≡◌, ◌<◌, Bool, true, sym, ap, subst, ◌∙◌}
 use Rattle.std.specs.Prelude.{◌↔◌, IsTrue, slice_set}
 use Rattle.std.proofs.lemmas.Bool.{false≢true}
-use Rattle.nvme_ctrl.specs.Calls.{TailRung, IsTailOf}
+use Rattle.nvme_ctrl.specs.Calls.{TailRung}
+use Rattle.nvme_ctrl_log.specs.Calls.{IsTailOf}
 use Rattle.nvme_ctrl.specs.declared.state.Controller.{Controller}
 use Rattle.nvme_ctrl.specs.declared.state.SqState.{SqState}
 use Rattle.nvme_ctrl.proofs.DoorbellCalls.{none_is_open, closing_is_not_open, is_told_open, tail_answer, tail_stands, with_ring, TailAnswer, TailCounts}

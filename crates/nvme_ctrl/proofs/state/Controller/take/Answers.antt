@@ -1,15 +1,15 @@
 -- What was popped is the oldest picked command, which is taken then.
 use Rattle.std.proofs.Common.{◌≡◌, ℕ, ◌-◌, List, ◌∷◌, Some, None, refl, sym, subst, ◌∙◌}
-use Rattle.nvme_ctrl.specs.Notes.{Taken}
+use Rattle.nvme_ctrl_log.specs.Notes.{Taken}
 use Rattle.nvme_ctrl.specs.Calls.{HasTaken}
-use Rattle.nvme_ctrl.specs.declared.chain.Chain.{Chain}
-use Rattle.nvme_ctrl.specs.declared.slot.Slot.{Slot}
+use Rattle.nvme_slots.specs.declared.chain.Chain.{Chain}
+use Rattle.nvme_slots.specs.declared.slot.Slot.{Slot}
 use Rattle.nvme_ctrl.specs.declared.state.Controller.{Controller}
-use Rattle.nvme_ctrl.specs.kept.Pool.{slot_at, IsChain, shorter}
+use Rattle.nvme_slots.specs.Pool.{slot_at, IsChain, shorter}
 use Rattle.nvme_ctrl.specs.kept.State.{sq_at}
 use Rattle.nvme_ctrl.proofs.TakeCall.{took, took_pool, took_slot, take-stands, take-inside, take-first_there}
-use Rattle.nvme_ctrl.proofs.Chains.{pop-first, pop-shorter}
-use Rattle.nvme_ctrl.proofs.Generations.{put_next_generation}
+use Rattle.nvme_slots.proofs.Chains.{pop-first, pop-shorter}
+use Rattle.nvme_slots.proofs.Generations.{put_next_generation}
 use Rattle.nvme_ctrl.proofs.state.Controller.take.Goals as goal
 
 -- the slot is out, with its next generation

@@ -1,9 +1,9 @@
 use Rattle.std.proofs.Common.{Option, not, true≢false, sym, ap, ◌∙◌, subst}
 use Rattle.std.specs.Prelude.{is_some}
 use Rattle.nvme_log.specs.Queues.{Queue, open_sq}
-use Rattle.nvme_ctrl.specs.Notes.{logged}
-use Rattle.nvme_ctrl.specs.Waits.{WaitsAt}
-use Rattle.nvme_ctrl.specs.declared.slot.Slot.{Slot}
+use Rattle.nvme_ctrl_log.specs.Notes.{logged}
+use Rattle.nvme_ctrl_log.specs.Waits.{WaitsAt}
+use Rattle.nvme_slots.specs.declared.slot.Slot.{Slot}
 use Rattle.nvme_ctrl.specs.kept.Kept.{tags_of}
 use Rattle.nvme_ctrl.proofs.WaitingNames.{some_open}
 use Rattle.nvme_ctrl.proofs.WaitingPlaces.{waiting_chain, waits_at, none_at}

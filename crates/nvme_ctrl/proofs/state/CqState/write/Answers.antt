@@ -1,6 +1,6 @@
 use Rattle.std.proofs.Common.{refl}
 use Rattle.std.proofs.lemmas.Bool.{eq-eqb, ne_eqb}
-use Rattle.nvme_ctrl.proofs.Phases.{turned, unturned}
+use Rattle.nvme_slots.proofs.Phases.{turned, unturned}
 use Rattle.nvme_ctrl.proofs.state.CqState.write.Goals as goal
 use Rattle.nvme_ctrl.proofs.state.CqState.write.Goals.{then-self-eq1, else-self-eq1}
 

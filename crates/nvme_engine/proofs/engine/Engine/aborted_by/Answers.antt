@@ -1,4 +1,4 @@
-use Rattle.nvme_ctrl.specs.Notes.{logged}
+use Rattle.nvme_ctrl_log.specs.Notes.{logged}
 use Rattle.nvme_engine.proofs.Endings.{admin_aborts_none, untold_aborts_none, told_aborts_none, told_aborts}
 use Rattle.nvme_engine.proofs.engine.Engine.aborted_by.Goals as goal
 

@@ -3,7 +3,7 @@ use Rattle.nvme_admin.specs.History.{Completion}
 use Rattle.nvme_admin.specs.declared.region.AdminError.{AdminError}
 use Rattle.nvme_admin.specs.declared.region.Region.{Region}
 use Rattle.nvme_log.specs.Rules.{cq_regions_of}
-use Rattle.nvme_ctrl.specs.Making.{adding_fault}
+use Rattle.nvme_ctrl_log.specs.Making.{adding_fault}
 use Rattle.nvme_ctrl.specs.declared.state.Controller.{Controller}
 use Rattle.nvme_engine.specs.declared.engine.Engine.{Engine}
 use Rattle.nvme_engine.proofs.AddedRegions.{fits, their_fault, stands_late, stands_in_time, on_ok, on_ok_also, on_err_also, if_ok_also, if_err_also}

@@ -1,7 +1,7 @@
 -- The command of a tag that is out is answered.
 use Rattle.std.proofs.Common.{◌≡◌, List, length, sym, ap, ◌∙◌, subst}
 use Rattle.nvme_ctrl.specs.Standing.{Stands}
-use Rattle.nvme_ctrl.specs.declared.slot.Slot.{Slot}
+use Rattle.nvme_slots.specs.declared.slot.Slot.{Slot}
 use Rattle.nvme_engine.specs.declared.engine.Engine.{Engine}
 use Rattle.nvme_engine.proofs.Calls.{written, leaves, stands_written}
 use Rattle.nvme_engine.proofs.Answering.{has_answered}

@@ -4,7 +4,7 @@ use Rattle.nvme_entry.specs.declared.admin.AdminCommand.{AdminCommand}
 use Rattle.nvme_entry.specs.declared.admin.AdminCommand.TheVariants as command
 use Rattle.nvme_log.specs.Queues.{admin_queue}
 use Rattle.nvme_log.specs.declared.event.Event.TheVariants.{Abort}
-use Rattle.nvme_ctrl.specs.Notes.{logged}
+use Rattle.nvme_ctrl_log.specs.Notes.{logged}
 use Rattle.nvme_engine.specs.Making.{IsEnding}
 use Rattle.nvme_engine.specs.declared.admin.Ending.TheVariants.{Nothing, Dropped}
 use Rattle.nvme_engine.proofs.NextPicks.{stands_with}

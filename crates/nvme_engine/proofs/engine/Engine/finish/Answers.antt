@@ -4,10 +4,10 @@ use Rattle.std.specs.Prelude.{IfSome}
 use Rattle.nvme_log.specs.Rules.{FrontRules}
 use Rattle.nvme_log.specs.Queues.{Deletion, pending}
 use Rattle.nvme_log.specs.Completions.{unposted_of}
-use Rattle.nvme_ctrl.specs.Notes.{Notes, logged}
+use Rattle.nvme_ctrl_log.specs.Notes.{Notes, logged}
 use Rattle.nvme_ctrl.specs.Standing.{Stands}
 use Rattle.nvme_ctrl.specs.Steps.{HasFinished}
-use Rattle.nvme_ctrl.specs.declared.slot.Slot.{Slot}
+use Rattle.nvme_slots.specs.declared.slot.Slot.{Slot}
 use Rattle.nvme_engine.specs.Standing.{StandsAt}
 use Rattle.nvme_engine.specs.Calls as engine
 use Rattle.nvme_engine.proofs.Calls.{written, leaves, stands_written}

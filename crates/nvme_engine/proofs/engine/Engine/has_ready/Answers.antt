@@ -3,7 +3,7 @@ use Rattle.std.specs.Prelude.{IfSome}
 use Rattle.nvme_admin.proofs.Reached.{not_some}
 use Rattle.nvme_ctrl.specs.Posts.{next_post_of}
 use Rattle.nvme_ctrl.specs.declared.posts.Post.{Post}
-use Rattle.nvme_ctrl.specs.declared.slot.Slot.{Slot}
+use Rattle.nvme_slots.specs.declared.slot.Slot.{Slot}
 use Rattle.nvme_engine.proofs.Posting.{all_posted}
 use Rattle.nvme_engine.proofs.engine.Engine.has_ready.Goals as goal
 

@@ -1,7 +1,7 @@
 use Rattle.std.proofs.Common.{◌≡◌, ℕ, ◌<◌, Bool, false, Some}
 use Rattle.nvme_log.specs.Rules.{FrontRules}
 use Rattle.nvme_log.specs.Queues.{qid_of_region, is_closed_region}
-use Rattle.nvme_ctrl.specs.Notes.{Notes, logged}
+use Rattle.nvme_ctrl_log.specs.Notes.{Notes, logged}
 use Rattle.nvme_engine.specs.Standing.{StandsAt}
 use Rattle.nvme_engine.proofs.engine.Engine.is_serving.Given as goal
 

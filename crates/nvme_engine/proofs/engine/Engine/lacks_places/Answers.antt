@@ -2,7 +2,7 @@ use Rattle.std.proofs.Common.{◌≡◌, ℕ, ◌+◌, [], ap, ◌∙◌}
 use Rattle.std.specs.Prelude.{nat_lt}
 use Rattle.nvme_log.specs.Aborts.{places_for}
 use Rattle.nvme_log.specs.Limits.{max_outstanding}
-use Rattle.nvme_ctrl.specs.Notes.{logged}
+use Rattle.nvme_ctrl_log.specs.Notes.{logged}
 use Rattle.nvme_engine.proofs.NextPicks.{stands_with, same_outstanding}
 use Rattle.nvme_engine.proofs.engine.Engine.lacks_places.Goals as goal
 

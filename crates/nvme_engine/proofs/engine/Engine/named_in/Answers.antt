@@ -3,7 +3,7 @@ use Rattle.std.specs.Prelude.{slice_get}
 use Rattle.std.proofs.lemmas.Bool.{eq-eqb, ne_eqb}
 use Rattle.nvme_log.specs.Places.{waiting, entry_at}
 use Rattle.nvme_log.specs.Effects.{has_cid}
-use Rattle.nvme_ctrl.specs.Notes.{logged}
+use Rattle.nvme_ctrl_log.specs.Notes.{logged}
 use Rattle.nvme_engine.proofs.NextPicks.{stands_with}
 use Rattle.nvme_engine.proofs.Endings.{take_whole, none_next, first_passes, index_at, has_its_cid}
 use Rattle.nvme_engine.proofs.engine.Engine.named_in.Goals as goal

@@ -4,7 +4,7 @@ use Rattle.nvme_log.specs.Rules.{FrontRules}
 use Rattle.nvme_log.specs.Queues.{Queue, open_sq}
 use Rattle.nvme_log.specs.Places.{waiting, entry_at}
 use Rattle.nvme_log.specs.Effects.{has_cid}
-use Rattle.nvme_ctrl.specs.Notes.{Notes, logged}
+use Rattle.nvme_ctrl_log.specs.Notes.{Notes, logged}
 use Rattle.nvme_engine.specs.Standing.{StandsAt}
 use Rattle.nvme_engine.proofs.engine.Engine.named_in.Given as goal
 

@@ -1,6 +1,6 @@
 use Rattle.std.proofs.Common.{List, sym, ap, ◌∙◌}
 use Rattle.nvme_ctrl.specs.Posts.{next_post_of}
-use Rattle.nvme_ctrl.specs.declared.slot.Slot.{Slot}
+use Rattle.nvme_slots.specs.declared.slot.Slot.{Slot}
 use Rattle.nvme_engine.proofs.Posting.{all_posted}
 use Rattle.nvme_engine.proofs.engine.Engine.next_post.Goals as goal
 

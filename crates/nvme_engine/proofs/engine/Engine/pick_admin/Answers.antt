@@ -4,7 +4,7 @@ use Rattle.nvme_arbiter.specs.Limits.{highest_count}
 use Rattle.nvme_ctrl.specs.Steps.{HasStepped}
 use Rattle.nvme_ctrl.specs.declared.picks.Step.{Step}
 use Rattle.nvme_ctrl.specs.declared.picks.Step.TheVariants as step
-use Rattle.nvme_ctrl.specs.declared.slot.Slot.{Slot}
+use Rattle.nvme_slots.specs.declared.slot.Slot.{Slot}
 use Rattle.nvme_engine.specs.declared.engine.Engine.{Engine}
 use Rattle.nvme_engine.proofs.Additions.{on_regions}
 use Rattle.nvme_engine.proofs.Calls.{written, slots_are, leaves}

@@ -1,7 +1,7 @@
 use Rattle.std.proofs.Common.{◌≡◌, List, [], length, sym, ap, ◌∙◌, subst}
 use Rattle.nvme_arbiter.specs.Limits.{highest_count}
 use Rattle.nvme_ctrl.specs.Steps.{HasStepped}
-use Rattle.nvme_ctrl.specs.declared.slot.Slot.{Slot}
+use Rattle.nvme_slots.specs.declared.slot.Slot.{Slot}
 use Rattle.nvme_engine.specs.declared.engine.Engine.{Engine}
 use Rattle.nvme_engine.proofs.Calls.{written, slots_are, leaves}
 use Rattle.nvme_ctrl.proofs.MayPick.{arbiter_there}

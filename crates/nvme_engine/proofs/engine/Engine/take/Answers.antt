@@ -1,9 +1,9 @@
 -- What is taken is the first place that is to be taken.
 use Rattle.std.proofs.Common.{◌≡◌, ℕ, List, ◌∷◌, length, refl, append-nil, sym, ap, ◌∙◌, subst}
-use Rattle.nvme_ctrl.specs.Notes.{Taken}
-use Rattle.nvme_ctrl.specs.Tags.{taken}
+use Rattle.nvme_ctrl_log.specs.Notes.{Taken}
+use Rattle.nvme_ctrl_log.specs.Tags.{taken}
 use Rattle.nvme_ctrl.specs.Standing.{Stands}
-use Rattle.nvme_ctrl.specs.declared.slot.Slot.{Slot}
+use Rattle.nvme_slots.specs.declared.slot.Slot.{Slot}
 use Rattle.nvme_engine.specs.declared.engine.Engine.{Engine}
 use Rattle.nvme_engine.proofs.Calls.{written, leaves, stands_written, written_back}
 use Rattle.nvme_engine.proofs.Takes.{took_none, none_left, has_taken}

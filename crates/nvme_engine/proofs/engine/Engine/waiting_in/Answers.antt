@@ -1,6 +1,6 @@
 use Rattle.std.proofs.Common.{[], refl, ◌∙◌, arith}
 use Rattle.nvme_log.specs.Places.{waiting}
-use Rattle.nvme_ctrl.specs.Notes.{logged}
+use Rattle.nvme_ctrl_log.specs.Notes.{logged}
 use Rattle.nvme_engine.proofs.NextPicks.{stands_with}
 use Rattle.nvme_engine.proofs.Endings.{take_whole, few_wait, index_at, pushed}
 use Rattle.nvme_engine.proofs.engine.Engine.waiting_in.Goals as goal

@@ -1,7 +1,7 @@
 use Rattle.std.proofs.Common.{List, inl, inr, sym, subst}
 use Rattle.std.proofs.lemmas.Bool.{cases_Bool}
 use Rattle.nvme_ctrl.specs.Standing.{IsController}
-use Rattle.nvme_ctrl.specs.declared.slot.Slot.{Slot}
+use Rattle.nvme_slots.specs.declared.slot.Slot.{Slot}
 use Rattle.nvme_simulation.specs.Fronts.{Arbitrates}
 use Rattle.nvme_simulation.proofs.Pools.{fetched, at_pool, unchanged}
 use Rattle.nvme_simulation.proofs.front.Front.fetched.Goals as goal

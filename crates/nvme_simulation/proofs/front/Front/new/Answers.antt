@@ -1,5 +1,5 @@
 use Rattle.std.proofs.Common.{List, [], refl}
-use Rattle.nvme_ctrl.specs.declared.slot.Slot.{Slot}
+use Rattle.nvme_slots.specs.declared.slot.Slot.{Slot}
 use Rattle.nvme_simulation.specs.Fronts.{Arbitrates}
 use Rattle.nvme_simulation.proofs.Pools.{at_pool}
 use Rattle.nvme_simulation.proofs.front.Front.new.Goals as goal

@@ -2,7 +2,7 @@ use Rattle.std.proofs.Common.{List, sym, subst}
 use Rattle.nvme_ctrl.specs.Standing.{IsController, Stands}
 use Rattle.nvme_ctrl.specs.Steps.{HasStepped}
 use Rattle.nvme_ctrl.specs.declared.picks.Step.{Step}
-use Rattle.nvme_ctrl.specs.declared.slot.Slot.{Slot}
+use Rattle.nvme_slots.specs.declared.slot.Slot.{Slot}
 use Rattle.nvme_ctrl.proofs.MayPick.{arbiter_there}
 use Rattle.nvme_simulation.specs.Fronts.{Arbitrates}
 use Rattle.nvme_simulation.proofs.Pools.{at_pool, stepped}

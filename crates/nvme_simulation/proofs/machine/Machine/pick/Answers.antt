@@ -1,5 +1,5 @@
 use Rattle.std.proofs.Common.{Some, inr, refl, subst, ℕ}
-use Rattle.nvme_ctrl.specs.Steps.{IsNextWithin}
+use Rattle.nvme_ctrl_log.specs.Steps.{IsNextWithin}
 use Rattle.nvme_simulation.proofs.Hosted.{all_stay}
 use Rattle.nvme_simulation.proofs.Machines.{goes_front, goes_self, goes_then}
 use Rattle.nvme_simulation.proofs.machine.Machine.pick.Goals as goal

@@ -1,5 +1,0 @@
-use Rattle.nvme_ctrl.proofs.Deletions.{picks_are_lawful}
-use Rattle.nvme_ctrl.proofs.laws.picks_are_lawful.Goals as goal
-
-pub returns : goal.returns
-returns c = picks_are_lawful

@@ -1,5 +1,0 @@
-use Rattle.nvme_ctrl.proofs.Slots.{slots_are_free}
-use Rattle.nvme_ctrl.proofs.laws.slots_are_free.Goals as goal
-
-pub returns : goal.returns
-returns c = slots_are_free

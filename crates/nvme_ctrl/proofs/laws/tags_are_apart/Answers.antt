@@ -1,5 +1,0 @@
-use Rattle.nvme_ctrl.proofs.TagLaws.{tags_are_apart}
-use Rattle.nvme_ctrl.proofs.laws.tags_are_apart.Goals as goal
-
-pub returns : goal.returns
-returns c = tags_are_apart

@@ -1,5 +1,0 @@
-use Rattle.nvme_ctrl.proofs.Arranged.{observed_as_in_the_log}
-use Rattle.nvme_ctrl.proofs.laws.unarranged_queues_are_seen.Goals as goal
-
-pub returns : goal.returns
-returns c = observed_as_in_the_log

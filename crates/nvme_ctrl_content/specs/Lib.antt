@@ -1,0 +1,5 @@
+pub mod Content
+pub mod Standing
+pub mod Shown
+pub mod Steps
+pub mod Carrying

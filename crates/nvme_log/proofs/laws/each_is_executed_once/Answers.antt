@@ -1,5 +1,0 @@
-use Rattle.nvme_log.proofs.Tickets.{each-is_executed_once}
-use Rattle.nvme_log.proofs.laws.each_is_executed_once.Goals as goal
-
-pub returns : goal.returns
-returns c = each-is_executed_once
