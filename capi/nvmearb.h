@@ -610,7 +610,7 @@ typedef struct nvmearb_slot {
 typedef struct nvmearb_ctrl {
     uint64_t mark;
     size_t count; /* the number of its slots */
-    uint64_t words[766];
+    uint64_t words[750];
 } nvmearb_ctrl;
 
 /* What a controller is made with. A depth isn't the size of a ring (nvmearb_ctrl_set_depth). */

@@ -6,7 +6,7 @@
 static nvmearb_slot many[NVMEARB_MAX_SLOTS + 1];
 
 _Static_assert(sizeof(nvmearb_slot) == 88, "nvmearb_slot");
-_Static_assert(sizeof(nvmearb_ctrl) == 6144, "nvmearb_ctrl");
+_Static_assert(sizeof(nvmearb_ctrl) == 6016, "nvmearb_ctrl");
 _Static_assert(sizeof(nvmearb_config) == 48 && offsetof(nvmearb_config, admin_depth) == 46, "nvmearb_config");
 _Static_assert(sizeof(nvmearb_asked) == 16 && offsetof(nvmearb_asked, interrupts) == 12, "nvmearb_asked");
 _Static_assert(sizeof(nvmearb_step) == 56 && offsetof(nvmearb_step, asked) == 40, "nvmearb_step");

@@ -10,14 +10,13 @@ enum {
     BOARD = 16 + sizeof(nvmearb_table) - 8 + PLACING,
     SQS = BOARD + sizeof(nvmearb_board) - 8,
     ARBITER = SQS - sizeof(nvmearb_arbiter),
-    SQ_SIZE = 18,
+    SQ_SIZE = 20,
     CQS = SQS + NVMEARB_MAX_REGIONS * SQ_SIZE,
     CQ_SIZE = 14,
     FREE_SLOTS = CQS + NVMEARB_MAX_REGIONS * CQ_SIZE
 };
-enum { HEAD = 2, TAIL = 4, FIRST = 6, LAST = 8, LENGTH = 10, CQID = 14 };
+enum { HEAD = 2, TAIL = 4, FIRST = 6, LAST = 8, LENGTH = 10, CQID = 14, TAG = 16, CLOSING = 19 };
 enum { DEPTHS = FREE_SLOTS + 6, OUTSTANDING = DEPTHS + 2 * NVMEARB_MAX_QUEUES, PICKED_COUNT = OUTSTANDING + 2 };
-enum { DELETION = PICKED_COUNT + 4, DELETION_SIZE = 4 };
 enum { NEXT = 72, GENERATION = 74, STATUS_TYPE = 76, SQID = 78, USED = 79 };
 
 #endif

@@ -52,13 +52,13 @@ static void overwritten(void)
     CHECK(finds(&slots[number_at(CQS + FIRST)], STATUS_TYPE, 8, 1));
     CHECK(finds(&ctrl, OUTSTANDING, 257, 2) && finds(&ctrl, PICKED_COUNT, 3, 2));
     CHECK(finds(&ctrl, ARBITER, 3, 2) && finds(&ctrl, ARBITER + 10, 2, 2)); /* the mechanism, and the last served */
-    CHECK(finds(&ctrl, 0, 1, 1) && finds(&ctrl, 1, 0, 1) && finds(&ctrl, DELETION, 1, 1)); /* the mark, a deletion */
+    CHECK(finds(&ctrl, 0, 1, 1) && finds(&ctrl, 1, 0, 1) && finds(&ctrl, SQS + CLOSING, 1, 1)); /* the mark, a deletion */
     CHECK(nvmearb_ctrl_verify(&ctrl, slots, SLOTS - 1) == NVMEARB_ESTATE);
     CHECK(nvmearb_ctrl_verify(&ctrl, many, SLOTS) == NVMEARB_ESTATE);
     CHECK(posted_with(0, 2, 4, 12, 1, (nvmearb_status){0, 1}, 0, 8) && nvmearb_ctrl_sq_tail(&ctrl, 0, 5) == NVMEARB_OK);
     CHECK(fetched(0, 4, NVMEARB_OPC_DELETE_SQ, 14, 0, 1, 0) && carried_out(NVMEARB_BEGIN_DELETE));
-    other = (uint16_t)number_at(DELETION + DELETION_SIZE + 2);
-    CHECK(finds(&ctrl, DELETION + DELETION_SIZE + 2, SLOTS, 2) && finds(&ctrl, DELETION + DELETION_SIZE + 2, slot, 2));
+    other = (uint16_t)number_at(SQS + SQ_SIZE + TAG);
+    CHECK(finds(&ctrl, SQS + SQ_SIZE + TAG, SLOTS, 2) && finds(&ctrl, SQS + SQ_SIZE + TAG, slot, 2));
     CHECK(finds(&slots[other], USED, 0, 1));
 }
 

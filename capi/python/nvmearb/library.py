@@ -76,7 +76,7 @@ class SlotState(Structure):
 
 
 class CtrlState(Structure):
-    _fields_ = [("mark", c_uint64), ("count", c_size_t), ("words", c_uint64 * 766)]
+    _fields_ = [("mark", c_uint64), ("count", c_size_t), ("words", c_uint64 * 750)]
 
 
 class ConfigFields(Structure):

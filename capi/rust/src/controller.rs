@@ -150,7 +150,7 @@ impl Post {
     }
 }
 
-/// The front of a whole controller, which is driven by calls. It has its state, of 6,144 bytes, and the slots that hold
+/// The front of a whole controller, which is driven by calls. It has its state, of 6,016 bytes, and the slots that hold
 /// the commands ([`Slots`]), and allocates nothing.
 ///
 /// The order of calls:

@@ -310,7 +310,7 @@ pub const NVMEARB_MAX_DEPTH: u16 = 4095;
 pub struct nvmearb_ctrl {
     pub mark: u64,
     pub count: usize,
-    pub words: [u64; 766],
+    pub words: [u64; 750],
 }
 
 #[repr(C)]
@@ -405,7 +405,7 @@ const _: () = {
     assert!(size_of::<nvmearb_answer>() == 24);
     assert!(size_of::<nvmearb_queue>() == 8);
     assert!(size_of::<nvmearb_slot>() == 88);
-    assert!(size_of::<nvmearb_ctrl>() == 6144);
+    assert!(size_of::<nvmearb_ctrl>() == 6016);
     assert!(size_of::<nvmearb_config>() == 48);
     assert!(size_of::<nvmearb_placement>() == 8);
     assert!(size_of::<nvmearb_asked>() == 16);

@@ -13,7 +13,7 @@ const VERSION: usize = 8;
 const STATE_BYTES: usize = 12;
 const SUM: usize = 24;
 const STATE: usize = 32;
-const FIRST_SLOT: usize = STATE + 6144;
+const FIRST_SLOT: usize = STATE + 6016;
 
 fn config() -> Config {
     let admin = |address| Region { address, slots: 8 };

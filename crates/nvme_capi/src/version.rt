@@ -29,7 +29,7 @@ pub const BOARD_BYTES: u32 = 344;
 pub const TABLE_BYTES: u32 = 2768;
 
 /// Those of a controller.
-pub const CTRL_BYTES: u32 = 6144;
+pub const CTRL_BYTES: u32 = 6016;
 
 /// Those of a slot of a controller.
 pub const SLOT_BYTES: u32 = 88;

@@ -1,6 +1,6 @@
 -- An Abort command takes the oldest candidate that it names out of a window: its completion is ready.
 use Rattle.std.specs.Prelude.{option_map, slice_set, min, IsTrue, IsSome, IsSomeAnd, IfSome}
-use Rattle.std.proofs.Common.{◌≡◌, ◌≢◌, ℕ, ◌+◌, ◌-◌, ◌<◌, ◌==◌, Bool, true, false, if◌then◌else◌, List, [], ◌∷◌, ◌++◌, length, map, drop, Option, Some, None, refl, sym, ap, ◌∙◌, subst, arith, inl}
+use Rattle.std.proofs.Common.{◌≡◌, ◌≢◌, ℕ, ◌+◌, ◌-◌, ◌<◌, ◌==◌, Bool, true, false, if◌then◌else◌, List, [], ◌∷◌, ◌++◌, length, map, drop, Option, Some, None, refl, sym, ap, ◌∙◌, subst, arith, inl, is_some}
 use Rattle.std.specs.List.{All}
 use Rattle.std.proofs.lemmas.List.{map-append}
 use Rattle.std.proofs.lemmas.List.Elements.{All-head, All-tail, All-append}
@@ -31,7 +31,7 @@ use Rattle.nvme_ctrl.specs.declared.state.SqState.{SqState}
 use Rattle.nvme_ctrl.specs.declared.state.Controller.{Controller}
 use Rattle.nvme_ctrl_content.specs.Content.{Candidate, Ready, SqContent, Content, with_sq, with_ready}
 use Rattle.nvme_ctrl_content.specs.Steps.{requested, oldest_named, without_oldest}
-use Rattle.nvme_ctrl.specs.kept.Kept.{is_passed_at, Item, Items, IsWaitingIn, IsUnanswered, IsThrough, IsSqOf, HasNumbers, tags_of, candidate_of, IsCookie, HasCookie, IsUnflagged}
+use Rattle.nvme_ctrl.specs.kept.Kept.{is_passed_at, Item, Items, IsWaitingIn, IsUnanswered, IsThrough, tags_of, candidate_of, IsCookie, HasCookie, IsUnflagged, shown_in}
 use Rattle.nvme_ctrl.specs.inside.Loose.{IsLoose, Keeps, MakesReady, ended, with_item}
 use Rattle.nvme_ctrl_content.specs.Carrying.{queue_in, IsAbortableIn}
 use Rattle.nvme_ctrl.specs.inside.Carrying.{HasRequested}
@@ -44,6 +44,7 @@ use Rattle.nvme_ctrl.proofs.Ending.{loose_ended}
 use Rattle.nvme_ctrl_content.proofs.Named.{found_one}
 use Rattle.nvme_slots.proofs.Pools.{IsNew-others, IsNew-left, IsNew-right, IsNew-append}
 use Rattle.nvme_ctrl.proofs.SlotItems.{All-parts}
+use Rattle.nvme_ctrl.proofs.QueueStates.{shown_put}
 use Rattle.nvme_ctrl.proofs.Windowed.{with_window, keeps_windowed, keeps_outstanding}
 
 -- ---- items with a name
@@ -148,7 +149,7 @@ module _ (rules : FrontRules) (notes : Notes) (a : Controller) (slots : List Slo
   region = entry.region
 
   abbrev f : Finds slots cid tag (g.windows region)
-  f = finds slots sqid region cid tag (g.windows region) (h.has.window_items sqid region ab.there) named
+  f = finds slots sqid region cid tag (g.windows region) (h.has.windows.items sqid region ab.there) named
 
   abbrev x : Item
   x = f.item
@@ -157,7 +158,7 @@ module _ (rules : FrontRules) (notes : Notes) (a : Controller) (slots : List Slo
   rest = f.among.before ++ f.among.behind
 
   window_is : (k.sq region).window ≡ map candidate_of (g.windows region)
-  window_is = h.has.window_is region ∙ ap (λ (n : ℕ). map candidate_of (drop n (g.windows region))) (none_picked_of a (k.sq_id region) none)
+  window_is = h.has.windows.are region ∙ ap (λ (n : ℕ). map candidate_of (drop n (g.windows region))) (none_picked_of a (k.sq_id region) none)
 
   oldest : oldest_named cid (k.sq region).window ≡ Some (candidate_of x)
   oldest = ap (oldest_named cid) window_is ∙ f.among.oldest
@@ -172,13 +173,13 @@ module _ (rules : FrontRules) (notes : Notes) (a : Controller) (slots : List Slo
   -- with a candidate, unless it is held
   pub went_some : (sq : SqState) → sq ≡ sq_at a.sqs sqid → (sq.held == 1) ≡ false → IsSomeAnd (queue_at (board_of a.board).queues sqid) (λ (queue : OpenQueue). 0 < queue.count)
   went_some sq sq_is off =
-      let not_held : k.held region ≡ false = sym (ap (λ (z : SqState). z.held == 1) sq_is ∙ (h.numbers.sqs sqid region ab.there).held) ∙ off in
+      let not_held : k.held region ≡ false = sym (ap (λ (z : SqState). z.held == 1) sq_is ∙ (h.numbers.sqs.each sqid region ab.there).held) ∙ off in
       subst (λ (o : Option OpenQueue). IsSomeAnd o (λ (queue : OpenQueue). 0 < queue.count))
       (sym (ap (λ (v : BoardView). queue_at v.queues sqid) h.numbers.board_is ∙ ab.on_board))
       (let some : 0 < length (k.sq region).window = omega (arith, fewer) in some_on (k.held region) _ not_held some)
 
   waits : All (IsWaitingIn slots sqid region) (f.among.before ++ x ∷ f.among.behind)
-  waits = subst (All (IsWaitingIn slots sqid region)) f.among.whole (h.has.window_items sqid region ab.there)
+  waits = subst (All (IsWaitingIn slots sqid region)) f.among.whole (h.has.windows.items sqid region ab.there)
 
   first : IsWaitingIn slots sqid region x
   first = All-head (IsWaitingIn slots sqid region) x f.among.behind (All-parts (IsWaitingIn slots sqid region) f.among.before (x ∷ f.among.behind) waits).1
@@ -190,7 +191,7 @@ module _ (rules : FrontRules) (notes : Notes) (a : Controller) (slots : List Slo
       All-append P f.among.before f.among.behind parts.0 (All-tail P x f.among.behind parts.1)
 
   linked : IsChain slots (sq_at a.sqs sqid).window (tags_of f.among.before ++ x.tag ∷ tags_of f.among.behind)
-  linked = subst (IsChain slots (sq_at a.sqs sqid).window) (ap tags_of f.among.whole ∙ map-append (λ (it : Item). it.tag) f.among.before (x ∷ f.among.behind)) (h.has.window_chain sqid region ab.there)
+  linked = subst (IsChain slots (sq_at a.sqs sqid).window) (ap tags_of f.among.whole ∙ map-append (λ (it : Item). it.tag) f.among.before (x ∷ f.among.behind)) (h.has.windows.chain sqid region ab.there)
 
   inside : x.tag < length slots
   inside = All-head (λ (z : ℕ). z < length slots) x.tag (tags_of f.among.behind) (All-parts (λ (z : ℕ). z < length slots) (tags_of f.among.before) (x.tag ∷ tags_of f.among.behind) linked.inside).1
@@ -241,7 +242,7 @@ module _ (rules : FrontRules) (notes : Notes) (a : Controller) (slots : List Slo
     stands = λ mechanism first past s. stands mechanism first past (subst (λ (v : BoardView). BoardStandsAt mechanism first past v) (sym h.numbers.board_is) s);
     items = with_item (with_window g region rest) ab.c (ended x.tag t);
     keeps = subst (λ (z : ℕ). KeepsRequest m mid z sq.cqid b pool) (sym f.tag_is) request rules notes later (with_window g region rest) t keeps (loose_same slots mid (with_window g region rest) x.tag same loose) made
-        (inl (ab.is_aborted (candidate_of x) oldest)) cookie (sym (rw ab.io refl)) unflagged ab.c to (h.numbers.sq_ids.ids_are sqid region ab.there);
+        (inl (ab.is_aborted (candidate_of x) oldest)) cookie (sym (rw ab.io refl)) unflagged ab.c to (h.numbers.sqs.ids.ids_are sqid region ab.there);
     loose = loose_ended mid pool (with_window g region rest) x.tag ab.c t y size (λ z differ. others z (λ e. differ (e ∙ sym f.tag_is))) (another y other)
         (loose_same slots mid (with_window g region rest) y same (loose_windowed slots g region rest y other (left_loose y other)));
     slot = others y (λ e. another y other (e ∙ sym f.tag_is)) ∙ same.items y;
@@ -262,20 +263,37 @@ module _ (rules : FrontRules) (notes : Notes) (a : Controller) (slots : List Slo
     to = ap (λ (z : SqState). k.cq_life z.cqid) sq_is ∙ posts_to rules notes a slots k g sqid region ab.c h ab.there ab.attached
 
     unposted_is : n ≡ (k.sq region).unposted + 1
-    unposted_is = unposted ∙ ap (λ (z : SqState). z.unposted + 1) sq_is ∙ ap (λ (z : ℕ). z + 1) (h.numbers.sqs sqid region ab.there).unposted
+    unposted_is = unposted ∙ ap (λ (z : SqState). z.unposted + 1) sq_is ∙ ap (λ (z : ℕ). z + 1) (h.numbers.sqs.each sqid region ab.there).unposted
+
+    went_is : board_of board ≡ record (board_of a.board) { queues = slice_set (board_of a.board).queues sqid (Some (counted_on k (queue_in entry) (length (without_oldest cid (k.sq region).window)))) }
+    went_is =
+        subst (λ (q : Option OpenQueue). IfSome q (λ (queue : OpenQueue). board_of board ≡ record (board_of a.board) { queues = slice_set (board_of a.board).queues sqid (Some (record queue { count = if sq.held == 1 then queue.count else queue.count - 1 })) }))
+        (ap (λ (v : BoardView). queue_at v.queues sqid) h.numbers.board_is ∙ ab.on_board) went
+        ∙ ap (λ (z : ℕ). record (board_of a.board) { queues = slice_set (board_of a.board).queues sqid (Some (record (on_board k (queue_in entry)) { count = z })) })
+        (went_on (sq.held == 1) (k.held region) (length (k.sq region).window) (length (without_oldest cid (k.sq region).window)) (ap (λ (z : SqState). z.held == 1) sq_is ∙ (h.numbers.sqs.each sqid region ab.there).held) fewer)
+
+    queues : (board_of board).queues ≡ slice_set k.board.queues sqid (Some (counted_on k (queue_in entry) (length (without_oldest cid (k.sq region).window))))
+    queues =
+        ap (λ (v : BoardView). v.queues) went_is
+        ∙ ap (λ (v : BoardView). slice_set v.queues sqid (Some (counted_on k (queue_in entry) (length (without_oldest cid (k.sq region).window))))) h.numbers.board_is
+
+    -- the queue was shown, and so the same are
+    still_shown : (q : ℕ) → shown_in (board_of board) q ≡ shown_in k.board q
+    still_shown q = ap (λ (qs : List (Option OpenQueue)). is_some (queue_at qs q)) queues
+        ∙ shown_put k.board.queues sqid (Some (counted_on k (queue_in entry) (length (without_oldest cid (k.sq region).window)))) (sym (ap (λ (o : Option OpenQueue). is_some o) ab.on_board)) q
 
     windowed : Keeps rules notes (record a { sqs = slice_set a.sqs sqid s }) mid (with_sq k region c) (with_window g region rest)
     windowed =
-        keeps_windowed rules notes a slots k g h none sqid region ab.there s c rest mid k.held k.classed (h.numbers.sqs sqid region ab.there).held (λ r other. refl) same links refl refl refl unposted_is refl
-        (subst (IsChain mid chain) f.without without) (others_hold (IsWaitingIn slots sqid region) (h.has.window_items sqid region ab.there)) (ap (without_oldest cid) window_is ∙ f.among.left)
-        (others_hold (λ (it : Item). IsUnanswered notes it.place) (h.tags.windows_unanswered region)) (others_hold (HasCookie notes slots) (h.tags.cookies.windows region))
+        keeps_windowed rules notes a slots k g h none sqid region ab.there s c rest mid k.held k.classed (h.numbers.sqs.each sqid region ab.there).held (λ r other. refl) same links refl refl refl refl refl unposted_is refl
+        (subst (IsChain mid chain) f.without without) (others_hold (IsWaitingIn slots sqid region) (h.has.windows.items sqid region ab.there)) (ap (without_oldest cid) window_is ∙ f.among.left)
+        (others_hold (λ (it : Item). IsUnanswered notes it.place) (h.tags.unanswered.windows region)) (others_hold (HasCookie notes slots) (h.tags.cookies.windows region))
 
     keeps : Keeps rules notes m mid later (with_window g region rest)
     keeps =
         subst (λ (z : Controller). Keeps rules notes z mid later (with_window g region rest))
         (sym (m_is ∙ ap (λ (z : SqState). record a { sqs = slice_set a.sqs sqid (record z { window = chain; unposted = n }); board = board; outstanding = o }) sq_is))
         (keeps_outstanding rules notes (record a { sqs = slice_set a.sqs sqid s }) mid (with_sq k region c) (with_window g region rest) board (board_of board) o (k.outstanding + 1) windowed refl
-        (subst (λ (z : ArbiterFields). IsTrue (is_arbiter z)) (sym arbiter) h.numbers.is_arbiter) (outstanding ∙ ap (λ (z : ℕ). z + 1) h.numbers.outstanding_is))
+        (subst (λ (z : ArbiterFields). IsTrue (is_arbiter z)) (sym arbiter) h.numbers.is_arbiter) (λ q r is. still_shown q) (outstanding ∙ ap (λ (z : ℕ). z + 1) h.numbers.outstanding_is))
 
     cookie : IsCookie notes mid x.tag t.place
     cookie = cookie_left notes slots mid (same_cookies slots mid same) x.tag t.place
@@ -284,11 +302,11 @@ module _ (rules : FrontRules) (notes : Notes) (a : Controller) (slots : List Slo
         (All-parts (HasCookie notes slots) f.among.before (x ∷ f.among.behind) (subst (All (HasCookie notes slots)) f.among.whole (h.tags.cookies.windows region))).1))
 
     unflagged : IsUnflagged notes t.place
-    unflagged = h.tags.none_flagged region x.place.index
+    unflagged = h.tags.flagged.none region x.place.index
         (subst (λ (r : ℕ). answer_of notes r x.place.index ≡ None) first.place
         (All-head (λ (it : Item). IsUnanswered notes it.place) x f.among.behind
         (All-parts (λ (it : Item). IsUnanswered notes it.place) f.among.before (x ∷ f.among.behind)
-        (subst (All (λ (it : Item). IsUnanswered notes it.place)) f.among.whole (h.tags.windows_unanswered region))).1))
+        (subst (All (λ (it : Item). IsUnanswered notes it.place)) f.among.whole (h.tags.unanswered.windows region))).1))
 
     made : MakesReady mid x.tag 4 abort_requested 0 t
     made = let same_slot = same.items x.tag in record {
@@ -298,18 +316,6 @@ module _ (rules : FrontRules) (notes : Notes) (a : Controller) (slots : List Slo
       status_is = refl;
       dw0_is = refl;
     }
-
-    went_is : board_of board ≡ record (board_of a.board) { queues = slice_set (board_of a.board).queues sqid (Some (counted_on k (queue_in entry) (length (without_oldest cid (k.sq region).window)))) }
-    went_is =
-        subst (λ (q : Option OpenQueue). IfSome q (λ (queue : OpenQueue). board_of board ≡ record (board_of a.board) { queues = slice_set (board_of a.board).queues sqid (Some (record queue { count = if sq.held == 1 then queue.count else queue.count - 1 })) }))
-        (ap (λ (v : BoardView). queue_at v.queues sqid) h.numbers.board_is ∙ ab.on_board) went
-        ∙ ap (λ (z : ℕ). record (board_of a.board) { queues = slice_set (board_of a.board).queues sqid (Some (record (on_board k (queue_in entry)) { count = z })) })
-        (went_on (sq.held == 1) (k.held region) (length (k.sq region).window) (length (without_oldest cid (k.sq region).window)) (ap (λ (z : SqState). z.held == 1) sq_is ∙ (h.numbers.sqs sqid region ab.there).held) fewer)
-
-    queues : (board_of board).queues ≡ slice_set k.board.queues sqid (Some (counted_on k (queue_in entry) (length (without_oldest cid (k.sq region).window))))
-    queues =
-        ap (λ (v : BoardView). v.queues) went_is
-        ∙ ap (λ (v : BoardView). slice_set v.queues sqid (Some (counted_on k (queue_in entry) (length (without_oldest cid (k.sq region).window))))) h.numbers.board_is
 
 -- ---- the queue in the table
 
@@ -330,7 +336,7 @@ pub few_unposted_more : (rules : FrontRules) (notes : Notes) (a : Controller) (s
     → IsAbortableIn notes k sqid cid entry → sq ≡ sq_at a.sqs sqid → min (sq.unposted + 1) 65535 ≡ sq.unposted + 1
 few_unposted_more rules notes a slots k g sqid cid entry sq h ab sq_is =
     let same = ap (λ (z : SqState). z.unposted) sq_is in
-    let is = (h.numbers.sqs sqid entry.region ab.there).unposted in
+    let is = (h.numbers.sqs.each sqid entry.region ab.there).unposted in
     let few = ab.few_unposted in
     omega arith
 
@@ -346,11 +352,11 @@ few_outstanding_more rules notes a m slots k g sqid cid entry h none ab tag name
 -- the chain of a queue's window
 pub chain_there : (rules : FrontRules) (notes : Notes) (a : Controller) (slots : List Slot) (k : Content) (g : Items) (qid region : ℕ) (sq : SqState) → Keeps rules notes a slots k g
     → k.sq_life qid ≡ Some region → sq ≡ sq_at a.sqs qid → IsChain slots sq.window (tags_of (g.windows region))
-chain_there rules notes a slots k g qid region sq h life is = subst (λ (s : SqState). IsChain slots s.window (tags_of (g.windows region))) (sym is) (h.has.window_chain qid region life)
+chain_there rules notes a slots k g qid region sq h life is = subst (λ (s : SqState). IsChain slots s.window (tags_of (g.windows region))) (sym is) (h.has.windows.chain qid region life)
 
 -- where no slot has the name, no candidate has it
 pub none_left : (rules : FrontRules) (notes : Notes) (a : Controller) (slots : List Slot) (k : Content) (g : Items) (cid qid region : ℕ) → Keeps rules notes a slots k g → a.picked ≡ 0 → k.sq_life qid ≡ Some region
     → named_in slots cid (tags_of (g.windows region)) ≡ None → oldest_named cid (k.sq region).window ≡ None
 none_left rules notes a slots k g cid qid region h none life named =
-    ap (oldest_named cid) (h.has.window_is region ∙ ap (λ (n : ℕ). map candidate_of (drop n (g.windows region))) (none_picked_of a (k.sq_id region) none))
-    ∙ none_finds slots qid region cid (g.windows region) (h.has.window_items qid region life) named
+    ap (oldest_named cid) (h.has.windows.are region ∙ ap (λ (n : ℕ). map candidate_of (drop n (g.windows region))) (none_picked_of a (k.sq_id region) none))
+    ∙ none_finds slots qid region cid (g.windows region) (h.has.windows.items qid region life) named

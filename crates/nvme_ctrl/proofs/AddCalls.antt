@@ -24,7 +24,8 @@ use Rattle.nvme_ctrl.specs.Standing.{IsController}
 use Rattle.nvme_ctrl.specs.declared.state.Controller.{Controller}
 use Rattle.nvme_ctrl_content.specs.Content.{Attachment, Content}
 use Rattle.nvme_ctrl_content.specs.Standing.{HoldsOwn}
-use Rattle.nvme_ctrl.specs.kept.Kept.{HasNumbers, HasItems, HoldsDoorbells, HoldsTags, StandsAt}
+use Rattle.nvme_ctrl.specs.kept.Kept.{HasNumbers, HasItems, HoldsDoorbells, HoldsTags, StandsAt, IsSqOf, shown_in}
+use Rattle.nvme_ctrl.proofs.QueueStates.{sq_told, each_sqs}
 use Rattle.nvme_ctrl.specs.kept.State.{sq_at, cq_at}
 use Rattle.nvme_ctrl_log.proofs.AddedTables.{sq-added, sq-leaves, cq-added, cq-leaves, slots_other, sq-same_placing, cq-same_placing, sq-more, sq-same, cq-more, cq-same, sq-same_sq, sq-same_cq, sq-same_used, sq-same_cq_used, sq-more_sqs, sq-same_cqs, cq-same_cq, cq-same_sq, cq-same_used, cq-same_cq_used, cq-same_sqs, cq-more_cqs}
 use Rattle.nvme_ctrl_log.proofs.DoorbellCounts.{submitted_same, submitted_none, consumed_same, consumed_none}
@@ -33,7 +34,6 @@ use Rattle.nvme_ctrl.proofs.DoorbellCalls.{has_none}
 use Rattle.nvme_ctrl_log.proofs.FurtherHistories.{region-placing}
 use Rattle.nvme_ctrl_content.proofs.FurtherStanding.{in_time, has_history, own-holds}
 use Rattle.nvme_ctrl_content.proofs.Growing.{Grows, grown, holds_when_grown}
-use Rattle.nvme_ctrl.proofs.QueueStates.{IsSqWith, sq_of_with}
 
 -- ---- a controller that stands
 -- a region of which an identifier is told was opened for a queue
@@ -181,23 +181,11 @@ module _ (rules : FrontRules) (late : Bool) (notes : Notes) (c : Controller) (po
     sq_apart : (x : ℕ) (a : Attachment) → (s.content.sq x).queue ≡ Some a → x ≢ r
     sq_apart x a opened same = let below = s.holds.queues.sq_there x a opened in omega (arith, below, same, sq_is_next)
 
-    sq_left : (q x : ℕ) → s.content.sq_life q ≡ Some x → IsSqWith sq_table s.content.cq_life q x (sq_at c.sqs q) (sq_added.sq x) (s.content.held x)
+    sq_left : (q x : ℕ) → s.content.sq_life q ≡ Some x → IsSqOf (with_table c table) sq_added q x
     sq_left q x is =
-        let h = s.numbers.sqs q x is in
-        let slots : (s.content.sq x).slots ≡ slots_at (sq_regions_of sq_rules) x = sym (s.holds.tabled.sq_slots x) ∙ sym (sq_slots_others x (sq_apart x (record { qid = q; cq_region = h.cq_region }) h.opened)) in
-        record {
-          entry = h.entry;
-          in_table = sq_grows.same_sq q ∙ h.in_table;
-          on = h.on;
-          to = h.to;
-          cq_region = h.cq_region;
-          cq_open = h.cq_open;
-          opened = h.opened;
-          held_is = h.held;
-          unposted = h.unposted;
-          slots = h.slots ∙ slots;
-          some = subst (λ (m : ℕ). 0 < m) slots h.some;
-        }
+        let h = s.numbers.sqs.each q x is in
+        sq_told s.content.table sq_table s.content.cq_life q x (sq_at c.sqs q) (s.content.sq x) (sq_added.sq x) (s.content.held x) (shown_in s.content.board q) h (sq_grows.same_sq q) refl refl
+        (sq_slots_others x (sq_apart x (record { qid = q; cq_region = h.cq_region }) h.opened) ∙ s.holds.tabled.sq_slots x)
 
     sq_numbers : HasNumbers (with_table c table) sq_added
     sq_numbers = let n = s.numbers in record {
@@ -205,75 +193,35 @@ module _ (rules : FrontRules) (late : Bool) (notes : Notes) (c : Controller) (po
       board_is = n.board_is;
       is_arbiter = n.is_arbiter;
       outstanding_is = n.outstanding_is;
-      sq_ids = n.sq_ids;
-      cq_ids = n.cq_ids;
-      sqs = λ q x is. sq_of_with (with_table c table) sq_added q x (sq_left q x is);
-      cqs = λ q x is. (let h = n.cqs q x is in record { slots = h.slots; some = h.some });
-      few_sqs = n.few_sqs;
-      few_cqs = n.few_cqs;
-      no_sqs = n.no_sqs;
-      no_cqs = n.no_cqs;
-      sq_size = n.sq_size;
-      cq_size = n.cq_size;
-      rung = n.rung;
-      readied = n.readied;
+      sqs = each_sqs c.sqs c.rung s.content.table sq_table s.content.cq_life s.content.cq_life s.content.sq_life s.content.sq_id s.content.sq sq_added.sq s.content.held s.content.held
+          (shown_in s.content.board) (shown_in s.content.board) (λ q x is w. sq_left q x is) n.sqs;
+      cqs = n.cqs;
     }
 
     sq_items : HasItems (with_table c table) pool sq_added s.items
-    sq_items = let h = s.has in record {
-      window_chain = h.window_chain;
-      window_items = h.window_items;
-      window_none = h.window_none;
-      window_is = h.window_is;
-      picked_there = h.picked_there;
-      outs_items = h.outs_items;
-      outs_apart = h.outs_apart;
-      outs_all = h.outs_all;
-      hand_is = h.hand_is;
-      ready_chain = h.ready_chain;
-      ready_items = h.ready_items;
-      ready_none = h.ready_none;
-      ready_is = h.ready_is;
-      deletions = h.deletions;
-      free_chain = h.free_chain;
-      free_items = h.free_items;
-      few = h.few;
-    }
+    sq_items = let h = s.has in record { windows = h.windows; outs = h.outs; readies = h.readies; deletions = h.deletions; free = h.free; few = h.few }
 
     -- nothing was submitted to a region that no queue was opened on, and of the others the slots are left
     sq_doorbells : HoldsDoorbells sq_rules notes (with_table c table) sq_added
     sq_doorbells =
         let d = s.doorbells in
         record {
-          sqs = λ q x is. subst (HasCounts (sq_at c.sqs q).ring (length (fetched (logged notes) x)))
-              (sym (submitted_same rules sq_rules notes x (sq_slots_others x (sq_apart x (record { qid = q; cq_region = (s.numbers.sqs q x is).cq_region }) (s.numbers.sqs q x is).opened))))
-              (d.sqs q x is);
-          cqs = λ q x is. subst (λ (m : ℕ). HasCounts (cq_at c.cqs q).ring m (length (posted_to (logged notes) x))) (sym (consumed_same rules sq_rules notes x (cq_slots_left x))) (d.cqs q x is);
-          phases = d.phases;
-          no_tails = λ x none. submitted_none rules sq_rules notes x (d.no_tails x none);
-          no_heads = λ x none. consumed_none rules sq_rules notes x (d.no_heads x none);
-          no_posts = d.no_posts;
+          sqs = record {
+            each = λ q x is. subst (HasCounts (sq_at c.sqs q).ring (length (fetched (logged notes) x)))
+                (sym (submitted_same rules sq_rules notes x (sq_slots_others x (sq_apart x (record { qid = q; cq_region = (s.numbers.sqs.each q x is).cq_region }) (s.numbers.sqs.each q x is).opened))))
+                (d.sqs.each q x is);
+            no_tails = λ x none. submitted_none rules sq_rules notes x (d.sqs.no_tails x none);
+          };
+          cqs = record {
+            each = λ q x is. subst (λ (m : ℕ). HasCounts (cq_at c.cqs q).ring m (length (posted_to (logged notes) x))) (sym (consumed_same rules sq_rules notes x (cq_slots_left x))) (d.cqs.each q x is);
+            phases = d.cqs.phases;
+            no_heads = λ x none. consumed_none rules sq_rules notes x (d.cqs.no_heads x none);
+            no_posts = d.cqs.no_posts;
+          };
         }
 
     sq_tags : HoldsTags notes (with_table c table) pool sq_added s.items
-    sq_tags = let t = s.tags in record {
-      untaken_are = t.untaken_are;
-      outs_held = t.outs_held;
-      readies_held = t.readies_held;
-      none_held = t.none_held;
-      through = t.through;
-      windows_unanswered = t.windows_unanswered;
-      outs_unanswered = t.outs_unanswered;
-      deletes_unanswered = t.deletes_unanswered;
-      none_answered = t.none_answered;
-      answered_held = t.answered_held;
-      hand_entries = t.hand_entries;
-      free_count = t.free_count;
-      cookies = t.cookies;
-      passed = t.passed;
-      none_flagged = t.none_flagged;
-      flags = t.flags;
-    }
+    sq_tags = s.tags
 
     -- the controller stands with the region
     pub sq_region-stands : StandsAt sq_rules (is_late rules late notes a) notes (with_table c table) pool
@@ -365,95 +313,48 @@ module _ (rules : FrontRules) (late : Bool) (notes : Notes) (c : Controller) (po
     cq_slots_stay : (q x : ℕ) → s.content.cq_life q ≡ Some x → (s.content.cq x).slots ≡ slots_at (cq_regions_of cq_rules) x
     cq_slots_stay q x is = sym (s.holds.tabled.cq_slots x) ∙ sym (cq_slots_others x (cq_apart q x is))
 
-    sq_stays : (q x : ℕ) → s.content.sq_life q ≡ Some x → IsSqWith cq_table s.content.cq_life q x (sq_at c.sqs q) (cq_added.sq x) (s.content.held x)
-    sq_stays q x is = let h = s.numbers.sqs q x is in record {
-      entry = h.entry;
-      in_table = cq_grows.same_sq q ∙ h.in_table;
-      on = h.on;
-      to = h.to;
-      cq_region = h.cq_region;
-      cq_open = h.cq_open;
-      opened = h.opened;
-      held_is = h.held;
-      unposted = h.unposted;
-      slots = h.slots;
-      some = h.some;
-    }
-
     cq_numbers : HasNumbers (with_table c table) cq_added
     cq_numbers = let n = s.numbers in record {
       tells = takes rules.start s.holds.tabled.history (subst (Tells c.table) s.holds.tabled.table_is n.tells);
       board_is = n.board_is;
       is_arbiter = n.is_arbiter;
       outstanding_is = n.outstanding_is;
-      sq_ids = n.sq_ids;
-      cq_ids = n.cq_ids;
-      sqs = λ q x is. sq_of_with (with_table c table) cq_added q x (sq_stays q x is);
-      cqs = λ q x is. (let h = n.cqs q x is in record { slots = h.slots ∙ cq_slots_stay q x is; some = subst (λ (m : ℕ). 0 < m) (cq_slots_stay q x is) h.some });
-      few_sqs = n.few_sqs;
-      few_cqs = n.few_cqs;
-      no_sqs = n.no_sqs;
-      no_cqs = n.no_cqs;
-      sq_size = n.sq_size;
-      cq_size = n.cq_size;
-      rung = n.rung;
-      readied = n.readied;
+      sqs = each_sqs c.sqs c.rung s.content.table cq_table s.content.cq_life s.content.cq_life s.content.sq_life s.content.sq_id s.content.sq cq_added.sq s.content.held s.content.held
+          (shown_in s.content.board) (shown_in s.content.board)
+          (λ q x is w. sq_told s.content.table cq_table s.content.cq_life q x (sq_at c.sqs q) (s.content.sq x) (cq_added.sq x) (s.content.held x) (shown_in s.content.board q) w (cq_grows.same_sq q) refl refl refl) n.sqs;
+      cqs = record {
+        ids = n.cqs.ids;
+        each = λ q x is. (let h = n.cqs.each q x is in record { slots = h.slots ∙ cq_slots_stay q x is; some = subst (λ (m : ℕ). 0 < m) (cq_slots_stay q x is) h.some });
+        few = n.cqs.few;
+        none = n.cqs.none;
+        size = n.cqs.size;
+        readied = n.cqs.readied;
+      };
     }
 
     cq_items : HasItems (with_table c table) pool cq_added s.items
-    cq_items = let h = s.has in record {
-      window_chain = h.window_chain;
-      window_items = h.window_items;
-      window_none = h.window_none;
-      window_is = h.window_is;
-      picked_there = h.picked_there;
-      outs_items = h.outs_items;
-      outs_apart = h.outs_apart;
-      outs_all = h.outs_all;
-      hand_is = h.hand_is;
-      ready_chain = h.ready_chain;
-      ready_items = h.ready_items;
-      ready_none = h.ready_none;
-      ready_is = h.ready_is;
-      deletions = h.deletions;
-      free_chain = h.free_chain;
-      free_items = h.free_items;
-      few = h.few;
-    }
+    cq_items = let h = s.has in record { windows = h.windows; outs = h.outs; readies = h.readies; deletions = h.deletions; free = h.free; few = h.few }
 
     -- nothing was consumed of a region that no queue was opened on, and of the others the slots are left
     cq_doorbells : HoldsDoorbells cq_rules notes (with_table c table) cq_added
     cq_doorbells =
         let d = s.doorbells in
         record {
-          sqs = λ q x is. subst (HasCounts (sq_at c.sqs q).ring (length (fetched (logged notes) x))) (sym (submitted_same rules cq_rules notes x (sq_slots_left x))) (d.sqs q x is);
-          cqs = λ q x is. subst (λ (m : ℕ). HasCounts (cq_at c.cqs q).ring m (length (posted_to (logged notes) x)))
-              (sym (consumed_same rules cq_rules notes x (cq_slots_others x (cq_apart q x is)))) (d.cqs q x is);
-          phases = d.phases;
-          no_tails = λ x none. submitted_none rules cq_rules notes x (d.no_tails x none);
-          no_heads = λ x none. consumed_none rules cq_rules notes x (d.no_heads x none);
-          no_posts = d.no_posts;
+          sqs = record {
+            each = λ q x is. subst (HasCounts (sq_at c.sqs q).ring (length (fetched (logged notes) x))) (sym (submitted_same rules cq_rules notes x (sq_slots_left x))) (d.sqs.each q x is);
+            no_tails = λ x none. submitted_none rules cq_rules notes x (d.sqs.no_tails x none);
+          };
+          cqs = record {
+            each = λ q x is. subst (λ (m : ℕ). HasCounts (cq_at c.cqs q).ring m (length (posted_to (logged notes) x)))
+                (sym (consumed_same rules cq_rules notes x (cq_slots_others x (cq_apart q x is)))) (d.cqs.each q x is);
+            phases = d.cqs.phases;
+            no_heads = λ x none. consumed_none rules cq_rules notes x (d.cqs.no_heads x none);
+            no_posts = d.cqs.no_posts;
+          };
         }
 
     cq_tags : HoldsTags notes (with_table c table) pool cq_added s.items
-    cq_tags = let t = s.tags in record {
-      untaken_are = t.untaken_are;
-      outs_held = t.outs_held;
-      readies_held = t.readies_held;
-      none_held = t.none_held;
-      through = t.through;
-      windows_unanswered = t.windows_unanswered;
-      outs_unanswered = t.outs_unanswered;
-      deletes_unanswered = t.deletes_unanswered;
-      none_answered = t.none_answered;
-      answered_held = t.answered_held;
-      hand_entries = t.hand_entries;
-      free_count = t.free_count;
-      cookies = t.cookies;
-      passed = t.passed;
-      none_flagged = t.none_flagged;
-      flags = t.flags;
-    }
+    cq_tags = s.tags
 
     -- the controller stands with the region
     pub cq_region-stands : StandsAt cq_rules (is_late rules late notes a) notes (with_table c table) pool

@@ -9,11 +9,12 @@ use Rattle.nvme_arbiter.specs.History.{History, Picked}
 use Rattle.nvme_arbiter.specs.Limits.{highest_qid}
 use Rattle.nvme_arbiter.specs.declared.settings.Class.{Class}
 use Rattle.nvme_arbiter.specs.Lawful.{IsLimitedPick}
-use Rattle.nvme_arbiter.specs.Queues.{seen_of}
+use Rattle.nvme_arbiter.specs.Queues.{seen_of, queue_at}
 use Rattle.nvme_arbiter.specs.Layout.{is_arbiter, board_of}
-use Rattle.nvme_arbiter.specs.Board.{BoardView, BoardStandsAt, queues_after}
+use Rattle.nvme_arbiter.specs.Board.{BoardStandsAt, queues_after}
 use Rattle.nvme_arbiter.specs.declared.settings.Mechanism.{Mechanism}
 use Rattle.nvme_arbiter.specs.declared.pick.Pick.{Pick}
+use Rattle.nvme_arbiter.specs.declared.pick.OpenQueue.{OpenQueue}
 use Rattle.nvme_arbiter.specs.declared.board_fields.BoardFields.{BoardFields}
 use Rattle.nvme_admin.specs.History.{Start, TableHistory, EntryApplied, Placing, Kind, Submission, Completion}
 use Rattle.nvme_admin.specs.Accepted.{queue_table, verdict_of}
@@ -31,7 +32,6 @@ use Rattle.nvme_entry.specs.AdminCommand.{admin_command_of}
 use Rattle.nvme_entry.specs.declared.submission.Sqe.{Sqe}
 use Rattle.nvme_log.specs.Rules.{FrontRules, sq_regions_of, cq_regions_of}
 use Rattle.nvme_log.specs.Places.{entry_at, waiting}
-use Rattle.nvme_log.specs.Histories.{arbitration_of}
 use Rattle.nvme_log.specs.Queues.{Queue, admin_queue, open_sq}
 use Rattle.nvme_ctrl_log.specs.Account.{IsAccount}
 use Rattle.nvme_ctrl_log.specs.Making.{with_region, slots_asked, placing_in, placed, placed_by}
@@ -44,7 +44,7 @@ use Rattle.nvme_ctrl.specs.declared.state.Controller.{Controller}
 use Rattle.nvme_ctrl_content.specs.Content.{Candidate, Content}
 use Rattle.nvme_ctrl_content.specs.Standing.{Holds, FewQueues}
 use Rattle.nvme_ctrl_content.specs.Steps.{HasNextRegion, CanPick, CanApply, verdict_at, picked_sq, applied_to}
-use Rattle.nvme_ctrl.specs.kept.Kept.{Item, Items, IsWaitingIn, IsUnanswered, HasCookie, StandsAt, tags_of, candidate_of}
+use Rattle.nvme_ctrl.specs.kept.Kept.{Item, Items, IsWaitingIn, IsUnanswered, HasCookie, StandsAt, tags_of, candidate_of, shown_in}
 use Rattle.nvme_ctrl_content.specs.Shown.{HoldsShown, HasRegionsMade}
 use Rattle.nvme_ctrl.specs.inside.Loose.{IsLoose, Keeps}
 use Rattle.nvme_ctrl.specs.inside.Carrying.{IsApplied}
@@ -57,8 +57,9 @@ use Rattle.nvme_ctrl.proofs.Dropping.{loose_waited}
 use Rattle.nvme_ctrl_content.proofs.LifeLaws.{applied_stays}
 use Rattle.nvme_ctrl.proofs.PoolBounds.{unposted_held, window_held}
 use Rattle.nvme_ctrl_content.proofs.OpenQueues.{admin_is_open}
-use Rattle.nvme_ctrl.proofs.PickCall.{board_stands, due, can}
+use Rattle.nvme_ctrl.proofs.PickCall.{due, can}
 use Rattle.nvme_ctrl.proofs.Standable.{keeps_standing}
+use Rattle.nvme_ctrl.proofs.QueueStates.{shown_picked}
 use Rattle.nvme_ctrl.proofs.Windowed.{with_window, keeps_windowed, keeps_outstanding, keeps_table}
 
 -- ---- the oldest command
@@ -141,10 +142,10 @@ module _ (rules : FrontRules) (late : Bool) (notes : Notes) (c : Controller) (sl
     (none : c.picked ≡ 0) (pick : Pick) (board : BoardFields) (can_admin : CanPick rules (logged notes) k admin_queue pick (board_of board))
     (arbiter : IsTrue (is_arbiter board.arbiter)) (first_is : pick.qid ≡ 0) (one : pick.n ≡ 1) where
   pub admin_life : k.sq_life 0 ≡ Some 0
-  admin_life = keeps.numbers.sq_ids.admin
+  admin_life = keeps.numbers.sqs.ids.admin
 
   window_all : (k.sq 0).window ≡ map candidate_of (g.windows 0)
-  window_all = keeps.has.window_is 0 ∙ ap (λ (n : ℕ). map candidate_of (drop n (g.windows 0))) (none_picked_of c (k.sq_id 0) none)
+  window_all = keeps.has.windows.are 0 ∙ ap (λ (n : ℕ). map candidate_of (drop n (g.windows 0))) (none_picked_of c (k.sq_id 0) none)
 
   -- its oldest command
   pub oldest : IsSplit (g.windows 0)
@@ -157,16 +158,16 @@ module _ (rules : FrontRules) (late : Bool) (notes : Notes) (c : Controller) (sl
   rest = oldest.rest
 
   pub linked : IsChain slots (sq_at c.sqs 0).window (x.tag ∷ tags_of rest)
-  linked = subst (λ (its : List Item). IsChain slots (sq_at c.sqs 0).window (tags_of its)) oldest.is (keeps.has.window_chain 0 0 admin_life)
+  linked = subst (λ (its : List Item). IsChain slots (sq_at c.sqs 0).window (tags_of its)) oldest.is (keeps.has.windows.chain 0 0 admin_life)
 
   pub waits : All (IsWaitingIn slots 0 0) (x ∷ rest)
-  waits = subst (All (IsWaitingIn slots 0 0)) oldest.is (keeps.has.window_items 0 0 admin_life)
+  waits = subst (All (IsWaitingIn slots 0 0)) oldest.is (keeps.has.windows.items 0 0 admin_life)
 
   pub first : IsWaitingIn slots 0 0 x
   first = All-head (IsWaitingIn slots 0 0) x rest waits
 
   pub unanswered_all : All (λ (it : Item). IsUnanswered notes it.place) (x ∷ rest)
-  unanswered_all = subst (All (λ (it : Item). IsUnanswered notes it.place)) oldest.is (keeps.tags.windows_unanswered 0)
+  unanswered_all = subst (All (λ (it : Item). IsUnanswered notes it.place)) oldest.is (keeps.tags.unanswered.windows 0)
 
   cookies_all : All (HasCookie notes slots) (x ∷ rest)
   cookies_all = subst (All (HasCookie notes slots)) oldest.is (keeps.tags.cookies.windows 0)
@@ -187,7 +188,7 @@ module _ (rules : FrontRules) (late : Bool) (notes : Notes) (c : Controller) (sl
   unposted_capped sq sq_is =
       let as_many = ap (λ (z : SqState). z.unposted) sq_is in
       let held = unposted_held rules late (logged notes) k holds 0 below in
-      let same = (keeps.numbers.sqs 0 0 admin_life).unposted in
+      let same = (keeps.numbers.sqs.each 0 0 admin_life).unposted in
       omega (arith, as_many, held, same, some_waits, keeps.tags.free_count, keeps.has.few)
 
   pub outstanding_capped : min (c.outstanding + 1) 65535 ≡ c.outstanding + 1
@@ -245,11 +246,15 @@ module _ (rules : FrontRules) (late : Bool) (notes : Notes) (c : Controller) (sl
 
       windowed : Keeps rules notes (record c { sqs = slice_set c.sqs 0 picked_state }) slots (record k { sq = λ r. if r == 0 then picked_sq (k.sq 0) 1 else k.sq r }) (with_window g 0 rest)
       windowed =
-          keeps_windowed rules notes c slots k g keeps none 0 0 admin_life picked_state (picked_sq (k.sq 0) 1) rest slots k.held k.classed (keeps.numbers.sqs 0 0 admin_life).held (λ z other. refl)
-          (record { size = refl; items = λ z. refl }) (λ z new. refl) refl refl refl
-          (n_is ∙ ap (λ (z : SqState). z.unposted + 1) sq_is ∙ ap (λ (z : ℕ). z + 1) (keeps.numbers.sqs 0 0 admin_life).unposted) refl popped (All-tail (IsWaitingIn slots 0 0) x rest waits)
+          keeps_windowed rules notes c slots k g keeps none 0 0 admin_life picked_state (picked_sq (k.sq 0) 1) rest slots k.held k.classed (keeps.numbers.sqs.each 0 0 admin_life).held (λ z other. refl)
+          (record { size = refl; items = λ z. refl }) (λ z new. refl) refl refl refl refl refl
+          (n_is ∙ ap (λ (z : SqState). z.unposted + 1) sq_is ∙ ap (λ (z : ℕ). z + 1) (keeps.numbers.sqs.each 0 0 admin_life).unposted) refl popped (All-tail (IsWaitingIn slots 0 0) x rest waits)
           (ap (λ (w : List Candidate). drop 1 w) window_is) (All-tail (λ (it : Item). IsUnanswered notes it.place) x rest unanswered_all)
           (All-tail (HasCookie notes slots) x rest cookies_all)
+
+      -- the same queues are shown
+      still_shown : (q : ℕ) → shown_in (board_of board) q ≡ shown_in k.board q
+      still_shown q = ap (λ (qs : List (Option OpenQueue)). is_some (queue_at qs q)) can_admin.board_queues ∙ shown_picked k.board.queues pick q
 
       keeps_applied : Keeps rules notes m slots (applied_to k (board_of board) after) (with_window g 0 rest)
       keeps_applied =
@@ -258,7 +263,7 @@ module _ (rules : FrontRules) (late : Bool) (notes : Notes) (c : Controller) (sl
           (keeps_table rules notes (record c { board = board; sqs = slice_set c.sqs 0 picked_state; outstanding = o }) slots
           (record k { sq = λ r. if r == 0 then picked_sq (k.sq 0) 1 else k.sq r; board = board_of board; outstanding = k.outstanding + 1 }) (with_window g 0 rest) table after
           (keeps_outstanding rules notes (record c { sqs = slice_set c.sqs 0 picked_state }) slots (record k { sq = λ r. if r == 0 then picked_sq (k.sq 0) 1 else k.sq r }) (with_window g 0 rest)
-          board (board_of board) o (k.outstanding + 1) windowed refl arbiter (o_is ∙ ap (λ (z : ℕ). z + 1) keeps.numbers.outstanding_is))
+          board (board_of board) o (k.outstanding + 1) windowed refl arbiter (λ q r is. still_shown q) (o_is ∙ ap (λ (z : ℕ). z + 1) keeps.numbers.outstanding_is))
           tells (λ q r e life is. applied_stays rules late (logged notes) k (candidate_of x) (map candidate_of rest) after holds can_apply q e is))
 
       pub is_applied : IsApplied rules late notes m slots tag did v

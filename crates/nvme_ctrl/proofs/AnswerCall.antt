@@ -113,7 +113,7 @@ module _ (rules : FrontRules) (late : Bool) (notes : Notes) (c : Controller) (sl
   out = has_it rules late notes c slots k g s n h t before it after are answer
 
   others_are : All (IsOutIn k.sq_id slots) (before ++ after)
-  others_are = (All-taken (IsOutIn k.sq_id slots) before it after (All-same (IsOutIn k.sq_id slots) (before ++ it ∷ after) g.outs (sym are) h.outs_items)).1
+  others_are = (All-taken (IsOutIn k.sq_id slots) before it after (All-same (IsOutIn k.sq_id slots) (before ++ it ∷ after) g.outs (sym are) h.outs.items)).1
 
   size : length new ≡ length slots
   size = p.items.size ∙ length-put_item slots it.tag (answered_slot (slot_at slots it.tag) answer flags)
@@ -135,11 +135,11 @@ module _ (rules : FrontRules) (late : Bool) (notes : Notes) (c : Controller) (sl
   cq_life = (queue_is rules late notes c slots k g s n h t before it after are answer).cq_open
 
   there : cqid < length c.cqs
-  there = subst (λ (m : ℕ). cqid < m) (sym n.cq_size) (n.few_cqs cqid x cq_life)
+  there = subst (λ (m : ℕ). cqid < m) (sym n.cqs.size) (n.cqs.few cqid x cq_life)
 
   -- its ready completions are in a chain
   old_chain : IsChain slots (cq_at c.cqs cqid).ready (ready_tags (g.readies x))
-  old_chain = h.ready_chain cqid x cq_life
+  old_chain = h.readies.chain cqid x cq_life
 
   here_readies : left.readies x ≡ g.readies x ++ item ∷ []
   here_readies = rw (eq-eqb x x refl) refl
@@ -163,14 +163,14 @@ module _ (rules : FrontRules) (late : Bool) (notes : Notes) (c : Controller) (sl
   window_left q r is = chain_left (sq_at c.sqs q).window (tags_of (g.windows r))
       (All-map (λ (y : ℕ). IsNew y (ready_tags (g.readies x))) (λ (y : Item). y.tag) (g.windows r)
       (All-weaker (IsWaitingIn slots q r) (λ (y : Item). IsNew y.tag (ready_tags (g.readies x)))
-      (λ y waits. new_to_ready k.sq_id slots (g.readies x) (h.ready_items x) y.tag (omega (arith, waits.state))) (g.windows r) (h.window_items q r is)))
-      (h.window_chain q r is)
+      (λ y waits. new_to_ready k.sq_id slots (g.readies x) (h.readies.items x) y.tag (omega (arith, waits.state))) (g.windows r) (h.windows.items q r is)))
+      (h.windows.chain q r is)
 
   free_left : IsChain new c.free g.free
   free_left = chain_left c.free g.free
       (All-weaker (is_free slots) (λ (y : ℕ). IsNew y (ready_tags (g.readies x)))
-      (λ y free. new_to_ready k.sq_id slots (g.readies x) (h.ready_items x) y (omega (arith, free))) g.free h.free_items)
-      h.free_chain
+      (λ y free. new_to_ready k.sq_id slots (g.readies x) (h.readies.items x) y (omega (arith, free))) g.free h.free.items)
+      h.free.chain
 
   -- the region of the queue of a slot
   abbrev region_of : ℕ → ℕ
@@ -180,10 +180,10 @@ module _ (rules : FrontRules) (late : Bool) (notes : Notes) (c : Controller) (sl
   ready_goes : (y : ℕ) → All (λ (w : ReadyItem). cq_region_of (logged notes) (region_of w.tag) ≡ Some y) (g.readies y)
   ready_goes y = All-both (λ (w : ReadyItem). IsReady (logged notes) k.deletion y w.ready) (IsReadyIn k.sq_id slots)
       (λ (w : ReadyItem). cq_region_of (logged notes) (region_of w.tag) ≡ Some y)
-      (λ w ready is_in. ap (λ (o : Option ℕ). cq_region_of (logged notes) (unwrap_or o 0)) (n.sq_ids.lives_are w.ready.place.region (slot_at slots w.tag).sqid is_in.queue) ∙ ready.region) (g.readies y)
+      (λ w ready is_in. ap (λ (o : Option ℕ). cq_region_of (logged notes) (unwrap_or o 0)) (n.sqs.ids.lives_are w.ready.place.region (slot_at slots w.tag).sqid is_in.queue) ∙ ready.region) (g.readies y)
       (All-unmap (IsReady (logged notes) k.deletion y) (λ (w : ReadyItem). w.ready) (g.readies y)
-      (All-same (IsReady (logged notes) k.deletion y) (readies_of (g.readies y)) (k.cq y).ready (sym (h.ready_is y)) (s.ready.each y)))
-      (h.ready_items y)
+      (All-same (IsReady (logged notes) k.deletion y) (readies_of (g.readies y)) (k.cq y).ready (sym (h.readies.are y)) (s.ready.each y)))
+      (h.readies.items y)
 
   other_ready : (q y : ℕ) → k.cq_life q ≡ Some y → y ≢ x → IsChain new (cq_at c.cqs q).ready (ready_tags (g.readies y))
   other_ready q y is other = chain_left (cq_at c.cqs q).ready (ready_tags (g.readies y))
@@ -194,12 +194,12 @@ module _ (rules : FrontRules) (late : Bool) (notes : Notes) (c : Controller) (sl
       (λ v comes e. other (same_Some y x (sym goes ∙ sym (ap (λ (z : ℕ). cq_region_of (logged notes) (region_of z)) e) ∙ comes)))
       (g.readies x) (ready_goes x)))
       (g.readies y) (ready_goes y)))
-      (h.ready_chain q y is)
+      (h.readies.chain q y is)
 
   here_ready : IsChain new chain (ready_tags (g.readies x) ++ it.tag ∷ [])
   here_ready =
       let slot : Slot = answered_slot (slot_at slots it.tag) answer flags in
-      let fresh : IsNew it.tag (ready_tags (g.readies x)) = new_to_ready k.sq_id slots (g.readies x) (h.ready_items x) it.tag (omega (arith, out.state)) in
+      let fresh : IsNew it.tag (ready_tags (g.readies x)) = new_to_ready k.sq_id slots (g.readies x) (h.readies.items x) it.tag (omega (arith, out.state)) in
       let many = length-apart (length slots) (it.tag ∷ ready_tags (g.readies x)) (fresh, old_chain.apart)
       (All-cons (λ (z : ℕ). z < length slots) it.tag (ready_tags (g.readies x)) out.inside old_chain.inside) in
       p.chain (ready_tags (g.readies x)) (chain-put_item slots (cq_at c.cqs cqid).ready (ready_tags (g.readies x)) it.tag slot old_chain)
@@ -221,21 +221,21 @@ module _ (rules : FrontRules) (late : Bool) (notes : Notes) (c : Controller) (sl
   }
 
   ready_left : (y : ℕ) → All (IsReadyIn k.sq_id new) (g.readies y)
-  ready_left y = all_ready_stay slots new it.tag size others k.sq_id (g.readies y) (omega (arith, out.state)) (h.ready_items y)
+  ready_left y = all_ready_stay slots new it.tag size others k.sq_id (g.readies y) (omega (arith, out.state)) (h.readies.items y)
 
   ready_here : (later.cq x).ready ≡ readies_of (left.readies x)
-  ready_here = at_here ∙ ap (λ (ts : List Ready). ts ++ item.ready ∷ []) (h.ready_is x) ∙ sym (map-append (λ (w : ReadyItem). w.ready) (g.readies x) (item ∷ []))
+  ready_here = at_here ∙ ap (λ (ts : List Ready). ts ++ item.ready ∷ []) (h.readies.are x) ∙ sym (map-append (λ (w : ReadyItem). w.ready) (g.readies x) (item ∷ []))
       ∙ ap readies_of (sym here_readies)
     where
       at_here : (later.cq x).ready ≡ (k.cq x).ready ++ item.ready ∷ []
       at_here = rw (eq-eqb x x refl) refl
 
   ready_elsewhere : (y : ℕ) → y ≢ x → (k.cq y).ready ≡ readies_of (left.readies y)
-  ready_elsewhere y other = h.ready_is y ∙ ap readies_of (elsewhere y other)
+  ready_elsewhere y other = h.readies.are y ∙ ap readies_of (elsewhere y other)
 
   -- ---- what the device has
   apart_before : AreApart (tags_of before ++ it.tag ∷ tags_of after)
-  apart_before = subst AreApart (ap tags_of are ∙ map-append (λ (y : Item). y.tag) before (it ∷ after)) h.outs_apart
+  apart_before = subst AreApart (ap tags_of are ∙ map-append (λ (y : Item). y.tag) before (it ∷ after)) h.outs.apart
 
   outs_other : All (λ (y : Item). y.tag ≢ it.tag) (before ++ after)
   outs_other = All-unmap (λ (z : ℕ). z ≢ it.tag) (λ (y : Item). y.tag) (before ++ after)
@@ -246,7 +246,7 @@ module _ (rules : FrontRules) (late : Bool) (notes : Notes) (c : Controller) (sl
   outs_left y state = elim (cases_eq y it.tag) [
     | inl same ↦ absurd (omega (arith, state, ap (λ (z : ℕ). (slot_at new z).state) same, ap (λ (z : Slot). z.state) now))
     | inr other ↦
-        let at = h.outs_all y (sym (ap (λ (z : Slot). z.state) (others y other)) ∙ state) in
+        let at = h.outs.all y (sym (ap (λ (z : Slot). z.state) (others y other)) ∙ state) in
         subst (IsAmongOuts (before ++ after)) at.tag
         (among_others before it after at.before at.item at.after (sym are ∙ at.are) (λ e. other (sym at.tag ∙ e)))
   ]
@@ -260,30 +260,38 @@ module _ (rules : FrontRules) (late : Bool) (notes : Notes) (c : Controller) (sl
   -- ---- all of it
   pub answer-items : HasItems (answered_controller c cqid chain) new later left
   answer-items = record {
-    window_chain = window_left;
-    window_items = λ q r is. all_waiting_stay slots new it.tag size others q r (g.windows r) (λ e. omega (arith, out.state, e)) (h.window_items q r is);
-    window_none = h.window_none;
-    window_is = h.window_is;
-    picked_there = h.picked_there;
-    outs_items = All-both (IsOutIn k.sq_id slots) (λ (y : Item). y.tag ≢ it.tag) (IsOutIn k.sq_id new) (λ y is_out_in other. out_stays slots new it.tag size others k.sq_id y other is_out_in)
-        (before ++ after) others_are outs_other;
-    outs_apart = subst AreApart (sym (map-append (λ (y : Item). y.tag) before after)) (AreApart-others (tags_of before) it.tag (tags_of after) apart_before);
-    outs_all = outs_left;
-    hand_is = sym (map-append (λ (y : Item). y.place) before (after ++ untaken c k g)) ∙ ap places_of (sym hand_left);
-    ready_chain = put_cq-lives (λ q y state content ws. IsChain new state.ready (ready_tags ws)) k.cq_life k.cq_id n.cq_ids c.cqs k.cq g.readies cqid x (answered_cq c cqid chain)
-        (k.cq x) (g.readies x ++ item ∷ []) cq_life there
-        (subst (IsChain new chain) (sym (map-append (λ (w : ReadyItem). w.tag) (g.readies x) (item ∷ []))) here_ready)
-        (λ q y another other is. other_ready q y is other);
-    ready_items = at_put (λ y ws. All (IsReadyIn k.sq_id new) ws) g.readies x (g.readies x ++ item ∷ []) (All-push (IsReadyIn k.sq_id new) (g.readies x) item (ready_left x) item_ready) (λ y other. ready_left y);
-    ready_none = at_put (λ y ws. k.cq_id y ≡ None → ws ≡ []) g.readies x (g.readies x ++ item ∷ [])
-        (λ none. absurd (let id = n.cq_ids.ids_are cqid x cq_life in cc (none, id))) (λ y other. h.ready_none y);
-    ready_is = λ y. elim (cases_eq y x) [
-      | inl same ↦ subst (λ (z : ℕ). (later.cq z).ready ≡ readies_of (left.readies z)) (sym same) ready_here
-      | inr other ↦ ready_at y other ∙ ready_elsewhere y other
-    ];
-    deletions = deletions_stay c.deletions c.pending_deletions slots new k.sq_life k.deletion g.deletes it.tag size others deletes_other h.deletions;
-    free_chain = free_left;
-    free_items = all_free_stay slots new it.tag size others g.free (λ e. omega (arith, out.state, e)) h.free_items;
+    windows = record {
+      chain = window_left;
+      items = λ q r is. all_waiting_stay slots new it.tag size others q r (g.windows r) (λ e. omega (arith, out.state, e)) (h.windows.items q r is);
+      none = h.windows.none;
+      are = h.windows.are;
+      picked_there = h.windows.picked_there;
+    };
+    outs = record {
+      items = All-both (IsOutIn k.sq_id slots) (λ (y : Item). y.tag ≢ it.tag) (IsOutIn k.sq_id new) (λ y is_out_in other. out_stays slots new it.tag size others k.sq_id y other is_out_in)
+          (before ++ after) others_are outs_other;
+      apart = subst AreApart (sym (map-append (λ (y : Item). y.tag) before after)) (AreApart-others (tags_of before) it.tag (tags_of after) apart_before);
+      all = outs_left;
+      hand_is = sym (map-append (λ (y : Item). y.place) before (after ++ untaken c k g)) ∙ ap places_of (sym hand_left);
+    };
+    readies = record {
+      chain = put_cq-lives (λ q y state content ws. IsChain new state.ready (ready_tags ws)) k.cq_life k.cq_id n.cqs.ids c.cqs k.cq g.readies cqid x (answered_cq c cqid chain)
+          (k.cq x) (g.readies x ++ item ∷ []) cq_life there
+          (subst (IsChain new chain) (sym (map-append (λ (w : ReadyItem). w.tag) (g.readies x) (item ∷ []))) here_ready)
+          (λ q y another other is. other_ready q y is other);
+      items = at_put (λ y ws. All (IsReadyIn k.sq_id new) ws) g.readies x (g.readies x ++ item ∷ []) (All-push (IsReadyIn k.sq_id new) (g.readies x) item (ready_left x) item_ready) (λ y other. ready_left y);
+      none = at_put (λ y ws. k.cq_id y ≡ None → ws ≡ []) g.readies x (g.readies x ++ item ∷ [])
+          (λ none. absurd (let id = n.cqs.ids.ids_are cqid x cq_life in cc (none, id))) (λ y other. h.readies.none y);
+      are = λ y. elim (cases_eq y x) [
+        | inl same ↦ subst (λ (z : ℕ). (later.cq z).ready ≡ readies_of (left.readies z)) (sym same) ready_here
+        | inr other ↦ ready_at y other ∙ ready_elsewhere y other
+      ];
+    };
+    deletions = deletions_stay c.sqs c.pending_deletions slots new k.sq_life k.deletion g.deletes it.tag size others deletes_other h.deletions;
+    free = record {
+      chain = free_left;
+      items = all_free_stay slots new it.tag size others g.free (λ e. omega (arith, out.state, e)) h.free.items;
+    };
     few = subst (λ (m : ℕ). m < 2 ^ 16) (sym size) h.few;
   }
     where
@@ -299,19 +307,7 @@ module _ (rules : FrontRules) (late : Bool) (notes : Notes) (c : Controller) (sl
   phase_left q = put_cq-states (λ y state. state.phase ≡ (cq_at c.cqs y).phase) c.cqs cqid (answered_cq c cqid chain) there refl q (λ other. refl)
 
   sq_left : (q r : ℕ) → IsSqOf c k q r → IsSqOf (answered_controller c cqid chain) later q r
-  sq_left q r a = record {
-    entry = a.entry;
-    in_table = a.in_table;
-    on = a.on;
-    to = a.to;
-    cq_region = a.cq_region;
-    cq_open = a.cq_open;
-    opened = a.opened;
-    held = a.held;
-    unposted = a.unposted;
-    slots = a.slots;
-    some = a.some;
-  }
+  sq_left q r a = a
 
   cq_left : (q y : ℕ) → IsCqOf c k q y → IsCqOf (answered_controller c cqid chain) later q y
   cq_left q y a = record {
@@ -325,19 +321,23 @@ module _ (rules : FrontRules) (late : Bool) (notes : Notes) (c : Controller) (sl
     board_is = n.board_is;
     is_arbiter = n.is_arbiter;
     outstanding_is = n.outstanding_is;
-    sq_ids = n.sq_ids;
-    cq_ids = n.cq_ids;
-    sqs = λ q r is. sq_left q r (n.sqs q r is);
-    cqs = λ q y is. cq_left q y (n.cqs q y is);
-    few_sqs = n.few_sqs;
-    few_cqs = n.few_cqs;
-    no_sqs = n.no_sqs;
-    no_cqs = λ q none. put_cq-states (λ y state. k.cq_life y ≡ None → state ≡ no_cq_state) c.cqs cqid (answered_cq c cqid chain) there
-        (λ closed. absurd (cc (closed, cq_life))) q (λ other. n.no_cqs q) none;
-    sq_size = n.sq_size;
-    cq_size = length-set c.cqs cqid (answered_cq c cqid chain) ∙ n.cq_size;
-    rung = n.rung;
-    readied = readied-put c.readied cqid true c.cqs (answered_cq c cqid chain) there n.readied (λ no. absurd (cc no));
+    sqs = record {
+      ids = n.sqs.ids;
+      each = λ q r is. sq_left q r (n.sqs.each q r is);
+      few = n.sqs.few;
+      none = n.sqs.none;
+      size = n.sqs.size;
+      rung = n.sqs.rung;
+    };
+    cqs = record {
+      ids = n.cqs.ids;
+      each = λ q y is. cq_left q y (n.cqs.each q y is);
+      few = n.cqs.few;
+      none = λ q none. put_cq-states (λ y state. k.cq_life y ≡ None → state ≡ no_cq_state) c.cqs cqid (answered_cq c cqid chain) there
+          (λ closed. absurd (cc (closed, cq_life))) q (λ other. n.cqs.none q) none;
+      size = length-set c.cqs cqid (answered_cq c cqid chain) ∙ n.cqs.size;
+      readied = readied-put c.readied cqid true c.cqs (answered_cq c cqid chain) there n.cqs.readied (λ no. absurd (cc no));
+    };
   }
 
   -- the notes afterwards
@@ -347,22 +347,23 @@ module _ (rules : FrontRules) (late : Bool) (notes : Notes) (c : Controller) (sl
   pub answer-doorbells : HoldsDoorbells rules notes c k → HoldsDoorbells rules told (answered_controller c cqid chain) later
   answer-doorbells d = record {
     sqs = d.sqs;
-    cqs = λ q y is. subst (λ (r : Ring). HasCounts r (consumed rules notes y) (length (posted_to (logged notes) y))) (sym (ring_left q)) (d.cqs q y is);
-    phases = λ q y is. ap (λ (m : ℕ). m == 1) (phase_left q) ∙ d.phases q y is
-        ∙ ap (λ (r : Ring). phase_after (length (posted_to (logged notes) y)) r.slots) (sym (ring_left q));
-    no_tails = d.no_tails;
-    no_heads = d.no_heads;
-    no_posts = d.no_posts;
+    cqs = record {
+      each = λ q y is. subst (λ (r : Ring). HasCounts r (consumed rules notes y) (length (posted_to (logged notes) y))) (sym (ring_left q)) (d.cqs.each q y is);
+      phases = λ q y is. ap (λ (m : ℕ). m == 1) (phase_left q) ∙ d.cqs.phases q y is
+          ∙ ap (λ (r : Ring). phase_after (length (posted_to (logged notes) y)) r.slots) (sym (ring_left q));
+      no_heads = d.cqs.no_heads;
+      no_posts = d.cqs.no_posts;
+    };
   }
 
   -- ---- the log
   held : holder notes it.tag ≡ Some it.place
   held = (All-taken (λ (y : Item). holder notes y.tag ≡ Some y.place) before it after
-      (All-same (λ (y : Item). holder notes y.tag ≡ Some y.place) (before ++ it ∷ after) g.outs (sym are) t.outs_held)).0
+      (All-same (λ (y : Item). holder notes y.tag ≡ Some y.place) (before ++ it ∷ after) g.outs (sym are) t.held.outs)).0
 
   unanswered : IsUnanswered notes it.place
   unanswered = (All-taken (λ (y : Item). IsUnanswered notes y.place) before it after
-      (All-same (λ (y : Item). IsUnanswered notes y.place) (before ++ it ∷ after) g.outs (sym are) t.outs_unanswered)).0
+      (All-same (λ (y : Item). IsUnanswered notes y.place) (before ++ it ∷ after) g.outs (sym are) t.unanswered.outs)).0
 
   -- it has the answer now
   has_answer : answer_of (Answered it.place.region it.place.index answer ∷ notes) it.place.region it.place.index ≡ Some answer
@@ -393,7 +394,7 @@ module _ (rules : FrontRules) (late : Bool) (notes : Notes) (c : Controller) (sl
   not_out_now y state = elim (cases_eq y it.tag) [
     | inl same ↦ subst (λ (z : ℕ). is_out (Answered it.place.region it.place.index answer ∷ notes) z ≡ false) (sym same)
         (ap (is_unanswered (Answered it.place.region it.place.index answer ∷ notes)) held ∙ ap (λ (o : Option Answer). is_none o) has_answer)
-    | inr other ↦ still_not_out-answered it.place.region it.place.index answer notes y (t.answered_held y (sym (ap (λ (z : Slot). z.state) (others y other)) ∙ state))
+    | inr other ↦ still_not_out-answered it.place.region it.place.index answer notes y (t.held.answered y (sym (ap (λ (z : Slot). z.state) (others y other)) ∙ state))
   ]
 
   none_held_now : (y : ℕ) → (slot_at new y).state ≢ 2 → (slot_at new y).state ≢ 3 → holder notes y ≡ None
@@ -401,7 +402,7 @@ module _ (rules : FrontRules) (late : Bool) (notes : Notes) (c : Controller) (sl
     | inl same ↦ absurd (not_answered (ap (λ (z : ℕ). (slot_at new z).state) same ∙ ap (λ (z : Slot). z.state) now))
     | inr other ↦
         let state : (slot_at new y).state ≡ (slot_at slots y).state = ap (λ (z : Slot). z.state) (others y other) in
-        t.none_held y (λ e. not_out (state ∙ e)) (λ e. not_answered (state ∙ e))
+        t.held.none y (λ e. not_out (state ∙ e)) (λ e. not_answered (state ∙ e))
   ]
 
   -- it is a command of the device's
@@ -431,40 +432,36 @@ module _ (rules : FrontRules) (late : Bool) (notes : Notes) (c : Controller) (sl
   none_flagged_now r i = by (it.place.region == r && it.place.index == i) where
     by : (b : Bool) → (if b then Some answer else answer_of notes r i) ≡ None → (if b then Some flags else flags_of notes r i) ≡ None
     by true lost = absurd (cc lost)
-    by false is = t.none_flagged r i is
+    by false is = t.flagged.none r i is
 
   pub answer-tags : HoldsTags told (answered_controller c cqid chain) new later left
   answer-tags = record {
     untaken_are = t.untaken_are;
-    outs_held = (All-taken (λ (y : Item). holder notes y.tag ≡ Some y.place) before it after
-        (All-same (λ (y : Item). holder notes y.tag ≡ Some y.place) (before ++ it ∷ after) g.outs (sym are) t.outs_held)).1;
-    readies_held = at_put (λ y ws. All (λ (w : ReadyItem). w.was_out ≡ true → holder notes w.tag ≡ Some w.ready.place) ws) g.readies x (g.readies x ++ item ∷ [])
-        (All-push (λ (w : ReadyItem). w.was_out ≡ true → holder notes w.tag ≡ Some w.ready.place) (g.readies x) item (t.readies_held x) (λ e. held))
-        (λ y other. t.readies_held y);
-    none_held = none_held_now;
+    held = record {
+      outs = (All-taken (λ (y : Item). holder notes y.tag ≡ Some y.place) before it after
+          (All-same (λ (y : Item). holder notes y.tag ≡ Some y.place) (before ++ it ∷ after) g.outs (sym are) t.held.outs)).1;
+      readies = at_put (λ y ws. All (λ (w : ReadyItem). w.was_out ≡ true → holder notes w.tag ≡ Some w.ready.place) ws) g.readies x (g.readies x ++ item ∷ [])
+          (All-push (λ (w : ReadyItem). w.was_out ≡ true → holder notes w.tag ≡ Some w.ready.place) (g.readies x) item (t.held.readies x) (λ e. held))
+          (λ y other. t.held.readies y);
+      none = none_held_now;
+      answered = λ y state. still_not_out-flagged it.place.region it.place.index flags (Answered it.place.region it.place.index answer ∷ notes) y (not_out_now y state);
+    };
     through = at_put (λ y ws. All (λ (w : ReadyItem). IsThrough (Answered it.place.region it.place.index answer ∷ notes) w.ready) ws) g.readies x (g.readies x ++ item ∷ [])
         (All-push (λ (w : ReadyItem). IsThrough (Answered it.place.region it.place.index answer ∷ notes) w.ready) (g.readies x) item (all_through (g.readies x) (t.through x)) (inr has_answer))
         (λ y other. all_through (g.readies y) (t.through y));
-    windows_unanswered = λ r. all_unanswered (g.windows r) (others_in_windows rules late notes c slots k g s n h t before it after are answer r) (t.windows_unanswered r);
-    outs_unanswered = all_unanswered (before ++ after) (others_out rules late notes c slots k g s n h t before it after are answer)
-        (All-taken (λ (y : Item). IsUnanswered notes y.place) before it after
-        (All-same (λ (y : Item). IsUnanswered notes y.place) (before ++ it ∷ after) g.outs (sym are) t.outs_unanswered)).1;
-    deletes_unanswered = λ r d at. ap (λ (b : Bool). if b then Some answer else answer_of notes 0 d.index) (not_deletion r d at) ∙ t.deletes_unanswered r d at;
-    none_answered = λ r i past_all. answer_left (place_at r i) (is_other it.place.region it.place.index (place_at r i) (λ same_region same_index.
-        let was = was_fetched rules late notes c slots k g s n h t before it after are answer in
-        omega (arith, was, same_index, ap (λ (z : ℕ). length (fetched (logged notes) z)) same_region, past_all))) ∙ t.none_answered r i past_all;
-    answered_held = λ y state. still_not_out-flagged it.place.region it.place.index flags (Answered it.place.region it.place.index answer ∷ notes) y (not_out_now y state);
+    unanswered = record {
+      windows = λ r. all_unanswered (g.windows r) (others_in_windows rules late notes c slots k g s n h t before it after are answer r) (t.unanswered.windows r);
+      outs = all_unanswered (before ++ after) (others_out rules late notes c slots k g s n h t before it after are answer)
+          (All-taken (λ (y : Item). IsUnanswered notes y.place) before it after
+          (All-same (λ (y : Item). IsUnanswered notes y.place) (before ++ it ∷ after) g.outs (sym are) t.unanswered.outs)).1;
+      deletes = λ r d at. ap (λ (b : Bool). if b then Some answer else answer_of notes 0 d.index) (not_deletion r d at) ∙ t.unanswered.deletes r d at;
+      none = λ r i past_all. answer_left (place_at r i) (is_other it.place.region it.place.index (place_at r i) (λ same_region same_index.
+          let was = was_fetched rules late notes c slots k g s n h t before it after are answer in
+          omega (arith, was, same_index, ap (λ (z : ℕ). length (fetched (logged notes) z)) same_region, past_all))) ∙ t.unanswered.none r i past_all;
+    };
     hand_entries = All-same (HasEntry (logged notes)) (before ++ after ++ untaken c k g) (before ++ (after ++ untaken c k g)) hand_left
         (has_entries rules late notes c slots k g s n h t before it after are answer).1;
     free_count = t.free_count ∙ ap (λ (m : ℕ). m + all_posts (logged notes)) (sym size);
-    passed = record {
-      all_handed = t.passed.all_handed;
-      served = t.passed.served;
-      readies = at_put (λ y ws. All (IsReadyOf (Answered it.place.region it.place.index answer ∷ notes)) ws) g.readies x (g.readies x ++ item ∷ [])
-          (All-push (IsReadyOf (Answered it.place.region it.place.index answer ∷ notes)) (g.readies x) item (t.passed.readies x) (devices_passed notes it.place devices))
-          (λ y other. t.passed.readies y);
-      deletes = t.passed.deletes;
-    };
     cookies = record {
       windows = λ r. items_left notes slots new same (g.windows r) (t.cookies.windows r);
       outs = items_left notes slots new same (before ++ after) cookies.1;
@@ -474,10 +471,20 @@ module _ (rules : FrontRules) (late : Bool) (notes : Notes) (c : Controller) (sl
       deletes = λ r d at. cookie_left notes slots new same d.tag (place_at 0 d.index) (t.cookies.deletes r d at);
       none = t.cookies.none;
     };
-    none_flagged = none_flagged_now;
-    flags = at_put (λ y ws. All (HasFlags told) ws) g.readies x (g.readies x ++ item ∷ [])
-        (All-push (HasFlags told) (g.readies x) item (all_flags (g.readies x) (t.through x) (t.flags x)) item_flags)
-        (λ y other. all_flags (g.readies y) (t.through y) (t.flags y));
+    passed = record {
+      all_handed = t.passed.all_handed;
+      served = t.passed.served;
+      readies = at_put (λ y ws. All (IsReadyOf (Answered it.place.region it.place.index answer ∷ notes)) ws) g.readies x (g.readies x ++ item ∷ [])
+          (All-push (IsReadyOf (Answered it.place.region it.place.index answer ∷ notes)) (g.readies x) item (t.passed.readies x) (devices_passed notes it.place devices))
+          (λ y other. t.passed.readies y);
+      deletes = t.passed.deletes;
+    };
+    flagged = record {
+      none = none_flagged_now;
+      readies = at_put (λ y ws. All (HasFlags told) ws) g.readies x (g.readies x ++ item ∷ [])
+          (All-push (HasFlags told) (g.readies x) item (all_flags (g.readies x) (t.through x) (t.flagged.readies x)) item_flags)
+          (λ y other. all_flags (g.readies y) (t.through y) (t.flagged.readies y));
+    };
   } where
     not_deletion : (r : ℕ) (d : DeleteItem) → g.deletes r ≡ Some d → (it.place.region == 0 && it.place.index == d.index) ≡ false
     not_deletion r d at = by (it.place.region == 0) (it.place.index == d.index) refl refl where
@@ -505,7 +512,7 @@ module _ (rules : FrontRules) (late : Bool) (notes : Notes) (c : Controller) (sl
 
   is_flagged : IsFlagged (Answered it.place.region it.place.index answer ∷ notes) it.place.region it.place.index
   is_flagged = record {
-    first = t.none_flagged it.place.region it.place.index unanswered;
+    first = t.flagged.none it.place.region it.place.index unanswered;
     answered = rw has_answer refl;
     by_device = record { tag = it.tag; stands = held };
   }
@@ -548,7 +555,7 @@ pub answer-stands : (rules : FrontRules) (late : Bool) (notes : Notes) (c : Cont
     → IsPushed (answered_pool slots tag answer flags) (cq_at c.cqs q).ready tag new chain
     → HasAnswered rules late notes tag answer flags (answered_controller c q chain) new
 answer-stands rules late notes c slots s tag state answer flags types new chain q goes =
-    let at = s.has.outs_all tag state in
+    let at = s.has.outs.all tag state in
     subst (λ (z : ℕ). IsPushed (answered_pool slots tag answer flags) (cq_at c.cqs z).ready tag new chain
     → HasAnswered rules late notes tag answer flags (answered_controller c z chain) new) goes
     (subst (λ (y : ℕ). IsPushed (answered_pool slots y answer flags) (cq_at c.cqs (sq_at c.sqs (slot_at slots y).sqid).cqid).ready y new chain
@@ -560,11 +567,11 @@ answer-stands rules late notes c slots s tag state answer flags types new chain 
 pub out_is_out : (rules : FrontRules) (late : Bool) (notes : Notes) (c : Controller) (slots : List Slot) → StandsAt rules late notes c slots
     → (tag : ℕ) → (slot_at slots tag).state ≡ 2 → is_out notes tag ≡ true
 out_is_out rules late notes c slots s tag state =
-    let at = s.has.outs_all tag state in
+    let at = s.has.outs.all tag state in
     let held = (All-taken (λ (y : Item). holder notes y.tag ≡ Some y.place) at.before at.item at.after
-    (All-same (λ (y : Item). holder notes y.tag ≡ Some y.place) (at.before ++ at.item ∷ at.after) s.items.outs (sym at.are) s.tags.outs_held)).0 in
+    (All-same (λ (y : Item). holder notes y.tag ≡ Some y.place) (at.before ++ at.item ∷ at.after) s.items.outs (sym at.are) s.tags.held.outs)).0 in
     let none = (All-taken (λ (y : Item). IsUnanswered notes y.place) at.before at.item at.after
-    (All-same (λ (y : Item). IsUnanswered notes y.place) (at.before ++ at.item ∷ at.after) s.items.outs (sym at.are) s.tags.outs_unanswered)).0 in
+    (All-same (λ (y : Item). IsUnanswered notes y.place) (at.before ++ at.item ∷ at.after) s.items.outs (sym at.are) s.tags.unanswered.outs)).0 in
     subst (λ (y : ℕ). is_out notes y ≡ true) at.tag
     (ap (is_unanswered notes) held ∙ ap (λ (o : Option Answer). is_none o) none)
 
@@ -572,6 +579,6 @@ out_is_out rules late notes c slots s tag state =
 pub other_is_not_out : (rules : FrontRules) (late : Bool) (notes : Notes) (c : Controller) (slots : List Slot) → StandsAt rules late notes c slots
     → (tag : ℕ) → (slot_at slots tag).state ≢ 2 → is_out notes tag ≡ false
 other_is_not_out rules late notes c slots s tag other = elim (cases_eq (slot_at slots tag).state 3) [
-  | inl answered_one ↦ s.tags.answered_held tag answered_one
-  | inr neither ↦ ap (is_unanswered notes) (s.tags.none_held tag other neither)
+  | inl answered_one ↦ s.tags.held.answered tag answered_one
+  | inr neither ↦ ap (is_unanswered notes) (s.tags.held.none tag other neither)
 ]

@@ -58,7 +58,7 @@ module _ (rules : FrontRules) (late : Bool) (notes : Notes) (c : Controller) (sl
   whole = ap (λ (its : List Item). its ++ untaken c k g) are ∙ append_assoc before (it ∷ after) (untaken c k g)
 
   in_hand : k.hand ≡ places_of before ++ it.place ∷ places_of behind
-  in_hand = h.hand_is ∙ ap places_of whole ∙ map-append (λ (y : Item). y.place) before (it ∷ behind)
+  in_hand = h.outs.hand_is ∙ ap places_of whole ∙ map-append (λ (y : Item). y.place) before (it ∷ behind)
 
   pub at_hand : IsInHand (logged notes) it.place
   at_hand = (All-taken (IsInHand (logged notes)) (places_of before) it.place (places_of behind)
@@ -70,17 +70,17 @@ module _ (rules : FrontRules) (late : Bool) (notes : Notes) (c : Controller) (sl
 
   -- its slot
   pub has_it : IsOutIn k.sq_id slots it
-  has_it = (All-taken (IsOutIn k.sq_id slots) before it after (All-same (IsOutIn k.sq_id slots) (before ++ it ∷ after) g.outs (sym are) h.outs_items)).0
+  has_it = (All-taken (IsOutIn k.sq_id slots) before it after (All-same (IsOutIn k.sq_id slots) (before ++ it ∷ after) g.outs (sym are) h.outs.items)).0
 
   -- its queue, and the completion region of that
   abbrev pub sqid : ℕ
   sqid = (slot_at slots it.tag).sqid
 
   life : k.sq_life sqid ≡ Some it.place.region
-  life = n.sq_ids.lives_are it.place.region sqid has_it.queue
+  life = n.sqs.ids.lives_are it.place.region sqid has_it.queue
 
   pub queue_is : IsSqOf c k sqid it.place.region
-  queue_is = n.sqs sqid it.place.region life
+  queue_is = n.sqs.each sqid it.place.region life
 
   abbrev pub goes_to : ℕ
   goes_to = queue_is.cq_region
@@ -145,15 +145,15 @@ module _ (rules : FrontRules) (late : Bool) (notes : Notes) (c : Controller) (sl
       (λ y waits waiting. waiting_is_other r y waits waiting.place) (drop (picked_in c q) (g.windows r))
       (All-unmap (λ (d : Candidate). is_waiting (fate_of (logged notes) r d.index) ≡ true) candidate_of (drop (picked_in c q) (g.windows r))
       (All-same (λ (d : Candidate). is_waiting (fate_of (logged notes) r d.index) ≡ true) (map candidate_of (drop (picked_in c q) (g.windows r))) (k.sq r).window
-      (sym (h.window_is r ∙ ap (λ (o : Option ℕ). map candidate_of (drop (picked_of c o) (g.windows r))) id)) (candidates_wait (logged notes) r (k.sq r) (s.regions r))))
-      (All-drop (IsWaitingIn slots q r) (picked_in c q) (g.windows r) (h.window_items q r (n.sq_ids.lives_are r q id)))
+      (sym (h.windows.are r ∙ ap (λ (o : Option ℕ). map candidate_of (drop (picked_of c o) (g.windows r))) id)) (candidates_wait (logged notes) r (k.sq r) (s.regions r))))
+      (All-drop (IsWaitingIn slots q r) (picked_in c q) (g.windows r) (h.windows.items q r (n.sqs.ids.lives_are r q id)))
 
   -- those that are picked and not taken
   others_picked : (q r : ℕ) → k.sq_id r ≡ Some q → All (λ (y : Item). IsOther it.place.region it.place.index y.place) (take (picked_in c q) (g.windows r))
   others_picked q r id = elim (cases_eq q c.picked_qid) [
     | inl same ↦
         let number : picked_in c q ≡ c.picked = rw (eq-eqb q c.picked_qid same) refl in
-        let region : picked_region c k ≡ r = ap (λ (p : ℕ). unwrap_or (k.sq_life p) 0) (sym same) ∙ ap (λ (o : Option ℕ). unwrap_or o 0) (n.sq_ids.lives_are r q id) in
+        let region : picked_region c k ≡ r = ap (λ (p : ℕ). unwrap_or (k.sq_life p) 0) (sym same) ∙ ap (λ (o : Option ℕ). unwrap_or o 0) (n.sqs.ids.lives_are r q id) in
         subst (λ (m : ℕ). All (λ (y : Item). IsOther it.place.region it.place.index y.place) (take m (g.windows r))) (sym number)
         (subst (λ (z : ℕ). All (λ (y : Item). IsOther it.place.region it.place.index y.place) (take c.picked (g.windows z))) region parts.1)
     | inr other ↦
@@ -166,7 +166,7 @@ module _ (rules : FrontRules) (late : Bool) (notes : Notes) (c : Controller) (sl
   pub others_in_windows : (r : ℕ) → All (λ (y : Item). IsOther it.place.region it.place.index y.place) (g.windows r)
   others_in_windows r = by (k.sq_id r) refl where
     by : (o : Option ℕ) → k.sq_id r ≡ o → All (λ (y : Item). IsOther it.place.region it.place.index y.place) (g.windows r)
-    by None id = All-same (λ (y : Item). IsOther it.place.region it.place.index y.place) (g.windows r) [] (h.window_none r id)
+    by None id = All-same (λ (y : Item). IsOther it.place.region it.place.index y.place) (g.windows r) [] (h.windows.none r id)
         (All-nil (λ (y : Item). IsOther it.place.region it.place.index y.place))
     by (Some q) id = All-same (λ (y : Item). IsOther it.place.region it.place.index y.place) (g.windows r)
         (take (picked_in c q) (g.windows r) ++ drop (picked_in c q) (g.windows r)) (sym (take-append-drop (picked_in c q) (g.windows r)))

@@ -80,7 +80,7 @@ module _ (rules : FrontRules) (late : Bool) (notes : Notes) (a : Controller) (sl
   no_region : (o : Option ℕ) → h.before.sq_id region ≡ o → o ≡ None
   no_region None is = refl
   no_region (Some q) is =
-      absurd (unused_unnamed rules late (logged notes) h.before h.holds region may.unused region q (h.holds.lives.named q region (h.keeps.numbers.sq_ids.lives_are region q is)) refl)
+      absurd (unused_unnamed rules late (logged notes) h.before h.holds region may.unused region q (h.holds.lives.named q region (h.keeps.numbers.sqs.ids.lives_are region q is)) refl)
 
   -- nor is one deleted
   no_deletion : (o : Option PendingDelete) → h.before.deletion region ≡ o → o ≡ None
@@ -148,7 +148,7 @@ module _ (rules : FrontRules) (late : Bool) (notes : Notes) (a : Controller) (sl
   no_cq_region : (o : Option ℕ) → h.before.cq_id region ≡ o → o ≡ None
   no_cq_region None is = refl
   no_cq_region (Some q) is =
-      absurd (true≢false (sym (opened_was (logged notes) region q (sym (h.holds.lives.cqs q) ∙ h.keeps.numbers.cq_ids.lives_are region q is)) ∙ fresh))
+      absurd (true≢false (sym (opened_was (logged notes) region q (sym (h.holds.lives.cqs q) ∙ h.keeps.numbers.cqs.ids.lives_are region q is)) ∙ fresh))
 
   -- the slots that it asks for
   asked_there : HasAsked (cq_regions_of rules) region (admin_command_of h.candidate.entry)
@@ -203,12 +203,12 @@ module _ (rules : FrontRules) (late : Bool) (notes : Notes) (a : Controller) (sl
   -- so none posts to its region
   none_posts : (q r : ℕ) → h.before.sq_life q ≡ Some r → cq_region_of (logged notes) r ≢ Some closes_region
   none_posts q r is to =
-      let w : IsSqOf a then q r = h.keeps.numbers.sqs q r is in
+      let w : IsSqOf a then q r = h.keeps.numbers.sqs.each q r is in
       let opened : (h.before.sq r).queue ≡ Some (record { qid = q; cq_region = w.cq_region }) = sym (put-queue h.before.sq 0 (picked_sq (h.before.sq 0) 1) refl r) ∙ w.opened in
       let there : cq_region_of (logged notes) r ≡ Some w.cq_region = h.holds.queues.cq_region_is r ∙ ap (option_map (λ (x : Attachment). x.cq_region)) opened in
       let same : w.cq_region ≡ closes_region = same_Some w.cq_region closes_region (sym there ∙ to) in
-      let one = h.keeps.numbers.cq_ids.ids_are _ w.cq_region w.cq_open in
-      let two = h.keeps.numbers.cq_ids.ids_are qid closes_region closes_open in
+      let one = h.keeps.numbers.cqs.ids.ids_are _ w.cq_region w.cq_open in
+      let two = h.keeps.numbers.cqs.ids.ids_are qid closes_region closes_open in
       closes_unattached.none q w.entry w.in_table (w.to ∙ same_Some _ qid (sym one ∙ ap h.before.cq_id same ∙ two))
 
   -- and nothing is ready in it
@@ -216,4 +216,4 @@ module _ (rules : FrontRules) (late : Bool) (notes : Notes) (a : Controller) (sl
   closes_ready =
       let none : (h.before.cq closes_region).ready ≡ [] = none_ready_unattached rules late (logged notes) h.before h.holds closes_region none_posts in
       nil_from_length (h.items.readies closes_region)
-      (sym (length-map (h.items.readies closes_region) (λ (x : ReadyItem). x.ready)) ∙ ap (λ (ts : List Ready). length ts) (sym (h.keeps.has.ready_is closes_region) ∙ none))
+      (sym (length-map (h.items.readies closes_region) (λ (x : ReadyItem). x.ready)) ∙ ap (λ (ts : List Ready). length ts) (sym (h.keeps.has.readies.are closes_region) ∙ none))

@@ -194,7 +194,7 @@ module _ (rules : FrontRules) (late : Bool) (notes : Notes) (a : Controller) (sl
 
   -- the device doesn't mark its completion
   pub unflagged : flags_of made_notes 0 h.candidate.index ≡ None
-  unflagged = keeps_made.tags.none_flagged 0 h.candidate.index unanswered
+  unflagged = keeps_made.tags.flagged.none 0 h.candidate.index unanswered
 
   -- what the command leaves holds there
   pub holds_made : (c : ℕ) (board : BoardView) → IsChosen rules (logged notes) h.before c h.picked board v
@@ -321,10 +321,10 @@ module _ (rules : FrontRules) (late : Bool) (notes : Notes) (a : Controller) (sl
 
     -- those of the queue of another region, where there is one
     other_window : (r : ℕ) → (r ≡ 0 → ⊥) → (id : Option ℕ) → h.before.sq_id r ≡ id → All (λ (it : Item). IsOther h.candidate.index it.place) (h.items.windows r)
-    other_window r other None none = subst (All (λ (it : Item). IsOther h.candidate.index it.place)) (sym (h.keeps.has.window_none r none)) (All-nil (λ (it : Item). IsOther h.candidate.index it.place))
+    other_window r other None none = subst (All (λ (it : Item). IsOther h.candidate.index it.place)) (sym (h.keeps.has.windows.none r none)) (All-nil (λ (it : Item). IsOther h.candidate.index it.place))
     other_window r other (Some q) id =
         All-weaker (IsWaitingIn slots q r) (λ (it : Item). IsOther h.candidate.index it.place) (λ it w. region_apart it.place (λ e. other (sym w.place ∙ e))) (h.items.windows r)
-        (h.keeps.has.window_items q r (h.keeps.numbers.sq_ids.lives_are r q id))
+        (h.keeps.has.windows.items q r (h.keeps.numbers.sqs.ids.lives_are r q id))
 
     later : All (λ (c : Candidate). h.candidate.index < c.index) h.rest
     later = first_pairs (λ (x y : Candidate). x.index < y.index) h.candidate h.rest
@@ -333,7 +333,7 @@ module _ (rules : FrontRules) (late : Bool) (notes : Notes) (a : Controller) (sl
     rest_is : map candidate_of (h.items.windows 0) ≡ h.rest
     rest_is =
         ap (λ (n : ℕ). map candidate_of (drop n (h.items.windows 0))) (sym (none_picked_of a (h.before.sq_id 0) h.none_picked))
-        ∙ sym (h.keeps.has.window_is 0) ∙ ap (λ (cs : List Candidate). drop 1 cs) h.can_apply.oldest
+        ∙ sym (h.keeps.has.windows.are 0) ∙ ap (λ (cs : List Candidate). drop 1 cs) h.can_apply.oldest
 
   outs_other : All (λ (it : Item). IsOther h.candidate.index it.place) h.items.outs
   outs_other =
@@ -345,7 +345,7 @@ module _ (rules : FrontRules) (late : Bool) (notes : Notes) (a : Controller) (sl
   -- the Delete of a deletion that is pending was picked before
   deletes_other : (r : ℕ) (it : DeleteItem) → h.items.deletes r ≡ Some it → IsOther h.candidate.index (place_at 0 it.index)
   deletes_other r it at = false_from_ne_true (0 == 0 && h.candidate.index == it.index) (λ e.
-      let d = deletion_item a.deletions a.pending_deletions slots h.before.sq_life h.before.deletion h.items.deletes h.keeps.has.deletions r it at in
+      let d = deletion_item a.sqs a.pending_deletions slots h.before.sq_life h.before.deletion h.items.deletes h.keeps.has.deletions r it at in
       let ended : is_waiting (fate_of (logged notes) 0 it.index) ≡ false = deletion_done rules late (logged notes) h.before h.holds r (deletion_in slots r it) d in
       let same : h.candidate.index ≡ it.index = eqb-true h.candidate.index it.index e in
       let here : is_waiting (fate_of (logged notes) 0 h.candidate.index) ≡ false = subst (λ (z : ℕ). is_waiting (fate_of (logged notes) 0 z) ≡ false) (sym same) ended in

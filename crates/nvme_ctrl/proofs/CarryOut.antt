@@ -9,7 +9,6 @@ use Rattle.nvme_arbiter.specs.declared.settings.Class.{Class}
 use Rattle.nvme_admin.specs.declared.verdict.Verdict.{Verdict}
 use Rattle.nvme_admin.specs.declared.verdict.Verdict.TheVariants as verdict
 use Rattle.nvme_admin.specs.declared.effect.Effect.{Effect}
-use Rattle.nvme_admin.specs.declared.effect.Effect.TheVariants as effect
 use Rattle.nvme_entry.specs.AdminCommand.{admin_command_of}
 use Rattle.nvme_entry.specs.declared.admin.AdminCommand.{AdminCommand}
 use Rattle.nvme_entry.specs.declared.admin.AdminCommand.TheVariants.{DeleteSq, CreateSq, DeleteCq, CreateCq, Abort, SetFeatures, GetFeatures, Other}
@@ -71,8 +70,8 @@ module _ (rules : FrontRules) (late : Bool) (notes : Notes) (a : Controller) (sl
         status_is = refl;
         dw0_is = refl;
       }) (inr (rw (eq-eqb h.candidate.index h.candidate.index refl) refl))
-      (cookie_kept rules late notes a slots tag did v h ∙ ap (λ (s : Slot). Some s.cookie) (sym slot)) (sym (not_passed_on rules late notes a slots tag did v h)) (unflagged rules late notes a slots tag did v h) 0 keeps.numbers.cq_ids.admin
-      (keeps.numbers.sq_ids.ids_are 0 0 keeps.numbers.sq_ids.admin))
+      (cookie_kept rules late notes a slots tag did v h ∙ ap (λ (s : Slot). Some s.cookie) (sym slot)) (sym (not_passed_on rules late notes a slots tag did v h)) (unflagged rules late notes a slots tag did v h) 0 keeps.numbers.cqs.ids.admin
+      (keeps.numbers.sqs.ids.ids_are 0 0 keeps.numbers.sqs.ids.admin))
 
   -- it was answered, and made no more of what is kept
   pub ended_plain : (status : StatusCode) (dw0 : ℕ) → IsChosen rules (logged notes) h.before 0 h.picked h.picked v

@@ -78,10 +78,10 @@ module _ (rules : FrontRules) (late : Bool) (notes : Notes) (c : Controller) (sl
       | inl inside ↦ elim (cases_eq (slot_at slots t).state 0) [
         | inl free ↦ free
         | inr used ↦ absurd (
-            let new : IsNew t g.free = IsNew-by (is_free slots) t g.free s.has.free_items used in
+            let new : IsNew t g.free = IsNew-by (is_free slots) t g.free s.has.free.items used in
             let few : suc (length g.free) ≤ length slots =
-            length-apart (length slots) (t ∷ g.free) (new, s.has.free_chain.apart) (All-cons (λ (x : ℕ). x < length slots) t g.free inside s.has.free_chain.inside) in
-            let len = s.has.free_chain.len_is in
+            length-apart (length slots) (t ∷ g.free) (new, s.has.free.chain.apart) (All-cons (λ (x : ℕ). x < length slots) t g.free inside s.has.free.chain.inside) in
+            let len = s.has.free.chain.len_is in
             omega (arith, few, len, all))
       ]
       | inr beyond ↦ ap (λ (x : Slot). x.state) (get_or_past slots t no_slot beyond)
@@ -94,15 +94,15 @@ module _ (rules : FrontRules) (late : Bool) (notes : Notes) (c : Controller) (sl
     no_window : (r : ℕ) → g.windows r ≡ []
     no_window r = by (k.sq_id r) refl where
       by : (o : Option ℕ) → k.sq_id r ≡ o → g.windows r ≡ []
-      by None none = s.has.window_none r none
+      by None none = s.has.windows.none r none
       by (Some q) is =
-          empty_by (IsWaitingIn slots q r) (g.windows r) (s.has.window_items q r (s.numbers.sq_ids.lives_are r q is)) (λ it w. not_used it.tag 1 w.state (omega arith))
+          empty_by (IsWaitingIn slots q r) (g.windows r) (s.has.windows.items q r (s.numbers.sqs.ids.lives_are r q is)) (λ it w. not_used it.tag 1 w.state (omega arith))
 
     no_outs : g.outs ≡ []
-    no_outs = empty_by (IsOutIn k.sq_id slots) g.outs s.has.outs_items (λ it w. not_used it.tag 2 w.state (omega arith))
+    no_outs = empty_by (IsOutIn k.sq_id slots) g.outs s.has.outs.items (λ it w. not_used it.tag 2 w.state (omega arith))
 
     no_readies : (x : ℕ) → g.readies x ≡ []
-    no_readies x = empty_by (IsReadyIn k.sq_id slots) (g.readies x) (s.has.ready_items x) (λ y w.
+    no_readies x = empty_by (IsReadyIn k.sq_id slots) (g.readies x) (s.has.readies.items x) (λ y w.
         let range = (ready_state-range y.was_out y.ready.with_queue).0 in not_used y.tag (ready_state y.was_out y.ready.with_queue) w.state (omega (arith, range)))
 
     no_deletion : (r : ℕ) → k.deletion r ≡ None
@@ -114,7 +114,7 @@ module _ (rules : FrontRules) (late : Bool) (notes : Notes) (c : Controller) (sl
     -- none waits
     window_none : (r : ℕ) → (k.sq r).window ≡ []
     window_none r =
-        s.has.window_is r ∙ ap (λ (its : List Item). map candidate_of (drop (picked_of c (k.sq_id r)) its)) (no_window r)
+        s.has.windows.are r ∙ ap (λ (its : List Item). map candidate_of (drop (picked_of c (k.sq_id r)) its)) (no_window r)
         ∙ ap (λ (its : List Item). map candidate_of its) (drop-nil (picked_of c (k.sq_id r)))
 
     none_waits : (r : ℕ) → waiting past r ≡ []
@@ -123,13 +123,13 @@ module _ (rules : FrontRules) (late : Bool) (notes : Notes) (c : Controller) (sl
     -- none is in hand
     hand_none : k.hand ≡ []
     hand_none =
-        s.has.hand_is ∙ ap (λ (outs : List Item). places_of (outs ++ untaken c k g)) no_outs
+        s.has.outs.hand_is ∙ ap (λ (outs : List Item). places_of (outs ++ untaken c k g)) no_outs
         ∙ ap (λ (its : List Item). places_of (take c.picked its)) (no_window (picked_region c k)) ∙ ap places_of (take_none c.picked)
 
     -- so what was fetched is posted
     posted : (r i : ℕ) → i < length (fetched past r) → is_posted past r i ≡ true
     posted r i within = true_from_ne_false (is_posted past r i) (λ unposted.
-        let none_ready = over_none (λ (y : ℕ). times_in r i (k.cq y).ready) k.ncq (λ y lt. ap (λ (ts : List Ready). times_in r i ts) (s.has.ready_is y ∙ ap readies_of (no_readies y))) in
+        let none_ready = over_none (λ (y : ℕ). times_in r i (k.cq y).ready) k.ncq (λ y lt. ap (λ (ts : List Ready). times_in r i ts) (s.has.readies.are y ∙ ap readies_of (no_readies y))) in
         let none_held : times_held r i k.hand ≡ 0 = ap (λ (ps : List Place). times_held r i ps) hand_none in
         let none_deletes = held-none r i k.deletion k.nsq (λ x d e. absurd (none-some d (sym (no_deletion x) ∙ e))) in
         let none_in_window : sum_by (λ (z : Candidate). one_if (z.index == i)) (k.sq r).window ≡ 0 =
@@ -163,7 +163,7 @@ module _ (rules : FrontRules) (late : Bool) (notes : Notes) (c : Controller) (sl
       let posts = posts-by (λ (r : ℕ). length (fetched past r)) number past in
       let same = sum_same (λ (r : ℕ). length (fetched past r)) (λ (r : ℕ). count_of (λ (i : ℕ). is_posted past r i) (upto (length (fetched past r)))) number
       (λ r lt. all_counted (λ (i : ℕ). is_posted past r i) (length (fetched past r)) (all_below (λ (i : ℕ). is_posted past r i) (length (fetched past r)) (d.all_posted r))) in
-      let few = length-chain slots c.free g.free s.has.free_chain in
-      let len = s.has.free_chain.len_is in
+      let few = length-chain slots c.free g.free s.has.free.chain in
+      let len = s.has.free.chain.len_is in
       let count = s.tags.free_count in
       omega (arith, fetches, posts, same, few, len, count)

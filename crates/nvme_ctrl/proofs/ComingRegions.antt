@@ -21,7 +21,8 @@ use Rattle.nvme_slots.specs.declared.slot.Slot.{Slot}
 use Rattle.nvme_ctrl.specs.declared.state.Controller.{Controller}
 use Rattle.nvme_ctrl_content.specs.Content.{Attachment, Content}
 use Rattle.nvme_ctrl_content.specs.Standing.{Holds, HoldsOwn}
-use Rattle.nvme_ctrl.specs.kept.Kept.{Items, HasNumbers, HasItems, HoldsDoorbells, HoldsTags, IsSqOf, IsCqOf}
+use Rattle.nvme_ctrl.specs.kept.Kept.{Items, HasNumbers, HasItems, HoldsDoorbells, HoldsTags, IsSqOf, IsCqOf, shown_in}
+use Rattle.nvme_ctrl.proofs.QueueStates.{sq_told, each_sqs}
 use Rattle.nvme_ctrl_content.specs.Shown.{HoldsShown}
 use Rattle.nvme_ctrl.specs.kept.State.{sq_at, cq_at}
 use Rattle.nvme_ctrl_log.proofs.AddedTables.{slots_last, slots_other, sq-more, sq-same, cq-more, cq-same}
@@ -271,32 +272,19 @@ module _ (kind : Kind) (a n : ℕ) where
 
       module _ (numbers : HasNumbers c k) where
         sq_below : (q r : ℕ) → k.sq_life q ≡ Some r → r < k.nsq
-        sq_below q r is = s.queues.sq_there r (record { qid = q; cq_region = (numbers.sqs q r is).cq_region }) (numbers.sqs q r is).opened
+        sq_below q r is = s.queues.sq_there r (record { qid = q; cq_region = (numbers.sqs.each q r is).cq_region }) (numbers.sqs.each q r is).opened
 
         cq_below : (q x : ℕ) → k.cq_life q ≡ Some x → x < k.ncq
         cq_below q x is = s.queues.cq_there q x (sym (s.lives.cqs q) ∙ is)
 
         sq-is : (q r : ℕ) → k.sq_life q ≡ Some r → IsSqOf c grew q r
         sq-is q r is =
-            let h = numbers.sqs q r is in
-            let same = sq_slots-left k r (sq_below q r is) in
-            record {
-              entry = h.entry;
-              in_table = ap (λ (t : QueueTable). t.sq q) table-same ∙ h.in_table;
-              on = h.on;
-              to = h.to;
-              cq_region = h.cq_region;
-              cq_open = h.cq_open;
-              opened = h.opened;
-              held = h.held;
-              unposted = h.unposted;
-              slots = h.slots ∙ same;
-              some = subst (λ (m : ℕ). 0 < m) same h.some;
-            }
+            sq_told k.table grew.table k.cq_life q r (sq_at c.sqs q) (k.sq r) (grew.sq r) (k.held r) (shown_in k.board q) (numbers.sqs.each q r is) (ap (λ (t : QueueTable). t.sq q) table-same) refl refl
+            (sym (sq_slots-left k r (sq_below q r is)))
 
         cq-is : (q x : ℕ) → k.cq_life q ≡ Some x → IsCqOf c grew q x
         cq-is q x is =
-            let h = numbers.cqs q x is in
+            let h = numbers.cqs.each q x is in
             let same = cq_slots-left k x (cq_below q x is) in
             record { slots = h.slots ∙ same; some = subst (λ (m : ℕ). 0 < m) same h.some }
 
@@ -306,18 +294,15 @@ module _ (kind : Kind) (a n : ℕ) where
           board_is = numbers.board_is;
           is_arbiter = numbers.is_arbiter;
           outstanding_is = numbers.outstanding_is;
-          sq_ids = numbers.sq_ids;
-          cq_ids = numbers.cq_ids;
-          sqs = sq-is;
-          cqs = cq-is;
-          few_sqs = numbers.few_sqs;
-          few_cqs = numbers.few_cqs;
-          no_sqs = numbers.no_sqs;
-          no_cqs = numbers.no_cqs;
-          sq_size = numbers.sq_size;
-          cq_size = numbers.cq_size;
-          rung = numbers.rung;
-          readied = numbers.readied;
+          sqs = each_sqs c.sqs c.rung k.table grew.table k.cq_life k.cq_life k.sq_life k.sq_id k.sq grew.sq k.held k.held (shown_in k.board) (shown_in k.board) (λ q r is w. sq-is q r is) numbers.sqs;
+          cqs = record {
+            ids = numbers.cqs.ids;
+            each = cq-is;
+            few = numbers.cqs.few;
+            none = numbers.cqs.none;
+            size = numbers.cqs.size;
+            readied = numbers.cqs.readied;
+          };
         }
 
         -- the doorbells tell what they told
@@ -326,60 +311,29 @@ module _ (kind : Kind) (a n : ℕ) where
             let counts = account not_late in
             let left = leaves_regions rules kind a n notes counts.each in
             record {
-              sqs = λ q r is.
-                  subst (HasCounts (sq_at c.sqs q).ring (length (fetched (logged notes) r)))
-                  (sym (submitted_same rules others notes r (left.sq_left r (let below = sq_below q r is in let number = s.tabled.sq_number in omega (arith, below, number)))))
-                  (d.sqs q r is);
-              cqs = λ q x is.
-                  subst (λ (m : ℕ). HasCounts (cq_at c.cqs q).ring m (length (posted_to (logged notes) x)))
-                  (sym (consumed_same rules others notes x (left.cq_left x (let below = cq_below q x is in let number = s.tabled.cq_number in omega (arith, below, number)))))
-                  (d.cqs q x is);
-              phases = d.phases;
-              no_tails = λ r none. submitted_none rules others notes r (d.no_tails r none);
-              no_heads = λ x none. consumed_none rules others notes x (d.no_heads x none);
-              no_posts = d.no_posts;
+              sqs = record {
+                each = λ q r is.
+                    subst (HasCounts (sq_at c.sqs q).ring (length (fetched (logged notes) r)))
+                    (sym (submitted_same rules others notes r (left.sq_left r (let below = sq_below q r is in let number = s.tabled.sq_number in omega (arith, below, number)))))
+                    (d.sqs.each q r is);
+                no_tails = λ r none. submitted_none rules others notes r (d.sqs.no_tails r none);
+              };
+              cqs = record {
+                each = λ q x is.
+                    subst (λ (m : ℕ). HasCounts (cq_at c.cqs q).ring m (length (posted_to (logged notes) x)))
+                    (sym (consumed_same rules others notes x (left.cq_left x (let below = cq_below q x is in let number = s.tabled.cq_number in omega (arith, below, number)))))
+                    (d.cqs.each q x is);
+                phases = d.cqs.phases;
+                no_heads = λ x none. consumed_none rules others notes x (d.cqs.no_heads x none);
+                no_posts = d.cqs.no_posts;
+              };
             }
 
       has-then : HasItems c slots k items → HasItems c slots grew items
-      has-then h = record {
-        window_chain = h.window_chain;
-        window_items = h.window_items;
-        window_none = h.window_none;
-        window_is = h.window_is;
-        picked_there = h.picked_there;
-        outs_items = h.outs_items;
-        outs_apart = h.outs_apart;
-        outs_all = h.outs_all;
-        hand_is = h.hand_is;
-        ready_chain = h.ready_chain;
-        ready_items = h.ready_items;
-        ready_none = h.ready_none;
-        ready_is = h.ready_is;
-        deletions = h.deletions;
-        free_chain = h.free_chain;
-        free_items = h.free_items;
-        few = h.few;
-      }
+      has-then h = record { windows = h.windows; outs = h.outs; readies = h.readies; deletions = h.deletions; free = h.free; few = h.few }
 
       tags-then : HoldsTags notes c slots k items → HoldsTags notes c slots grew items
-      tags-then t = record {
-        untaken_are = t.untaken_are;
-        outs_held = t.outs_held;
-        readies_held = t.readies_held;
-        none_held = t.none_held;
-        through = t.through;
-        windows_unanswered = t.windows_unanswered;
-        outs_unanswered = t.outs_unanswered;
-        deletes_unanswered = t.deletes_unanswered;
-        none_answered = t.none_answered;
-        answered_held = t.answered_held;
-        hand_entries = t.hand_entries;
-        free_count = t.free_count;
-        cookies = t.cookies;
-        passed = t.passed;
-        none_flagged = t.none_flagged;
-        flags = t.flags;
-      }
+      tags-then t = t
 
       -- a region comes
       pub region_comes : HasNumbers c k → HasItems c slots k items → HoldsDoorbells rules notes c k → HoldsTags notes c slots k items → HoldsShown notes k

@@ -1,8 +1,8 @@
 -- The deletion of a submission queue begins: its candidates are dropped, and its command waits in a slot of its own.
-use Rattle.std.proofs.Common.{◌≡◌, ◌≢◌, ℕ, ◌+◌, ◌<◌, ◌≤◌, ◌^◌, List, [], ◌++◌, length, map, drop, Some, None, refl, sym, ap, ◌∙◌, subst, arith, inl, inr, eq-eqb, false}
+use Rattle.std.proofs.Common.{◌≡◌, ◌≢◌, ℕ, ◌+◌, ◌<◌, ◌≤◌, ◌^◌, List, [], ◌++◌, length, map, drop, Some, None, refl, sym, ap, ◌∙◌, subst, arith, inl, inr, eq-eqb, false, Option, is_some}
 use Rattle.std.specs.Prelude.{slice_set, IsTrue, min}
-use Rattle.std.proofs.lemmas.Bool.{cases_eq}
-use Rattle.std.proofs.lemmas.List.{length-map}
+use Rattle.std.proofs.lemmas.Bool.{cases_eq, cases_lt}
+use Rattle.std.proofs.lemmas.List.{length-map, length-set, get_or-set_same, get_or-set_other, get_or_past}
 use Rattle.std.proofs.lemmas.Option.{same_Some}
 use Rattle.nvme_arbiter.specs.Board.{BoardView}
 use Rattle.nvme_arbiter.specs.Layout.{is_arbiter, board_of}
@@ -18,7 +18,7 @@ use Rattle.nvme_ctrl.specs.declared.state.SqState.{SqState}
 use Rattle.nvme_ctrl.specs.declared.state.Controller.{Controller}
 use Rattle.nvme_ctrl_content.specs.Content.{Candidate, PendingDelete, SqContent, Content, put_sq, put_cq, put_deletion, with_sq}
 use Rattle.nvme_ctrl_content.specs.Steps.{aborted}
-use Rattle.nvme_ctrl.specs.kept.Kept.{Item, ReadyItem, DeleteItem, Items, deletion_in, put_delete, HasDeletions, IsUnanswered, IsWaitingIn, IsOutIn, IsReadyIn, IsCookie, HoldsCookies, HasItems, HoldsTags, candidate_of, is_free}
+use Rattle.nvme_ctrl.specs.kept.Kept.{HasNumbers, shown_in, Item, ReadyItem, DeleteItem, Items, deletion_in, put_delete, HasDeletions, IsUnanswered, IsWaitingIn, IsOutIn, IsReadyIn, IsCookie, HoldsCookies, HasItems, HoldsTags, candidate_of, is_free}
 use Rattle.nvme_ctrl.specs.inside.Loose.{IsLoose, Keeps}
 use Rattle.nvme_ctrl_content.specs.Carrying.{IsDroppable, dropped, deleting}
 use Rattle.nvme_ctrl.specs.inside.Carrying.{HasDropped, HasBegun}
@@ -33,13 +33,19 @@ use Rattle.nvme_ctrl.proofs.Lives.{one_id}
 use Rattle.nvme_ctrl_content.proofs.OwnStatus.{All-unmap}
 use Rattle.nvme_slots.proofs.Pools.{length-put_item, slot_at-put_item_same, item_at-put_item_other, chain-put_item}
 use Rattle.nvme_ctrl.proofs.SlotItems.{All-both, same_state, waiting_stays, out_stays, ready_stays}
-use Rattle.nvme_ctrl.proofs.Windowed.{keeps_region, keeps_board}
+use Rattle.nvme_ctrl.proofs.Windowed.{keeps_region}
+use Rattle.nvme_ctrl.proofs.QueueStates.{kept_there, sq_changed, put_sqs, waiting_kept, rings_kept}
+use Rattle.nvme_ctrl.proofs.QueueSets.{rung-kept}
+use Rattle.nvme_arbiter.specs.declared.pick.OpenQueue.{OpenQueue}
+use Rattle.nvme_log.specs.Places.{fetched}
+use Rattle.nvme_ctrl_log.specs.Doorbells.{submitted}
 
 -- ---- the command waits
 -- what is kept, where a slot that is in no list has the command of the deletion
 module _ (rules : FrontRules) (notes : Notes) (a : Controller) (slots : List Slot) (k : Content) (g : Items) (h : Keeps rules notes a slots k g) (tag qid region : ℕ) (loose : IsLoose slots g tag)
     (candidate : Candidate) (entry : (slot_at slots tag).entry ≡ candidate.entry) (unanswered : answer_of notes 0 candidate.index ≡ None)
     (cookie : IsCookie notes slots tag (place_at 0 candidate.index)) (not_passed_on : is_passed notes candidate.index ≡ false)
+    (board : BoardFields) (closed : board_of board ≡ record k.board { queues = slice_set k.board.queues qid None }) (arbiter : IsTrue (is_arbiter board.arbiter))
     (count : ℕ) (count_is : count ≡ min (a.pending_deletions + 1) 65535) (life : k.sq_life qid ≡ Some region) (undeleted : k.deletion region ≡ None) (first : (slot_at slots tag).sqid ≡ 0) where
   abbrev put : Slot
   put = record (slot_at slots tag) { state = 6 }
@@ -47,14 +53,20 @@ module _ (rules : FrontRules) (notes : Notes) (a : Controller) (slots : List Slo
   abbrev pool : List Slot
   pool = put_item slots tag put
 
+  abbrev closing : SqState
+  closing = record (sq_at a.sqs qid) { tag = tag; closing = 1 }
+
+  abbrev now : BoardView
+  now = record k.board { queues = slice_set k.board.queues qid None }
+
   abbrev pending : Controller
-  pending = record a { deletions = slice_set a.deletions qid (record { pending = 1; tag = tag }); pending_deletions = count }
+  pending = record a { board = board; sqs = slice_set a.sqs qid closing; pending_deletions = count }
 
   abbrev begins : PendingDelete
   begins = record { place = place_at 0 candidate.index; cid = candidate.entry.cid; qid = qid; region = region }
 
   abbrev waiting_content : Content
-  waiting_content = record k { deletion = put_deletion k.deletion region (Some begins) }
+  waiting_content = record k { board = now; deletion = put_deletion k.deletion region (Some begins) }
 
   abbrev item : DeleteItem
   item = record { tag = tag; index = candidate.index; qid = qid }
@@ -78,8 +90,8 @@ module _ (rules : FrontRules) (notes : Notes) (a : Controller) (slots : List Slo
     | inr other ↦ ap (λ (s : Slot). s.state) (sym (others x other)) ∙ is
   ]
 
-  deletions_still : HasDeletions a.deletions a.pending_deletions pool k.sq_life k.deletion g.deletes
-  deletions_still = deletions_stay a.deletions a.pending_deletions slots pool k.sq_life k.deletion g.deletes tag size others loose.deletes h.has.deletions
+  deletions_still : HasDeletions a.sqs a.pending_deletions pool k.sq_life k.deletion g.deletes
+  deletions_still = deletions_stay a.sqs a.pending_deletions slots pool k.sq_life k.deletion g.deletes tag size others loose.deletes h.has.deletions
 
   begins_is : deletion_in pool region item ≡ begins
   begins_is = ap (λ (e : Sqe). record { place = place_at 0 candidate.index; cid = e.cid; qid = qid; region = region }) (ap (λ (s : Slot). s.entry) here ∙ entry)
@@ -91,56 +103,90 @@ module _ (rules : FrontRules) (notes : Notes) (a : Controller) (slots : List Slo
     | Elsewhere d at ↦ there r it at
   ]
 
+  there : qid < length a.sqs
+  there = kept_there a k h.numbers qid region life
+
+  -- no queue is shown there
+  hidden : shown_in now qid ≡ false
+  hidden = elim (cases_lt qid (length k.board.queues)) [
+    | inl below ↦ ap (λ (o : Option OpenQueue). is_some o) (get_or-set_same k.board.queues qid None None below)
+    | inr beyond ↦ ap (λ (o : Option OpenQueue). is_some o) (get_or_past now.queues qid None (omega (arith, beyond, length-set {A = Option OpenQueue} k.board.queues qid None)))
+  ]
+
+  numbers_pending : HasNumbers pending waiting_content
+  numbers_pending = let n = h.numbers in record {
+    tells = n.tells;
+    board_is = closed;
+    is_arbiter = arbiter;
+    outstanding_is = n.outstanding_is;
+    sqs = (let w = n.sqs.each qid region life in put_sqs a k n qid region life closing a.rung k.sq k.held (shown_in now)
+        (sq_changed k.table k.cq_life qid region (sq_at a.sqs qid) closing (k.sq region) (k.sq region) (k.held region) (k.held region) (shown_in k.board qid) (shown_in now qid) w refl refl w.unposted refl refl w.held (sym hidden))
+        (λ r other. refl) (λ r other. refl) (λ q other. ap (λ (o : Option OpenQueue). is_some o) (get_or-set_other k.board.queues qid q None None other))
+        (rung-kept a.rung qid a.sqs closing there n.sqs.rung (λ same. same)));
+    cqs = n.cqs;
+  }
+
   has_pending : HasItems pending pool waiting_content later
   has_pending = let m = h.has in record {
-    window_chain = λ q r is. chain-put_item slots _ _ tag put (m.window_chain q r is);
-    window_items = λ q r is. All-both (λ (it : Item). it.tag ≢ tag) (IsWaitingIn slots q r) (IsWaitingIn pool q r) (λ it. waiting_stays slots pool tag size others q r it) (g.windows r)
-        (All-unmap (λ (x : ℕ). x ≢ tag) (λ (it : Item). it.tag) (g.windows r) (loose.windows r)) (m.window_items q r is);
-    window_none = m.window_none;
-    window_is = m.window_is;
-    picked_there = m.picked_there;
-    outs_items = All-both (λ (it : Item). it.tag ≢ tag) (IsOutIn k.sq_id slots) (IsOutIn k.sq_id pool) (out_stays slots pool tag size others k.sq_id) g.outs
-        (All-unmap (λ (x : ℕ). x ≢ tag) (λ (it : Item). it.tag) g.outs loose.outs) m.outs_items;
-    outs_apart = m.outs_apart;
-    outs_all = λ x is. m.outs_all x (had_state x 2 (omega arith) is);
-    hand_is = m.hand_is;
-    ready_chain = λ q x is. chain-put_item slots _ _ tag put (m.ready_chain q x is);
-    ready_items = λ x. All-both (λ (it : ReadyItem). it.tag ≢ tag) (IsReadyIn k.sq_id slots) (IsReadyIn k.sq_id pool) (ready_stays slots pool tag size others k.sq_id) (g.readies x)
-        (All-unmap (λ (y : ℕ). y ≢ tag) (λ (it : ReadyItem). it.tag) (g.readies x) (loose.readies x)) (m.ready_items x);
-    ready_none = m.ready_none;
-    ready_is = m.ready_is;
-    deletions = subst (λ (d : PendingDelete). HasDeletions (slice_set a.deletions qid (record { pending = 1; tag = tag })) count pool k.sq_life (put_deletion k.deletion region (Some d)) later.deletes) begins_is
-        (deletions_begun a.deletions a.pending_deletions count pool k.sq_life k.deletion g.deletes qid region item deletions_still
-        (λ q is. one_id k.sq_life k.sq_id h.numbers.sq_ids q qid region is life) life refl (h.numbers.few_sqs qid region life)
-        (none_deletes a.deletions a.pending_deletions slots k.sq_life k.deletion g.deletes m.deletions region undeleted)
-        (record { inside = subst (λ (n : ℕ). tag < n) (sym size) loose.inside; state = ap (λ (s : Slot). s.state) here; queue = ap (λ (s : Slot). s.sqid) here ∙ first }) loose.deletes count_is);
-    free_chain = chain-put_item slots _ _ tag put m.free_chain;
-    free_items = All-both (λ (x : ℕ). x ≢ tag) (is_free slots) (is_free pool) (λ x other. same_state slots pool tag size others x 0 other) g.free loose.free m.free_items;
+    windows = waiting_kept a.sqs a.picked a.picked_qid pool k.sq_life k.sq_id (λ (r : ℕ). (k.sq r).window) g.windows qid closing there refl (record {
+      chain = λ q r is. chain-put_item slots _ _ tag put (m.windows.chain q r is);
+      items = λ q r is. All-both (λ (it : Item). it.tag ≢ tag) (IsWaitingIn slots q r) (IsWaitingIn pool q r) (λ it. waiting_stays slots pool tag size others q r it) (g.windows r)
+          (All-unmap (λ (x : ℕ). x ≢ tag) (λ (it : Item). it.tag) (g.windows r) (loose.windows r)) (m.windows.items q r is);
+      none = m.windows.none;
+      are = m.windows.are;
+      picked_there = m.windows.picked_there;
+    });
+    outs = record {
+      items = All-both (λ (it : Item). it.tag ≢ tag) (IsOutIn k.sq_id slots) (IsOutIn k.sq_id pool) (out_stays slots pool tag size others k.sq_id) g.outs
+          (All-unmap (λ (x : ℕ). x ≢ tag) (λ (it : Item). it.tag) g.outs loose.outs) m.outs.items;
+      apart = m.outs.apart;
+      all = λ x is. m.outs.all x (had_state x 2 (omega arith) is);
+      hand_is = m.outs.hand_is;
+    };
+    readies = record {
+      chain = λ q x is. chain-put_item slots _ _ tag put (m.readies.chain q x is);
+      items = λ x. All-both (λ (it : ReadyItem). it.tag ≢ tag) (IsReadyIn k.sq_id slots) (IsReadyIn k.sq_id pool) (ready_stays slots pool tag size others k.sq_id) (g.readies x)
+          (All-unmap (λ (y : ℕ). y ≢ tag) (λ (it : ReadyItem). it.tag) (g.readies x) (loose.readies x)) (m.readies.items x);
+      none = m.readies.none;
+      are = m.readies.are;
+    };
+    deletions = subst (λ (d : PendingDelete). HasDeletions (slice_set a.sqs qid closing) count pool k.sq_life (put_deletion k.deletion region (Some d)) later.deletes) begins_is
+        (deletions_begun a.sqs a.pending_deletions count pool k.sq_life k.deletion g.deletes qid region item deletions_still
+        (λ q is. one_id k.sq_life k.sq_id h.numbers.sqs.ids q qid region is life) life refl (h.numbers.sqs.few qid region life)
+        (none_deletes a.sqs a.pending_deletions slots k.sq_life k.deletion g.deletes m.deletions region undeleted)
+        (record { inside = subst (λ (n : ℕ). tag < n) (sym size) loose.inside; state = ap (λ (s : Slot). s.state) here; queue = ap (λ (s : Slot). s.sqid) here ∙ first }) loose.deletes count_is h.numbers.sqs.size);
+    free = record {
+      chain = chain-put_item slots _ _ tag put m.free.chain;
+      items = All-both (λ (x : ℕ). x ≢ tag) (is_free slots) (is_free pool) (λ x other. same_state slots pool tag size others x 0 other) g.free loose.free m.free.items;
+    };
     few = subst (λ (n : ℕ). n < 2 ^ 16) (sym size) m.few;
   }
 
   tags_pending : HoldsTags notes pending pool waiting_content later
   tags_pending = let m = h.tags in record {
     untaken_are = m.untaken_are;
-    outs_held = m.outs_held;
-    readies_held = m.readies_held;
-    none_held = λ x not_out not_answered. elim (cases_eq x tag) [
-      | inl same ↦ subst (λ (y : ℕ). holder notes y ≡ None) (sym same) (m.none_held tag loose.not_out loose.not_answered)
-      | inr other ↦ let state = ap (λ (s : Slot). s.state) (others x other) in
-          m.none_held x (λ e. not_out (state ∙ e)) (λ e. not_answered (state ∙ e))
-    ];
+    held = record {
+      outs = m.held.outs;
+      readies = m.held.readies;
+      none = λ x not_out not_answered. elim (cases_eq x tag) [
+        | inl same ↦ subst (λ (y : ℕ). holder notes y ≡ None) (sym same) (m.held.none tag loose.not_out loose.not_answered)
+        | inr other ↦ let state = ap (λ (s : Slot). s.state) (others x other) in
+            m.held.none x (λ e. not_out (state ∙ e)) (λ e. not_answered (state ∙ e))
+      ];
+      answered = λ x is. m.held.answered x (had_state x 3 (omega arith) is);
+    };
     through = m.through;
-    windows_unanswered = m.windows_unanswered;
-    outs_unanswered = m.outs_unanswered;
-    deletes_unanswered = each_delete (λ (it : DeleteItem). IsUnanswered notes (place_at 0 it.index)) unanswered m.deletes_unanswered;
-    none_answered = m.none_answered;
-    answered_held = λ x is. m.answered_held x (had_state x 3 (omega arith) is);
+    unanswered = record {
+      windows = m.unanswered.windows;
+      outs = m.unanswered.outs;
+      deletes = each_delete (λ (it : DeleteItem). IsUnanswered notes (place_at 0 it.index)) unanswered m.unanswered.deletes;
+      none = m.unanswered.none;
+    };
     hand_entries = m.hand_entries;
     free_count = m.free_count ∙ ap (λ (n : ℕ). n + all_posts (logged notes)) (sym size);
     cookies = cookies_pending;
     passed = (let p = m.passed in record { all_handed = p.all_handed; served = p.served; readies = p.readies; deletes = each_delete (λ (it : DeleteItem). is_passed notes it.index ≡ false) not_passed_on p.deletes });
-    none_flagged = m.none_flagged;
-    flags = m.flags;
+    flagged = m.flagged;
   } where
     left : SameCookies slots pool
     left = same_cookies-but slots pool tag others (ap (λ (s : Slot). s.cookie) here)
@@ -158,38 +204,12 @@ module _ (rules : FrontRules) (notes : Notes) (a : Controller) (slots : List Slo
   pub begun_pending : HasBegun rules notes waiting_content pending pool
   begun_pending = record {
     items = later;
-    numbers = (let n = h.numbers in record {
-      tells = n.tells;
-      board_is = n.board_is;
-      is_arbiter = n.is_arbiter;
-      outstanding_is = n.outstanding_is;
-      sq_ids = n.sq_ids;
-      cq_ids = n.cq_ids;
-      sqs = λ q r is. let x = n.sqs q r is in record {
-        entry = x.entry;
-        in_table = x.in_table;
-        on = x.on;
-        to = x.to;
-        cq_region = x.cq_region;
-        cq_open = x.cq_open;
-        opened = x.opened;
-        held = x.held;
-        unposted = x.unposted;
-        slots = x.slots;
-        some = x.some;
-      };
-      cqs = λ q x is. let y = n.cqs q x is in record { slots = y.slots; some = y.some };
-      few_sqs = n.few_sqs;
-      few_cqs = n.few_cqs;
-      no_sqs = n.no_sqs;
-      no_cqs = n.no_cqs;
-      sq_size = n.sq_size;
-      cq_size = n.cq_size;
-      rung = n.rung;
-      readied = n.readied;
-    });
+    numbers = numbers_pending;
     has = has_pending;
-    doorbells = (let d = h.doorbells in record { sqs = d.sqs; cqs = d.cqs; phases = d.phases; no_tails = d.no_tails; no_heads = d.no_heads; no_posts = d.no_posts });
+    doorbells = record {
+      sqs = rings_kept a.sqs k.sq_life (λ (r : ℕ). (k.sq r).queue) (fetched (logged notes)) (submitted rules notes) qid closing there refl h.doorbells.sqs;
+      cqs = h.doorbells.cqs;
+    };
     tags = tags_pending;
   }
 
@@ -221,10 +241,10 @@ pub n_counted : (rules : FrontRules) (notes : Notes) (a : Controller) (slots : L
     → k.sq_life qid ≡ Some region → sq ≡ sq_at a.sqs qid → (k.sq region).unposted + length (k.sq region).window < 2 ^ 16 → min (sq.unposted + sq.window.len) 65535 ≡ sq.unposted + sq.window.len
 n_counted rules notes a slots k g qid region sq h none life sq_is few =
     let many : length (k.sq region).window ≡ length (g.windows region) =
-    ap (λ (w : List Candidate). length w) (h.has.window_is region ∙ ap (λ (i : ℕ). map candidate_of (drop i (g.windows region))) (none_picked_of a (k.sq_id region) none))
+    ap (λ (w : List Candidate). length w) (h.has.windows.are region ∙ ap (λ (i : ℕ). map candidate_of (drop i (g.windows region))) (none_picked_of a (k.sq_id region) none))
     ∙ length-map (g.windows region) candidate_of in
     let len = window_length rules notes a slots k g qid region h life in
-    let unposted = (h.numbers.sqs qid region life).unposted in
+    let unposted = (h.numbers.sqs.each qid region life).unposted in
     let same = ap (λ (s : SqState). s.unposted) sq_is in
     let as_long = ap (λ (s : SqState). s.window.len) sq_is in
     omega arith
@@ -245,10 +265,10 @@ module _ (rules : FrontRules) (notes : Notes) (a : Controller) (slots : List Slo
   n_counts : n ≡ count
   n_counts =
       let many : length (k.sq region).window ≡ length (g.windows region) =
-      ap (λ (w : List Candidate). length w) (h.has.window_is region ∙ ap (λ (i : ℕ). map candidate_of (drop i (g.windows region))) (none_picked_of a (k.sq_id region) none))
+      ap (λ (w : List Candidate). length w) (h.has.windows.are region ∙ ap (λ (i : ℕ). map candidate_of (drop i (g.windows region))) (none_picked_of a (k.sq_id region) none))
       ∙ length-map (g.windows region) candidate_of in
       let len = window_length rules notes a slots k g qid region h d.there in
-      let unposted = (h.numbers.sqs qid region d.there).unposted in
+      let unposted = (h.numbers.sqs.each qid region d.there).unposted in
       let same = ap (λ (s : SqState). s.unposted) sq_is in
       let as_long = ap (λ (s : SqState). s.window.len) sq_is in
       omega arith
@@ -258,7 +278,7 @@ module _ (rules : FrontRules) (notes : Notes) (a : Controller) (slots : List Slo
   keeps_counted =
       subst (λ (z : Controller). Keeps rules notes z slots counted g)
       (sym (m_is ∙ ap (λ (z : SqState). record a { sqs = slice_set a.sqs qid (record z { unposted = n }) }) sq_is))
-      (keeps_region rules notes a slots k g qid region (record (sq_at a.sqs qid) { unposted = n }) (record (k.sq region) { unposted = count }) k.held k.classed (h.numbers.sqs qid region d.there).held (λ r other. refl) h none d.there refl refl refl refl n_counts refl refl)
+      (keeps_region rules notes a slots k g qid region (record (sq_at a.sqs qid) { unposted = n }) (record (k.sq region) { unposted = count }) k.held k.classed (h.numbers.sqs.each qid region d.there).held (λ r other. refl) h none d.there refl refl refl refl refl refl n_counts refl refl)
 
   pub droppable_counted : IsDroppable notes counted qid region c
   droppable_counted = record {
@@ -273,19 +293,17 @@ module _ (rules : FrontRules) (notes : Notes) (a : Controller) (slots : List Slo
   pub begun_deleting : (w b : Controller) (mid pool : List Slot) (board : BoardFields) (pending : ℕ) → HasDropped rules notes (dropped counted qid region c) slots tag w mid
       → board_of board ≡ record (board_of w.board) { queues = slice_set (board_of w.board).queues qid None } → board.arbiter ≡ w.board.arbiter
       → pool ≡ put_item mid tag (record (slot_at mid tag) { state = 6 }) → pending ≡ min (w.pending_deletions + 1) 65535
-      → b ≡ record w { board = board; deletions = slice_set w.deletions qid (record { pending = 1; tag = tag }); pending_deletions = pending }
+      → b ≡ record w { board = board; sqs = slice_set w.sqs qid (record (sq_at w.sqs qid) { tag = tag; closing = 1 }); pending_deletions = pending }
       → HasBegun rules notes (deleting k qid region c candidate) b pool
   begun_deleting w b mid pool board pending e closed arbiter pool_is pending_is b_is =
       subst (λ (z : Controller). HasBegun rules notes (deleting k qid region c candidate) z pool) (sym b_is)
-      (subst (λ (z : List Slot). HasBegun rules notes (deleting k qid region c candidate) (record w { board = board; deletions = slice_set w.deletions qid (record { pending = 1; tag = tag }); pending_deletions = pending }) z)
+      (subst (λ (z : List Slot). HasBegun rules notes (deleting k qid region c candidate) (record w { board = board; sqs = slice_set w.sqs qid (record (sq_at w.sqs qid) { tag = tag; closing = 1 }); pending_deletions = pending }) z)
       (sym pool_is)
       (subst (λ (z : Content). HasBegun rules notes (record z { board = now; deletion = put_deletion k.deletion region (Some (record { place = place_at 0 candidate.index; cid = candidate.entry.cid; qid = qid; region = region })) })
-      (record w { board = board; deletions = slice_set w.deletions qid (record { pending = 1; tag = tag }); pending_deletions = pending }) (put_item mid tag (record (slot_at mid tag) { state = 6 })))
+      (record w { board = board; sqs = slice_set w.sqs qid (record (sq_at w.sqs qid) { tag = tag; closing = 1 }); pending_deletions = pending }) (put_item mid tag (record (slot_at mid tag) { state = 6 })))
       (dropped_counted k qid region c count)
-      (begun_pending rules notes (record w { board = board }) mid (record (dropped counted qid region c) { board = now }) e.items
-      (keeps_board rules notes w mid (dropped counted qid region c) e.items board now e.keeps
-      (closed ∙ ap (λ (z : BoardView). record z { queues = slice_set z.queues qid None }) e.keeps.numbers.board_is)
-      (subst (λ (z : ArbiterFields). IsTrue (is_arbiter z)) (sym arbiter) e.keeps.numbers.is_arbiter))
-      tag qid region e.loose candidate (ap (λ (z : Slot). z.entry) e.slot ∙ entry) unanswered (cookie ∙ ap (λ (z : Slot). Some z.cookie) (sym e.slot)) not_passed_on pending pending_is d.there d.undeleted (ap (λ (z : Slot). z.sqid) e.slot ∙ first)))) where
+      (begun_pending rules notes w mid (dropped counted qid region c) e.items e.keeps tag qid region e.loose candidate (ap (λ (z : Slot). z.entry) e.slot ∙ entry) unanswered (cookie ∙ ap (λ (z : Slot). Some z.cookie) (sym e.slot)) not_passed_on
+      board (closed ∙ ap (λ (z : BoardView). record z { queues = slice_set z.queues qid None }) e.keeps.numbers.board_is) (subst (λ (z : ArbiterFields). IsTrue (is_arbiter z)) (sym arbiter) e.keeps.numbers.is_arbiter)
+      pending pending_is d.there d.undeleted (ap (λ (z : Slot). z.sqid) e.slot ∙ first)))) where
         now : BoardView
         now = record k.board { queues = slice_set k.board.queues qid None }

@@ -125,7 +125,7 @@ module _ (rules : FrontRules) (late : Bool) (notes : Notes) (c : Controller) (sl
       | inr still ↦
           let named : qid_of_region past r ≡ Some a.qid = s.holds.queues.qid_is r ∙ ap (option_map (λ (a : Attachment). a.qid)) is in
           let life = s.holds.lives.there r a.qid named still in
-          let id : k.sq_id r ≡ Some a.qid = s.numbers.sq_ids.ids_are a.qid r life in
+          let id : k.sq_id r ≡ Some a.qid = s.numbers.sqs.ids.ids_are a.qid r life in
           cc (none, id)
     ]
 
@@ -143,13 +143,13 @@ module _ (rules : FrontRules) (late : Bool) (notes : Notes) (c : Controller) (sl
   held_by_ids : (d : ℕ → ℕ) → ((r q : ℕ) → k.sq_id r ≡ Some q → held_in past r ≤ d q) → all_fetches past ≤ all_posts past + sum_by d (upto queue_limit)
   held_by_ids d h =
       let few = sum_ids (λ (r : ℕ). held_in past r) d k.sq_id (length (sq_regions_of rules)) queue_limit none_held
-      (λ r q lt is. (h r q is, s.numbers.few_sqs q r (s.numbers.sq_ids.lives_are r q is)))
-      (λ r x q is it. same_Some r x (sym (s.numbers.sq_ids.lives_are r q is) ∙ s.numbers.sq_ids.lives_are x q it)) in
+      (λ r q lt is. (h r q is, s.numbers.sqs.few q r (s.numbers.sqs.ids.lives_are r q is)))
+      (λ r x q is it. same_Some r x (sym (s.numbers.sqs.ids.lives_are r q is) ∙ s.numbers.sqs.ids.lives_are x q it)) in
       omega (arith, all_held, few)
 
   in_depth : (depth depths : ℕ → ℕ) → EachNote (IsFetchedInDepth depth) notes → HasDepths depth depths past → (r q : ℕ) → k.sq_id r ≡ Some q → held_in past r ≤ depths q
   in_depth depth depths each has r q is =
-      let life = s.numbers.sq_ids.lives_are r q is in
+      let life = s.numbers.sqs.ids.lives_are r q is in
       omega (arith, depth_kept depth notes each r, has r q (s.holds.lives.named q r life) (s.holds.lives.not_closed q r life))
 
 pub depths_suffice : DepthsSuffice
@@ -159,15 +159,15 @@ depths_suffice rules late notes c slots depth depths s each has =
 pub depths_leave_room : DepthsLeaveRoom
 depths_leave_room rules late notes c slots depth depths qid queue s each has is_open room size =
     let past : Past = logged notes in
-    let id : s.content.sq_id queue.region ≡ Some qid = s.numbers.sq_ids.ids_are qid queue.region (s.holds.lives.sqs qid queue is_open) in
+    let id : s.content.sq_id queue.region ≡ Some qid = s.numbers.sqs.ids.ids_are qid queue.region (s.holds.lives.sqs qid queue is_open) in
     let less : ℕ → ℕ = λ (q : ℕ). if q == qid then depths qid - 1 else depths q in
     let here : less qid ≡ depths qid - 1 = cond-true (qid == qid) (depths qid - 1) (depths qid) (eq-eqb qid qid refl) in
     let others : (q : ℕ) → (qid ≡ q → ⊥) → depths q ≡ less q = λ q other. sym (cond-false (q == qid) (depths qid - 1) (depths q) (ne_eqb q qid (λ e. other (sym e)))) in
-    let few = s.numbers.few_sqs qid queue.region (s.holds.lives.sqs qid queue is_open) in
+    let few = s.numbers.sqs.few qid queue.region (s.holds.lives.sqs qid queue is_open) in
     let more = sum_more less depths qid queue_limit few others (omega (arith, here, room)) in
     let all = held_by_ids rules late notes c slots s less (λ r q is. elim (cases_eq qid q) [
       | inl same ↦
-          let region : r ≡ queue.region = same_Some r queue.region (sym (s.numbers.sq_ids.lives_are r qid (is ∙ ap (λ (y : ℕ). Some y) (sym same))) ∙ s.holds.lives.sqs qid queue is_open) in
+          let region : r ≡ queue.region = same_Some r queue.region (sym (s.numbers.sqs.ids.lives_are r qid (is ∙ ap (λ (y : ℕ). Some y) (sym same))) ∙ s.holds.lives.sqs qid queue is_open) in
           let at : held_in past r ≡ held_in past queue.region = ap (held_in past) region in
           subst (λ (x : ℕ). held_in past r ≤ less x) same (omega (arith, at, here, room))
       | inr other ↦ omega (arith, in_depth rules late notes c slots s depth depths each has r q is, others q other)

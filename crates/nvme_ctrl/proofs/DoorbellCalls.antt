@@ -1,11 +1,12 @@
 -- The doorbells of a controller: what is answered, and that it stands at its log afterwards.
-use Rattle.std.proofs.Common.{◌≡◌, ◌≢◌, ◌↔◌, ℕ, ◌+◌, ◌%◌, ◌<◌, ◌≤◌, ◌==◌, ◌&&◌, nat_lt, nat_le, Bool, true, false, List, ◌∷◌, length, Option, Some, None, option_map, is_some, refl, sym, ap, ◌∙◌, subst, arith, inl, inr}
+use Rattle.std.proofs.Common.{◌≡◌, ◌≢◌, ◌↔◌, ℕ, ◌+◌, ◌%◌, ◌<◌, ◌≤◌, ◌==◌, ◌&&◌, nat_lt, nat_le, Bool, true, false, List, ◌∷◌, length, Option, Some, None, option_map, is_some, refl, sym, ap, ◌∙◌, subst, arith, inl, inr, if◌then◌else◌}
 use Rattle.std.specs.Prelude.{slice_set, IsTrue}
-use Rattle.std.proofs.lemmas.Bool.{cases_lt, and_parts, and_from, lt-ltb, ltb-true, le-leb, leb-true, eq-eqb, ne_eqb}
+use Rattle.std.proofs.lemmas.Bool.{cases_lt, eqb-true, and_parts, and_from, lt-ltb, ltb-true, le-leb, leb-true, eq-eqb, ne_eqb}
 use Rattle.std.proofs.lemmas.List.{length-set}
 use Rattle.std.proofs.lemmas.Option.{same_Some}
 use Rattle.nvme_arbiter.specs.Limits.{queue_limit}
 use Rattle.nvme_admin.specs.QueueTable.{QueueTable}
+use Rattle.nvme_arbiter.specs.declared.pick.OpenQueue.{OpenQueue}
 use Rattle.nvme_admin.specs.declared.verdict.SqEntry.{SqEntry}
 use Rattle.nvme_placing.specs.Telling.{unplaced}
 use Rattle.nvme_log.specs.Aborts.{is_index}
@@ -26,24 +27,38 @@ use Rattle.nvme_ctrl.specs.declared.state.SqState.{SqState}
 use Rattle.nvme_ctrl.specs.declared.state.CqState.{CqState}
 use Rattle.nvme_ctrl.specs.declared.state.Controller.{Controller}
 use Rattle.nvme_ctrl_content.specs.Content.{Content}
+use Rattle.nvme_ctrl_content.specs.Standing.{on_board}
 use Rattle.nvme_ctrl.specs.Standing.{IsController}
-use Rattle.nvme_ctrl.specs.kept.Kept.{Items, HasNumbers, HasItems, HoldsDoorbells, StandsAt, tags_of, ready_tags}
+use Rattle.nvme_ctrl.specs.kept.Kept.{Items, HasNumbers, HasItems, HoldsDoorbells, StandsAt, ready_tags, shown_in}
 use Rattle.nvme_slots.specs.Pool.{IsChain}
 use Rattle.nvme_ctrl_log.specs.Regions.{is_opened_cq}
 use Rattle.nvme_ctrl.specs.kept.State.{sq_at, cq_at}
 use Rattle.nvme_ctrl.proofs.Cookies.{cookies_later}
 use Rattle.nvme_ctrl.proofs.Passed.{passed_later}
 use Rattle.nvme_ctrl_content.proofs.OpenQueues.{open_region, any_upto}
-use Rattle.nvme_ctrl.proofs.Lives.{put_sq-states, put_cq-states}
+use Rattle.nvme_ctrl.proofs.Lives.{put_cq-states}
 use Rattle.nvme_ctrl_log.proofs.ToldQueues.{told_some, told_none, closing_same}
-use Rattle.nvme_ctrl.proofs.QueueStates.{IsSqWith, sq_with, sq_of_with, put_sq-regions, put_cq-regions, put_sq-with, put_sq-none, put_cq-none, kept_there, kept_cq_there, opened_apart, opened_where_open}
+use Rattle.nvme_ctrl.proofs.QueueStates.{put_sq-regions, put_cq-regions, put_sqs, sq_changed, waiting_kept, put_cq-none, kept_there, kept_cq_there, opened_apart, opened_where_open}
 use Rattle.nvme_ctrl.specs.kept.QueueSets.{with_queue}
+use Rattle.nvme_ctrl.proofs.PendingDeletions.{deletions_kept}
 use Rattle.nvme_ctrl.proofs.QueueSets.{rung-put, readied-kept}
 
 -- ---- the queues of a table that are open
 -- the queue of an entry
 abbrev pub queue_of : SqEntry → Queue
 queue_of e = record { region = e.region; cqid = e.cqid; class = e.class }
+
+-- a queue is kept, on a region
+pub record HasLife (lives : ℕ → Option ℕ) (q : ℕ) : Type 0 where
+  pub region : ℕ
+  pub life : lives q ≡ Some region
+
+-- an entry of an open queue isn't closing
+open_entry_unclosing : (e : SqEntry) → is_some (as_open (Some e)) ≡ true → e.closing ≡ false
+open_entry_unclosing e some = by e.closing refl some where
+  by : (b : Bool) → e.closing ≡ b → is_some (if b then None else Some (queue_of e)) ≡ true → e.closing ≡ false
+  by true is none = cc none
+  by false is some = is
 
 -- a submission queue of a queue table is open
 pub record IsOpenIn (t : QueueTable) (q : ℕ) : Type 0 where
@@ -90,15 +105,47 @@ module _ (rules : FrontRules) (late : Bool) (notes : Notes) (c : Controller) (sl
   pub cq_is_open : (q x : ℕ) → open_cq (logged notes) q ≡ Some x → is_open_cq_region notes x ≡ true
   cq_is_open q x opened = elim (cases_lt q queue_limit) [
     | inl below ↦ any_upto (λ (p : ℕ). is_index x (open_cq (logged notes) p)) queue_limit q below (rw opened (eq-eqb x x refl))
-    | inr past ↦ absurd (let few = s.numbers.few_cqs q x (cq_lives q x opened) in omega (arith, few, past))
+    | inr past ↦ absurd (let few = s.numbers.cqs.few q x (cq_lives q x opened) in omega (arith, few, past))
   ]
+
+  -- arbitration is shown the open queues
+  shown_open : (q : ℕ) → shown_in s.content.board q ≡ is_some (open_sq (logged notes) q)
+  shown_open q = ap (λ (o : Option OpenQueue). is_some o) (s.holds.queues.board q) ∙ by (open_sq (logged notes) q) where
+    by : (o : Option Queue) → is_some (option_map (on_board s.content) o) ≡ is_some o
+    by None = refl
+    by (Some queue) = refl
+
+  -- a queue that is open isn't closing
+  pub open_unclosing : (q : ℕ) (queue : Queue) → open_sq (logged notes) q ≡ Some queue → (sq_at c.sqs q).closing ≡ 0
+  open_unclosing q queue opened = eqb-true (sq_at c.sqs q).closing 0 ((s.numbers.sqs.each q queue.region (sq_lives q queue opened)).shown ∙ shown_open q ∙ ap (λ (o : Option Queue). is_some o) opened)
+
+  -- one that isn't closing is open, where it has a region
+  pub unclosing_is_open : (q r : ℕ) → s.content.sq_life q ≡ Some r → (sq_at c.sqs q).closing ≡ 0 → IsOpenIn s.content.table q
+  unclosing_is_open q r life unclosing =
+      let w = s.numbers.sqs.each q r life in
+      let some : is_some (as_open (Some w.entry)) ≡ true = ap (λ (o : Option SqEntry). is_some (as_open o)) (sym w.in_table) ∙ ap (λ (o : Option Queue). is_some o) (sym (s.holds.queues.sqs q))
+      ∙ sym (shown_open q) ∙ sym w.shown ∙ eq-eqb (sq_at c.sqs q).closing 0 unclosing in
+      record { entry = w.entry; in_table = w.in_table; opened = open_entry_unclosing w.entry some }
+
+  -- one that has a ring has a region
+  pub ring_lives : (q : ℕ) → 0 < (sq_at c.sqs q).ring.slots → HasLife s.content.sq_life q
+  ring_lives q some = by (s.content.sq_life q) refl where
+    by : (o : Option ℕ) → s.content.sq_life q ≡ o → HasLife s.content.sq_life q
+    by None none = absurd (let gone = ap (λ (state : SqState). state.ring.slots) (s.numbers.sqs.none q none) in omega (arith, some, gone))
+    by (Some r) is = record { region = r; life = is }
+
+  pub ring_cq_lives : (q : ℕ) → 0 < (cq_at c.cqs q).ring.slots → HasLife s.content.cq_life q
+  ring_cq_lives q some = by (s.content.cq_life q) refl where
+    by : (o : Option ℕ) → s.content.cq_life q ≡ o → HasLife s.content.cq_life q
+    by None none = absurd (let gone = ap (λ (state : CqState). state.ring.slots) (s.numbers.cqs.none q none) in omega (arith, some, gone))
+    by (Some r) is = record { region = r; life = is }
 
   -- and the slots of the log
   pub slots_are : (q r : ℕ) → s.content.sq_life q ≡ Some r → (sq_at c.sqs q).ring.slots ≡ sq_slots rules r
-  slots_are q r life = (s.numbers.sqs q r life).slots ∙ sym (s.holds.tabled.sq_slots r)
+  slots_are q r life = (s.numbers.sqs.each q r life).slots ∙ sym (s.holds.tabled.sq_slots r)
 
   pub cq_slots_are : (q x : ℕ) → s.content.cq_life q ≡ Some x → (cq_at c.cqs q).ring.slots ≡ cq_slots rules x
-  cq_slots_are q x life = (s.numbers.cqs q x life).slots ∙ sym (s.holds.tabled.cq_slots x)
+  cq_slots_are q x life = (s.numbers.cqs.each q x life).slots ∙ sym (s.holds.tabled.cq_slots x)
 
 -- ---- a tail
 -- a tail makes so many submitted
@@ -120,20 +167,8 @@ module _ (c : Controller) (slots : List Slot) (k : Content) (q r : ℕ) (ring : 
   abbrev ring_state : SqState
   ring_state = with_ring (sq_at c.sqs q) ring
 
-  ring_with : ring.slots ≡ (sq_at c.sqs q).ring.slots → IsSqWith k.table k.cq_life q r ring_state (k.sq r) (k.held r)
-  ring_with slots = (let h = n.sqs q r life in record {
-    entry = h.entry;
-    in_table = h.in_table;
-    on = h.on;
-    to = h.to;
-    cq_region = h.cq_region;
-    cq_open = h.cq_open;
-    opened = h.opened;
-    held_is = h.held;
-    unposted = h.unposted;
-    slots = slots ∙ h.slots;
-    some = h.some;
-  })
+  sq_there_is : q < length c.sqs
+  sq_there_is = kept_there c k n q r life
 
   sq_ring-numbers : ring.slots ≡ (sq_at c.sqs q).ring.slots → HasNumbers (with_sq_ring c q ring) k
   sq_ring-numbers slots = record {
@@ -141,54 +176,32 @@ module _ (c : Controller) (slots : List Slot) (k : Content) (q r : ℕ) (ring : 
     board_is = n.board_is;
     is_arbiter = n.is_arbiter;
     outstanding_is = n.outstanding_is;
-    sq_ids = n.sq_ids;
-    cq_ids = n.cq_ids;
-    sqs = λ p x is. sq_of_with (with_sq_ring c q ring) k p x
-        (put_sq-with c k n q r life ring_state k.sq k.held (ring_with slots) (λ y other. refl) (λ y other. refl) p x is);
-    cqs = λ p x is. (let h = n.cqs p x is in record { slots = h.slots; some = h.some });
-    few_sqs = n.few_sqs;
-    few_cqs = n.few_cqs;
-    no_sqs = put_sq-none c k n q r life ring_state;
-    no_cqs = n.no_cqs;
-    sq_size = length-set c.sqs q ring_state ∙ n.sq_size;
-    cq_size = n.cq_size;
-    rung = rung-put c.rung q true c.sqs ring_state (kept_there c k n q r life) n.rung (λ no. absurd (cc no));
-    readied = n.readied;
+    sqs = (let h = n.sqs.each q r life in put_sqs c k n q r life ring_state (with_queue c.rung q true) k.sq k.held (shown_in k.board)
+        (sq_changed k.table k.cq_life q r (sq_at c.sqs q) ring_state (k.sq r) (k.sq r) (k.held r) (k.held r) (shown_in k.board q) (shown_in k.board q) h refl slots h.unposted refl refl h.held h.shown)
+        (λ x other. refl) (λ x other. refl) (λ p other. refl) (rung-put c.rung q true c.sqs ring_state sq_there_is n.sqs.rung (λ no. absurd (cc no))));
+    cqs = n.cqs;
   }
 
   sq_ring-items : (g : Items) → HasItems c slots k g → HasItems (with_sq_ring c q ring) slots k g
   sq_ring-items g h = record {
-    window_chain = λ p. put_sq-states (λ y state. (x : ℕ) → k.sq_life y ≡ Some x → IsChain slots state.window (tags_of (g.windows x)))
-        c.sqs q ring_state (kept_there c k n q r life) (h.window_chain q) p (λ other. h.window_chain p);
-    window_items = h.window_items;
-    window_none = h.window_none;
-    window_is = h.window_is;
-    picked_there = h.picked_there;
-    outs_items = h.outs_items;
-    outs_apart = h.outs_apart;
-    outs_all = h.outs_all;
-    hand_is = h.hand_is;
-    ready_chain = h.ready_chain;
-    ready_items = h.ready_items;
-    ready_none = h.ready_none;
-    ready_is = h.ready_is;
-    deletions = h.deletions;
-    free_chain = h.free_chain;
-    free_items = h.free_items;
+    windows = waiting_kept c.sqs c.picked c.picked_qid slots k.sq_life k.sq_id (λ (x : ℕ). (k.sq x).window) g.windows q ring_state sq_there_is refl h.windows;
+    outs = h.outs;
+    readies = h.readies;
+    deletions = deletions_kept c.sqs c.pending_deletions slots k.sq_life k.deletion g.deletes q ring_state sq_there_is refl refl h.deletions;
+    free = h.free;
     few = h.few;
   }
 
   sq_ring-doorbells : (rules : FrontRules) (notes : Notes) (slot : ℕ) → HasCounts ring (length (fetched (logged notes) r)) (submitted rules (Tail r slot ∷ notes) r)
       → HoldsDoorbells rules notes c k → HoldsDoorbells rules (Tail r slot ∷ notes) (with_sq_ring c q ring) k
   sq_ring-doorbells rules notes slot counts d = record {
-    sqs = put_sq-regions (λ p x state. HasCounts state.ring (length (fetched (logged notes) x)) (submitted rules (Tail r slot ∷ notes) x))
-        k.sq_life k.sq_id n.sq_ids c.sqs q r ring_state life (kept_there c k n q r life) counts
-        (λ p x other apart is. subst (HasCounts (sq_at c.sqs p).ring (length (fetched (logged notes) x))) (sym (tail_others rules notes r slot x apart)) (d.sqs p x is));
+    sqs = record {
+      each = put_sq-regions (λ p x state. HasCounts state.ring (length (fetched (logged notes) x)) (submitted rules (Tail r slot ∷ notes) x))
+          k.sq_life k.sq_id n.sqs.ids c.sqs q r ring_state life sq_there_is counts
+          (λ p x other apart is. subst (HasCounts (sq_at c.sqs p).ring (length (fetched (logged notes) x))) (sym (tail_others rules notes r slot x apart)) (d.sqs.each p x is));
+      no_tails = λ x none. tail_others rules notes r slot x (opened_apart c k n q r life x none) ∙ d.sqs.no_tails x none;
+    };
     cqs = d.cqs;
-    phases = d.phases;
-    no_tails = λ x none. tail_others rules notes r slot x (opened_apart c k n q r life x none) ∙ d.no_tails x none;
-    no_heads = d.no_heads;
-    no_posts = d.no_posts;
   }
 
 -- what a ring says to a tail
@@ -219,7 +232,7 @@ module _ (rules : FrontRules) (late : Bool) (notes : Notes) (c : Controller) (sl
         let state = sq_at c.sqs qid in
         let same : state.ring.slots ≡ sq_slots rules e.region = are in
         let below = is_slot rang in
-        let counts = s.doorbells.sqs qid e.region life in
+        let counts = s.doorbells.sqs.each qid e.region life in
         let said = sym (answer (length (fetched (logged notes) e.region)) (submitted rules notes e.region) counts) ∙ rang in
         let parts = and_parts (nat_lt slot state.ring.slots) _ said in
         let room = ltb-true _ _ parts.1 in
@@ -236,7 +249,7 @@ module _ (rules : FrontRules) (late : Bool) (notes : Notes) (c : Controller) (sl
         let state = sq_at c.sqs qid in
         let same : sq_slots rules e.region ≡ state.ring.slots = sym are in
         let below : slot < state.ring.slots = subst (λ (n : ℕ). slot < n) same tail.is_slot in
-        let counts = s.doorbells.sqs qid e.region life in
+        let counts = s.doorbells.sqs.each qid e.region life in
         let fits = subst (λ (n : ℕ). n < length (fetched (logged notes) e.region) + sq_slots rules e.region) (tail_submitted rules notes e.region slot) tail.fits in
         let room = subst (λ (n : ℕ). submitted rules notes e.region + gap n (submitted rules notes e.region % n) slot < length (fetched (logged notes) e.region) + n) same fits in
         answer (length (fetched (logged notes) e.region)) (submitted rules notes e.region) counts
@@ -255,7 +268,7 @@ module _ (rules : FrontRules) (late : Bool) (notes : Notes) (c : Controller) (sl
     tail_stands new rang counts same =
         let tail = tail_is rang in
         let below = is_slot rang in
-        let old = s.doorbells.sqs qid e.region life in
+        let old = s.doorbells.sqs.each qid e.region life in
         let written = counts (length (fetched (logged notes) e.region)) (submitted rules notes e.region) old rang in
         let now : HasCounts new (length (fetched (logged notes) e.region)) (submitted rules (Tail e.region slot ∷ notes) e.region) =
         subst (HasCounts new (length (fetched (logged notes) e.region)))
@@ -272,27 +285,34 @@ module _ (rules : FrontRules) (late : Bool) (notes : Notes) (c : Controller) (sl
             doorbells = sq_ring-doorbells c slots s.content qid e.region new s.numbers life rules notes slot now s.doorbells;
             tags = record {
               untaken_are = s.tags.untaken_are;
-              outs_held = s.tags.outs_held;
-              readies_held = s.tags.readies_held;
-              none_held = s.tags.none_held;
+              held = s.tags.held;
               through = s.tags.through;
-              windows_unanswered = s.tags.windows_unanswered;
-              outs_unanswered = s.tags.outs_unanswered;
-              deletes_unanswered = s.tags.deletes_unanswered;
-              none_answered = s.tags.none_answered;
-              answered_held = s.tags.answered_held;
+              unanswered = s.tags.unanswered;
               hand_entries = s.tags.hand_entries;
               free_count = s.tags.free_count;
               cookies = cookies_later notes (Tail e.region slot ∷ notes) slots s.items (λ r i. refl) (λ r. refl) s.tags.cookies;
               passed = passed_later notes (Tail e.region slot ∷ notes) s.items (λ i. refl) refl (λ i waits. waits) s.tags.passed;
-              none_flagged = s.tags.none_flagged;
-              flags = s.tags.flags;
+              flagged = s.tags.flagged;
             };
             shown = record { held = s.shown.held; classed = s.shown.classed };
             regions = record { sqs = s.regions.sqs; cqs = s.regions.cqs };
             account = λ on_time. (let a = s.account on_time in record { each = (tail, a.each); lawful = a.lawful; effects_whole = a.effects_whole });
           };
         }
+
+-- what is told of any queue that isn't closing
+pub tail_told : (rules : FrontRules) (late : Bool) (notes : Notes) (c : Controller) (slots : List Slot) (s : StandsAt rules late notes c slots) (qid slot : ℕ) (rung : Bool) → (sq_at c.sqs qid).closing ≡ 0
+    → TailAnswer (sq_at c.sqs qid).ring slot rung → (rung ≡ true → slot < (sq_at c.sqs qid).ring.slots) → IsTrue rung ↔ IsTailOf rules notes qid slot
+tail_told rules late notes c slots s qid slot rung unclosing answer is_slot = elim (cases_lt 0 (sq_at c.sqs qid).ring.slots) [
+  | inl some ↦
+      let l = ring_lives rules late notes c slots s qid some in
+      let here = unclosing_is_open rules late notes c slots s qid l.region l.life unclosing in
+      tail_answer rules late notes c slots s qid slot here.entry here.in_table here.opened rung answer is_slot
+  | inr none ↦ (
+    λ rang. absurd (let below = is_slot rang in omega (arith, below, none)),
+    λ tail. absurd (let w = s.numbers.sqs.each qid tail.queue.region (sq_lives rules late notes c slots s qid tail.queue tail.is_open) in omega (arith, w.slots, w.some, none)),
+  )
+]
 
 -- ---- a head
 -- a head makes so many consumed
@@ -315,8 +335,8 @@ module _ (c : Controller) (slots : List Slot) (k : Content) (q r : ℕ) (ring : 
   cq_there_is = kept_cq_there c k n q r life
 
   cq_ring-slots : ring.slots ≡ (cq_at c.cqs q).ring.slots → (p x : ℕ) → k.cq_life p ≡ Some x → (cq_at (slice_set c.cqs q cq_ring_state) p).ring.slots ≡ (k.cq x).slots
-  cq_ring-slots slots = put_cq-regions (λ p x state. state.ring.slots ≡ (k.cq x).slots) k.cq_life k.cq_id n.cq_ids c.cqs q r cq_ring_state life cq_there_is
-      (slots ∙ (n.cqs q r life).slots) (λ p x other apart is. (n.cqs p x is).slots)
+  cq_ring-slots slots = put_cq-regions (λ p x state. state.ring.slots ≡ (k.cq x).slots) k.cq_life k.cq_id n.cqs.ids c.cqs q r cq_ring_state life cq_there_is
+      (slots ∙ (n.cqs.each q r life).slots) (λ p x other apart is. (n.cqs.each p x is).slots)
 
   cq_ring-numbers : ring.slots ≡ (cq_at c.cqs q).ring.slots → HasNumbers (with_cq_ring c q ring) k
   cq_ring-numbers slots = record {
@@ -324,39 +344,37 @@ module _ (c : Controller) (slots : List Slot) (k : Content) (q r : ℕ) (ring : 
     board_is = n.board_is;
     is_arbiter = n.is_arbiter;
     outstanding_is = n.outstanding_is;
-    sq_ids = n.sq_ids;
-    cq_ids = n.cq_ids;
-    sqs = λ p x is. sq_of_with (with_cq_ring c q ring) k p x (sq_with c k p x (n.sqs p x is));
-    cqs = λ p x is. record { slots = cq_ring-slots slots p x is; some = (n.cqs p x is).some };
-    few_sqs = n.few_sqs;
-    few_cqs = n.few_cqs;
-    no_sqs = n.no_sqs;
-    no_cqs = put_cq-none c k n q r life cq_ring_state;
-    sq_size = n.sq_size;
-    cq_size = length-set c.cqs q cq_ring_state ∙ n.cq_size;
-    rung = n.rung;
-    readied = readied-kept c.readied q c.cqs cq_ring_state cq_there_is n.readied (λ none. none);
+    sqs = record {
+      ids = n.sqs.ids;
+      each = n.sqs.each;
+      few = n.sqs.few;
+      none = n.sqs.none;
+      size = n.sqs.size;
+      rung = n.sqs.rung;
+    };
+    cqs = record {
+      ids = n.cqs.ids;
+      each = λ p x is. record { slots = cq_ring-slots slots p x is; some = (n.cqs.each p x is).some };
+      few = n.cqs.few;
+      none = put_cq-none c k n q r life cq_ring_state;
+      size = length-set c.cqs q cq_ring_state ∙ n.cqs.size;
+      readied = readied-kept c.readied q c.cqs cq_ring_state cq_there_is n.cqs.readied (λ none. none);
+    };
   }
 
   cq_ring-items : (g : Items) → HasItems c slots k g → HasItems (with_cq_ring c q ring) slots k g
   cq_ring-items g h = record {
-    window_chain = h.window_chain;
-    window_items = h.window_items;
-    window_none = h.window_none;
-    window_is = h.window_is;
-    picked_there = h.picked_there;
-    outs_items = h.outs_items;
-    outs_apart = h.outs_apart;
-    outs_all = h.outs_all;
-    hand_is = h.hand_is;
-    ready_chain = λ p. put_cq-states (λ y state. (x : ℕ) → k.cq_life y ≡ Some x → IsChain slots state.ready (ready_tags (g.readies x)))
-        c.cqs q cq_ring_state cq_there_is (h.ready_chain q) p (λ other. h.ready_chain p);
-    ready_items = h.ready_items;
-    ready_none = h.ready_none;
-    ready_is = h.ready_is;
+    windows = h.windows;
+    outs = h.outs;
+    readies = record {
+      chain = λ p. put_cq-states (λ y state. (x : ℕ) → k.cq_life y ≡ Some x → IsChain slots state.ready (ready_tags (g.readies x)))
+          c.cqs q cq_ring_state cq_there_is (h.readies.chain q) p (λ other. h.readies.chain p);
+      items = h.readies.items;
+      none = h.readies.none;
+      are = h.readies.are;
+    };
     deletions = h.deletions;
-    free_chain = h.free_chain;
-    free_items = h.free_items;
+    free = h.free;
     few = h.few;
   }
 
@@ -365,17 +383,18 @@ module _ (c : Controller) (slots : List Slot) (k : Content) (q r : ℕ) (ring : 
       → HoldsDoorbells rules notes c k → HoldsDoorbells rules (Head r slot ∷ notes) (with_cq_ring c q ring) k
   cq_ring-doorbells rules notes slot opened slots counts d = record {
     sqs = d.sqs;
-    cqs = put_cq-regions (λ p x state. HasCounts state.ring (consumed rules (Head r slot ∷ notes) x) (length (posted_to (logged notes) x)))
-        k.cq_life k.cq_id n.cq_ids c.cqs q r cq_ring_state life cq_there_is counts
-        (λ p x other apart is. subst (λ (m : ℕ). HasCounts (cq_at c.cqs p).ring m (length (posted_to (logged notes) x))) (sym (head_others rules notes r slot x apart)) (d.cqs p x is));
-    phases = put_cq-regions (λ p x state. (state.phase == 1) ≡ phase_after (length (posted_to (logged notes) x)) state.ring.slots)
-        k.cq_life k.cq_id n.cq_ids c.cqs q r cq_ring_state life cq_there_is
-        (d.phases q r life ∙ ap (phase_after (length (posted_to (logged notes) r))) (sym slots)) (λ p x other apart is. d.phases p x is);
-    no_tails = d.no_tails;
-    no_heads = λ x none. head_others rules notes r slot x
-        (λ same. (let here = opened_where_open (logged notes) q r opened in let there = subst (λ (y : ℕ). is_opened_cq (logged notes) y ≡ false) same none in cc (here, there)))
-        ∙ d.no_heads x none;
-    no_posts = d.no_posts;
+    cqs = record {
+      each = put_cq-regions (λ p x state. HasCounts state.ring (consumed rules (Head r slot ∷ notes) x) (length (posted_to (logged notes) x)))
+          k.cq_life k.cq_id n.cqs.ids c.cqs q r cq_ring_state life cq_there_is counts
+          (λ p x other apart is. subst (λ (m : ℕ). HasCounts (cq_at c.cqs p).ring m (length (posted_to (logged notes) x))) (sym (head_others rules notes r slot x apart)) (d.cqs.each p x is));
+      phases = put_cq-regions (λ p x state. (state.phase == 1) ≡ phase_after (length (posted_to (logged notes) x)) state.ring.slots)
+          k.cq_life k.cq_id n.cqs.ids c.cqs q r cq_ring_state life cq_there_is
+          (d.cqs.phases q r life ∙ ap (phase_after (length (posted_to (logged notes) r))) (sym slots)) (λ p x other apart is. d.cqs.phases p x is);
+      no_heads = λ x none. head_others rules notes r slot x
+          (λ same. (let here = opened_where_open (logged notes) q r opened in let there = subst (λ (y : ℕ). is_opened_cq (logged notes) y ≡ false) same none in cc (here, there)))
+          ∙ d.cqs.no_heads x none;
+      no_posts = d.cqs.no_posts;
+    };
   }
 
 -- what a ring says to a head
@@ -405,7 +424,7 @@ module _ (rules : FrontRules) (late : Bool) (notes : Notes) (c : Controller) (sl
     head_is rang =
         let same : (cq_at c.cqs cqid).ring.slots ≡ cq_slots rules region = cq_are in
         let below = is_slot rang in
-        let counts = s.doorbells.cqs cqid region cq_life_is in
+        let counts = s.doorbells.cqs.each cqid region cq_life_is in
         let said = sym (answer (consumed rules notes region) (length (posted_to (logged notes) region)) counts) ∙ rang in
         let parts = and_parts (nat_lt slot (cq_at c.cqs cqid).ring.slots) _ said in
         let room = leb-true _ _ parts.1 in
@@ -421,7 +440,7 @@ module _ (rules : FrontRules) (late : Bool) (notes : Notes) (c : Controller) (sl
     head_rings head =
         let same : cq_slots rules region ≡ (cq_at c.cqs cqid).ring.slots = sym cq_are in
         let below : slot < (cq_at c.cqs cqid).ring.slots = subst (λ (n : ℕ). slot < n) same head.is_slot in
-        let counts = s.doorbells.cqs cqid region cq_life_is in
+        let counts = s.doorbells.cqs.each cqid region cq_life_is in
         let fits = subst (λ (n : ℕ). n ≤ length (posted_to (logged notes) region)) (head_consumed rules notes region slot) head.posted in
         let room = subst (λ (n : ℕ). consumed rules notes region + gap n (consumed rules notes region % n) slot ≤ length (posted_to (logged notes) region)) same fits in
         answer (consumed rules notes region) (length (posted_to (logged notes) region)) counts
@@ -439,7 +458,7 @@ module _ (rules : FrontRules) (late : Bool) (notes : Notes) (c : Controller) (sl
     head_stands new rang counts same =
         let head = head_is rang in
         let below = is_slot rang in
-        let old = s.doorbells.cqs cqid region cq_life_is in
+        let old = s.doorbells.cqs.each cqid region cq_life_is in
         let read = counts (consumed rules notes region) (length (posted_to (logged notes) region)) old rang in
         let now : HasCounts new (consumed rules (Head region slot ∷ notes) region) (length (posted_to (logged notes) region)) =
         subst (λ (n : ℕ). HasCounts new n (length (posted_to (logged notes) region)))
@@ -456,21 +475,14 @@ module _ (rules : FrontRules) (late : Bool) (notes : Notes) (c : Controller) (sl
             doorbells = cq_ring-doorbells c slots s.content cqid region new s.numbers cq_life_is rules notes slot head_open same now s.doorbells;
             tags = record {
               untaken_are = s.tags.untaken_are;
-              outs_held = s.tags.outs_held;
-              readies_held = s.tags.readies_held;
-              none_held = s.tags.none_held;
+              held = s.tags.held;
               through = s.tags.through;
-              windows_unanswered = s.tags.windows_unanswered;
-              outs_unanswered = s.tags.outs_unanswered;
-              deletes_unanswered = s.tags.deletes_unanswered;
-              none_answered = s.tags.none_answered;
-              answered_held = s.tags.answered_held;
+              unanswered = s.tags.unanswered;
               hand_entries = s.tags.hand_entries;
               free_count = s.tags.free_count;
               cookies = cookies_later notes (Head region slot ∷ notes) slots s.items (λ r i. refl) (λ r. refl) s.tags.cookies;
               passed = passed_later notes (Head region slot ∷ notes) s.items (λ i. refl) refl (λ i waits. waits) s.tags.passed;
-              none_flagged = s.tags.none_flagged;
-              flags = s.tags.flags;
+              flagged = s.tags.flagged;
             };
             shown = record { held = s.shown.held; classed = s.shown.classed };
             regions = record { sqs = s.regions.sqs; cqs = s.regions.cqs };
@@ -478,20 +490,24 @@ module _ (rules : FrontRules) (late : Bool) (notes : Notes) (c : Controller) (sl
           };
         }
 
+-- what is told of any queue
+pub head_told : (rules : FrontRules) (late : Bool) (notes : Notes) (c : Controller) (slots : List Slot) (s : StandsAt rules late notes c slots) (cqid slot : ℕ) (rung : Bool)
+    → HeadAnswer (cq_at c.cqs cqid).ring slot rung → (rung ≡ true → slot < (cq_at c.cqs cqid).ring.slots) → IsTrue rung ↔ IsHeadOf rules notes cqid slot
+head_told rules late notes c slots s cqid slot rung answer is_slot = elim (cases_lt 0 (cq_at c.cqs cqid).ring.slots) [
+  | inl some ↦
+      let l = ring_cq_lives rules late notes c slots s cqid some in
+      head_answer rules late notes c slots s cqid slot l.region (sym (s.holds.queues.cqs cqid) ∙ sym (s.holds.lives.cqs cqid) ∙ l.life) rung answer is_slot
+  | inr none ↦ (
+    λ rang. absurd (let below = is_slot rang in omega (arith, below, none)),
+    λ head. absurd (let w = s.numbers.cqs.each cqid head.region (cq_lives rules late notes c slots s cqid head.region head.is_open) in omega (arith, w.slots, w.some, none)),
+  )
+]
+
 -- ---- either way
 -- a controller whose call noted what is lawful, or changed nothing, stands at some log
 pub front_either : (b : Bool) (old new : Controller) (slots : List Slot) → (b ≡ true → IsController new slots) → (b ≡ false → new ≡ old) → IsController old slots → IsController new slots
 front_either true old new slots rung refused front = rung refl
 front_either false old new slots rung refused front = subst (λ (c : Controller). IsController c slots) (sym (refused refl)) front
-
--- what is there, where something is
-pub record HasSome {A : Type 0} (o : Option A) : Type 0 where
-  pub value : A
-  pub is : o ≡ Some value
-
-pub has_some : {A : Type 0} (o : Option A) → is_some o ≡ true → HasSome o
-has_some None is = absurd (cc is)
-has_some (Some a) is = record { value = a; is = refl }
 
 pub has_none : {A : Type 0} (o : Option A) → is_some o ≡ false → o ≡ None
 has_none None is = refl

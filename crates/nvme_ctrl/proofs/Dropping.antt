@@ -36,7 +36,7 @@ use Rattle.nvme_ctrl.proofs.Windowed.{with_window, keeps_windowed}
 pub posts_to : (rules : FrontRules) (notes : Notes) (a : Controller) (slots : List Slot) (k : Content) (g : Items) (qid region c : ℕ) → Keeps rules notes a slots k g → k.sq_life qid ≡ Some region
     → (k.sq region).queue ≡ Some (record { qid = qid; cq_region = c }) → k.cq_life (sq_at a.sqs qid).cqid ≡ Some c
 posts_to rules notes a slots k g qid region c h life attached =
-    let s = h.numbers.sqs qid region life in
+    let s = h.numbers.sqs.each qid region life in
     let same = same_Some (record { qid = qid; cq_region = s.cq_region }) (record { qid = qid; cq_region = c }) (sym s.opened ∙ attached) in
     s.cq_open ∙ ap (λ (x : Attachment). Some x.cq_region) same
 
@@ -49,21 +49,21 @@ module _ (rules : FrontRules) (notes : Notes) (a : Controller) (slots : List Slo
     inside = inside;
     windows = window;
     outs = All-map (λ (y : ℕ). y ≢ x.tag) (λ (it : Item). it.tag) g.outs
-        (All-weaker (IsOutIn k.sq_id slots) (λ (it : Item). it.tag ≢ x.tag) (λ it o e. absurd (cc (sym o.state ∙ ap (λ (z : ℕ). (slot_at slots z).state) e ∙ waits.state))) g.outs h.has.outs_items);
+        (All-weaker (IsOutIn k.sq_id slots) (λ (it : Item). it.tag ≢ x.tag) (λ it o e. absurd (cc (sym o.state ∙ ap (λ (z : ℕ). (slot_at slots z).state) e ∙ waits.state))) g.outs h.has.outs.items);
     readies = new_to_ready rules notes a slots k g h x.tag 1 waits.state (omega arith);
-    deletes = deletes_apart a.deletions a.pending_deletions slots k.sq_life k.deletion g.deletes x.tag h.has.deletions (λ e. absurd (cc (sym e ∙ waits.state)));
-    free = IsNew-by (λ (y : ℕ). (slot_at slots y).state ≡ 0) x.tag g.free h.has.free_items (λ e. absurd (cc (sym e ∙ waits.state)));
+    deletes = deletes_apart a.sqs a.pending_deletions slots k.sq_life k.deletion g.deletes x.tag h.has.deletions (λ e. absurd (cc (sym e ∙ waits.state)));
+    free = IsNew-by (λ (y : ℕ). (slot_at slots y).state ≡ 0) x.tag g.free h.has.free.items (λ e. absurd (cc (sym e ∙ waits.state)));
     not_out = λ e. absurd (cc (sym e ∙ waits.state));
     not_answered = λ e. absurd (cc (sym e ∙ waits.state));
   } where
     -- the queue of another region, where there is one
     other_window : (r : ℕ) → r ≢ region → (id : Option ℕ) → k.sq_id r ≡ id → IsNew x.tag (tags_of (g.windows r))
-    other_window r other None none = subst (λ (its : List Item). IsNew x.tag (tags_of its)) (sym (h.has.window_none r none)) (IsNew-nil x.tag)
+    other_window r other None none = subst (λ (its : List Item). IsNew x.tag (tags_of its)) (sym (h.has.windows.none r none)) (IsNew-nil x.tag)
     other_window r other (Some q) id =
-        let there : k.sq_life q ≡ Some r = h.numbers.sq_ids.lives_are r q id in
+        let there : k.sq_life q ≡ Some r = h.numbers.sqs.ids.lives_are r q id in
         let differs : q ≢ qid = λ e. other (one_life k.sq_life qid r region (subst (λ (n : ℕ). k.sq_life n ≡ Some r) e there) life) in
         All-map (λ (y : ℕ). y ≢ x.tag) (λ (it : Item). it.tag) (g.windows r)
-        (All-weaker (IsWaitingIn slots q r) (λ (it : Item). it.tag ≢ x.tag) (λ it w e. differs (sym w.queue ∙ ap (λ (z : ℕ). (slot_at slots z).sqid) e ∙ waits.queue)) (g.windows r) (h.has.window_items q r there))
+        (All-weaker (IsWaitingIn slots q r) (λ (it : Item). it.tag ≢ x.tag) (λ it w e. differs (sym w.queue ∙ ap (λ (z : ℕ). (slot_at slots z).sqid) e ∙ waits.queue)) (g.windows r) (h.has.windows.items q r there))
 
     window : (r : ℕ) → IsNew x.tag (tags_of ((with_window g region rest).windows r))
     window r = elim (cases_eq r region) [
@@ -92,7 +92,7 @@ pub first_there : (rules : FrontRules) (notes : Notes) (a : Controller) (slots :
     → k.sq_life qid ≡ Some region → g.windows region ≡ x ∷ rest → first_of (sq_at a.sqs qid).window ≡ Some x.tag
 first_there rules notes a slots k g qid region x rest h life is =
     pop-first slots (sq_at a.sqs qid).window x.tag (tags_of rest)
-    (subst (λ (its : List Item). IsChain slots (sq_at a.sqs qid).window (tags_of its)) is (h.has.window_chain qid region life))
+    (subst (λ (its : List Item). IsChain slots (sq_at a.sqs qid).window (tags_of its)) is (h.has.windows.chain qid region life))
 
 -- ---- the oldest candidate
 -- a command that ends with its queue
@@ -105,10 +105,10 @@ KeepsDrop a slots tag cqid b pool =
 module _ (rules : FrontRules) (notes : Notes) (a : Controller) (slots : List Slot) (k : Content) (g : Items) (qid region c : ℕ) (x : Item) (rest : List Item)
     (h : Keeps rules notes a slots k g) (none : a.picked ≡ 0) (d : IsDroppable notes k qid region c) (is : g.windows region ≡ x ∷ rest) where
   pub oldest_chain : IsChain slots (sq_at a.sqs qid).window (x.tag ∷ tags_of rest)
-  oldest_chain = subst (λ (its : List Item). IsChain slots (sq_at a.sqs qid).window (tags_of its)) is (h.has.window_chain qid region d.there)
+  oldest_chain = subst (λ (its : List Item). IsChain slots (sq_at a.sqs qid).window (tags_of its)) is (h.has.windows.chain qid region d.there)
 
   waits : All (IsWaitingIn slots qid region) (x ∷ rest)
-  waits = subst (All (IsWaitingIn slots qid region)) is (h.has.window_items qid region d.there)
+  waits = subst (All (IsWaitingIn slots qid region)) is (h.has.windows.items qid region d.there)
 
   first : IsWaitingIn slots qid region x
   first = All-head (IsWaitingIn slots qid region) x rest waits
@@ -118,7 +118,7 @@ module _ (rules : FrontRules) (notes : Notes) (a : Controller) (slots : List Slo
 
   pub window_is : (k.sq region).window ≡ map candidate_of (x ∷ rest)
   window_is =
-      h.has.window_is region ∙ ap (λ (n : ℕ). map candidate_of (drop n (g.windows region))) (none_picked_of a (k.sq_id region) none)
+      h.has.windows.are region ∙ ap (λ (n : ℕ). map candidate_of (drop n (g.windows region))) (none_picked_of a (k.sq_id region) none)
       ∙ ap (λ (its : List Item). map candidate_of its) is
 
   cookies : All (HasCookie notes slots) (x ∷ rest)
@@ -128,9 +128,9 @@ module _ (rules : FrontRules) (notes : Notes) (a : Controller) (slots : List Slo
   cookie = subst (λ (r : ℕ). cookie_of notes r x.place.index ≡ Some (slot_at slots x.tag).cookie) first.place (All-head (HasCookie notes slots) x rest cookies)
 
   unflagged : IsUnflagged notes (aborted qid region (candidate_of x)).place
-  unflagged = h.tags.none_flagged region x.place.index
+  unflagged = h.tags.flagged.none region x.place.index
       (subst (λ (r : ℕ). answer_of notes r x.place.index ≡ None) first.place
-      (All-head (λ (it : Item). IsUnanswered notes it.place) x rest (subst (All (λ (it : Item). IsUnanswered notes it.place)) is (h.tags.windows_unanswered region))))
+      (All-head (λ (it : Item). IsUnanswered notes it.place) x rest (subst (All (λ (it : Item). IsUnanswered notes it.place)) is (h.tags.unanswered.windows region))))
 
   is_through : IsThrough notes (aborted qid region (candidate_of x))
   is_through = inl (All-head (λ (z : Candidate). is_aborted (logged notes) region z.index ≡ true) (candidate_of x) (map candidate_of rest)
@@ -142,7 +142,7 @@ module _ (rules : FrontRules) (notes : Notes) (a : Controller) (slots : List Slo
       → Keeps rules notes b pool (oldest_dropped k qid region c x rest) (item_dropped g qid region c x rest)
   keeps_dropped m b pool tag cqid m_is tag_is cqid_is drops =
       subst (λ (z : ℕ). KeepsDrop m slots z cqid b pool) tag_is drops rules notes mid (with_window g region rest) t keeps loose made is_through cookie (sym (rw d.io refl)) unflagged c to
-      (h.numbers.sq_ids.ids_are qid region d.there) where
+      (h.numbers.sqs.ids.ids_are qid region d.there) where
         t : Ready
         t = aborted qid region (candidate_of x)
 
@@ -155,9 +155,9 @@ module _ (rules : FrontRules) (notes : Notes) (a : Controller) (slots : List Slo
         keeps : Keeps rules notes m slots mid (with_window g region rest)
         keeps =
             subst (λ (z : Controller). Keeps rules notes z slots mid (with_window g region rest)) (sym m_is)
-            (keeps_windowed rules notes a slots k g h none qid region d.there s (record (k.sq region) { window = map candidate_of rest }) rest slots k.held k.classed (h.numbers.sqs qid region d.there).held (λ z other. refl)
-            (record { size = refl; items = λ z. refl }) (λ z new. refl) refl refl refl (h.numbers.sqs qid region d.there).unposted refl (pop-shorter slots (sq_at a.sqs qid).window x.tag (tags_of rest) oldest_chain) (All-tail (IsWaitingIn slots qid region) x rest waits) refl
-            (All-tail (λ (it : Item). IsUnanswered notes it.place) x rest (subst (All (λ (it : Item). IsUnanswered notes it.place)) is (h.tags.windows_unanswered region)))
+            (keeps_windowed rules notes a slots k g h none qid region d.there s (record (k.sq region) { window = map candidate_of rest }) rest slots k.held k.classed (h.numbers.sqs.each qid region d.there).held (λ z other. refl)
+            (record { size = refl; items = λ z. refl }) (λ z new. refl) refl refl refl refl refl (h.numbers.sqs.each qid region d.there).unposted refl (pop-shorter slots (sq_at a.sqs qid).window x.tag (tags_of rest) oldest_chain) (All-tail (IsWaitingIn slots qid region) x rest waits) refl
+            (All-tail (λ (it : Item). IsUnanswered notes it.place) x rest (subst (All (λ (it : Item). IsUnanswered notes it.place)) is (h.tags.unanswered.windows region)))
             (All-tail (HasCookie notes slots) x rest cookies))
 
         to : k.cq_life cqid ≡ Some c
@@ -306,7 +306,7 @@ pub dropping_end : (rules : FrontRules) (notes : Notes) (k : Content) (qid regio
     → now.picked ≡ 0 → IsDropping rules notes k qid region c slots y now pool [] → HasDropped rules notes (dropped k qid region c) slots y now pool
 dropping_end rules notes k qid region c slots y now pool none h =
     let w : (h.content.sq region).window ≡ [] =
-    h.keeps.has.window_is region ∙ ap (λ (n : ℕ). map candidate_of (drop n (h.items.windows region))) (none_picked_of now (h.content.sq_id region) none) ∙ ap (λ (its : List Item). map candidate_of its) h.window in
+    h.keeps.has.windows.are region ∙ ap (λ (n : ℕ). map candidate_of (drop n (h.items.windows region))) (none_picked_of now (h.content.sq_id region) none) ∙ ap (λ (its : List Item). map candidate_of its) h.window in
     record {
       items = h.items;
       keeps = subst (λ (z : Content). Keeps rules notes now pool z h.items) (sym (all_dropped h.content qid region c w) ∙ h.whole) h.keeps;
@@ -354,4 +354,4 @@ dropping_done rules notes k qid region c slots y now pool xs i past none h =
 -- as many wait as the chain has slots
 pub window_length : (rules : FrontRules) (notes : Notes) (a : Controller) (slots : List Slot) (k : Content) (g : Items) (qid region : ℕ) → Keeps rules notes a slots k g
     → k.sq_life qid ≡ Some region → (sq_at a.sqs qid).window.len ≡ length (g.windows region)
-window_length rules notes a slots k g qid region h life = (h.has.window_chain qid region life).len_is ∙ length-map (g.windows region) (λ (it : Item). it.tag)
+window_length rules notes a slots k g qid region h life = (h.has.windows.chain qid region life).len_is ∙ length-map (g.windows region) (λ (it : Item). it.tag)

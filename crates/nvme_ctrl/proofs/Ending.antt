@@ -42,17 +42,17 @@ module _ (rules : FrontRules) (notes : Notes) (a : Controller) (slots : List Slo
       All-map (λ (z : ℕ). z ≢ x) (λ (it : ReadyItem). it.tag) (g.readies y)
       (All-weaker (IsReadyIn k.sq_id slots) (λ (it : ReadyItem). it.tag ≢ x)
       (λ it r e. absurd (omega (arith, ap (λ (z : ℕ). (slot_at slots z).state) e, r.state, (ready_state-range it.was_out it.ready.with_queue).0, is, low)))
-      (g.readies y) (h.has.ready_items y))
+      (g.readies y) (h.has.readies.items y))
 
   -- so with those that wait
   pub windows_unready : (q r y : ℕ) → k.sq_life q ≡ Some r → All (λ (x : ℕ). IsNew x (ready_tags (g.readies y))) (tags_of (g.windows r))
   windows_unready q r y life =
       All-map (λ (x : ℕ). IsNew x (ready_tags (g.readies y))) (λ (it : Item). it.tag) (g.windows r)
-      (All-weaker (IsWaitingIn slots q r) (λ (it : Item). IsNew it.tag (ready_tags (g.readies y))) (λ it w. new_to_ready it.tag 1 w.state (omega arith) y) (g.windows r) (h.has.window_items q r life))
+      (All-weaker (IsWaitingIn slots q r) (λ (it : Item). IsNew it.tag (ready_tags (g.readies y))) (λ it w. new_to_ready it.tag 1 w.state (omega arith) y) (g.windows r) (h.has.windows.items q r life))
 
   -- and the free ones
   pub free_unready : (y : ℕ) → All (λ (x : ℕ). IsNew x (ready_tags (g.readies y))) g.free
-  free_unready y = All-weaker (is_free slots) (λ (x : ℕ). IsNew x (ready_tags (g.readies y))) (λ x f. new_to_ready x 0 f (omega arith) y) g.free h.has.free_items
+  free_unready y = All-weaker (is_free slots) (λ (x : ℕ). IsNew x (ready_tags (g.readies y))) (λ x f. new_to_ready x 0 f (omega arith) y) g.free h.has.free.items
 
 module _ (rules : FrontRules) (notes : Notes) (a : Controller) (slots : List Slot) (k : Content) (g : Items) (h : Keeps rules notes a slots k g)
     (tag : ℕ) (loose : IsLoose slots g tag) (cqid region : ℕ) (life : k.cq_life cqid ≡ Some region) (t : Ready) (through : IsThrough notes t)
@@ -73,7 +73,7 @@ module _ (rules : FrontRules) (notes : Notes) (a : Controller) (slots : List Slo
   after = record a { cqs = slice_set a.cqs cqid state; readied = with_queue a.readied cqid true }
 
   there : cqid < length a.cqs
-  there = let size = h.numbers.cq_size in let within = h.numbers.few_cqs cqid region life in omega (arith, within)
+  there = let size = h.numbers.cqs.size in let within = h.numbers.cqs.few cqid region life in omega (arith, within)
 
   abbrev ready_content : CqContent
   ready_content = record (k.cq region) { ready = (k.cq region).ready ++ t ∷ [] }
@@ -83,14 +83,14 @@ module _ (rules : FrontRules) (notes : Notes) (a : Controller) (slots : List Slo
       → ((q x : ℕ) → q ≢ cqid → x ≢ region → k.cq_life q ≡ Some x → P q x (cq_at a.cqs q) (k.cq x))
       → (q x : ℕ) → k.cq_life q ≡ Some x → P q x (cq_at after.cqs q) (kept.cq x)
   each P here other =
-      put_cq-lives (λ q x s c (its : List ReadyItem). P q x s c) k.cq_life k.cq_id h.numbers.cq_ids a.cqs k.cq g.readies cqid region state ready_content [] life there here other
+      put_cq-lives (λ q x s c (its : List ReadyItem). P q x s c) k.cq_life k.cq_id h.numbers.cqs.ids a.cqs k.cq g.readies cqid region state ready_content [] life there here other
 
   -- with what is ready in it
   each_ready : (P : ℕ → ℕ → CqState → List ReadyItem → Type 0) → P cqid region state (g.readies region ++ ended tag t ∷ [])
       → ((q x : ℕ) → q ≢ cqid → x ≢ region → k.cq_life q ≡ Some x → P q x (cq_at a.cqs q) (g.readies x))
       → (q x : ℕ) → k.cq_life q ≡ Some x → P q x (cq_at after.cqs q) (later.readies x)
   each_ready P here other =
-      put_cq-lives (λ q x s (c : CqContent) its. P q x s its) k.cq_life k.cq_id h.numbers.cq_ids a.cqs k.cq g.readies cqid region state ready_content (g.readies region ++ ended tag t ∷ []) life there here other
+      put_cq-lives (λ q x s (c : CqContent) its. P q x s its) k.cq_life k.cq_id h.numbers.cqs.ids a.cqs k.cq g.readies cqid region state ready_content (g.readies region ++ ended tag t ∷ []) life there here other
 
   -- what is so of each completion region
   each_region : (P : ℕ → CqContent → List ReadyItem → Type 0) → P region ready_content (g.readies region ++ ended tag t ∷ [])
@@ -128,93 +128,86 @@ module _ (rules : FrontRules) (notes : Notes) (a : Controller) (slots : List Slo
     board_is = n.board_is;
     is_arbiter = n.is_arbiter;
     outstanding_is = n.outstanding_is;
-    sq_ids = n.sq_ids;
-    cq_ids = n.cq_ids;
-    sqs = λ q r is. let s = n.sqs q r is in record {
-      entry = s.entry;
-      in_table = s.in_table;
-      on = s.on;
-      to = s.to;
-      cq_region = s.cq_region;
-      cq_open = s.cq_open;
-      opened = s.opened;
-      held = s.held;
-      unposted = s.unposted;
-      slots = s.slots;
-      some = s.some;
+    sqs = n.sqs;
+    cqs = record {
+      ids = n.cqs.ids;
+      each = λ q x is. record {
+        slots = each (λ q x s c. s.ring.slots ≡ c.slots) (n.cqs.each cqid region life).slots (λ q x other apart is. (n.cqs.each q x is).slots) q x is;
+        some = each (λ q x s c. 0 < c.slots) (n.cqs.each cqid region life).some (λ q x other apart is. (n.cqs.each q x is).some) q x is;
+      };
+      few = n.cqs.few;
+      none = λ q. put_cq-states (λ (q : ℕ) (s : CqState). k.cq_life q ≡ None → s ≡ no_cq_state) a.cqs cqid state there (λ none. absurd (cc (none, life))) q (λ other. n.cqs.none q);
+      size = length-set a.cqs cqid state ∙ n.cqs.size;
+      readied = readied-put a.readied cqid true a.cqs state there n.cqs.readied (λ no. absurd (cc no));
     };
-    cqs = λ q x is. record {
-      slots = each (λ q x s c. s.ring.slots ≡ c.slots) (n.cqs cqid region life).slots (λ q x other apart is. (n.cqs q x is).slots) q x is;
-      some = each (λ q x s c. 0 < c.slots) (n.cqs cqid region life).some (λ q x other apart is. (n.cqs q x is).some) q x is;
-    };
-    few_sqs = n.few_sqs;
-    few_cqs = n.few_cqs;
-    no_sqs = n.no_sqs;
-    no_cqs = λ q. put_cq-states (λ (q : ℕ) (s : CqState). k.cq_life q ≡ None → s ≡ no_cq_state) a.cqs cqid state there (λ none. absurd (cc (none, life))) q (λ other. n.no_cqs q);
-    sq_size = n.sq_size;
-    cq_size = length-set a.cqs cqid state ∙ n.cq_size;
-    rung = n.rung;
-    readied = readied-put a.readied cqid true a.cqs state there n.readied (λ no. absurd (cc no));
   }
 
   items_after : HasItems after pool kept later
   items_after = let m = h.has in record {
-    window_chain = λ q r is. left _ _ (m.window_chain q r is) (windows_unready rules notes a slots k g h q r region is);
-    window_items = λ q r is. All-both (λ (it : Item). it.tag ≢ tag) (IsWaitingIn slots q r) (IsWaitingIn pool q r) (λ it. waiting_stays slots pool tag size others q r it) (g.windows r)
-        (All-unmap (λ (x : ℕ). x ≢ tag) (λ (it : Item). it.tag) (g.windows r) (loose.windows r)) (m.window_items q r is);
-    window_none = m.window_none;
-    window_is = m.window_is;
-    picked_there = m.picked_there;
-    outs_items = All-both (λ (it : Item). it.tag ≢ tag) (IsOutIn k.sq_id slots) (IsOutIn k.sq_id pool) (out_stays slots pool tag size others k.sq_id) g.outs
-        (All-unmap (λ (x : ℕ). x ≢ tag) (λ (it : Item). it.tag) g.outs loose.outs) m.outs_items;
-    outs_apart = m.outs_apart;
-    outs_all = λ x is. m.outs_all x (had_state x 2 (omega arith) is);
-    hand_is = m.hand_is;
-    ready_chain = each_ready (λ q x s its. IsChain pool s.ready (ready_tags its)) (subst (IsChain pool chain) (sym tags_are) linked)
-        (λ q x other apart is. left _ _ (m.ready_chain q x is) (h.apart x region apart));
-    ready_items = each_region (λ x c its. All (IsReadyIn k.sq_id pool) its) (All-push (IsReadyIn k.sq_id pool) (g.readies region) (ended tag t) (still region) ready) (λ x other. still x);
-    ready_none = each_region (λ x c its. k.cq_id x ≡ None → its ≡ []) (λ none. absurd (let id = h.numbers.cq_ids.ids_are cqid region life in cc (none, id))) (λ x other. m.ready_none x);
-    ready_is = each_region (λ x c its. c.ready ≡ readies_of its)
-        (ap (λ (ts : List Ready). ts ++ t ∷ []) (m.ready_is region) ∙ sym (map-append (λ (it : ReadyItem). it.ready) (g.readies region) (ended tag t ∷ [])))
-        (λ x other. m.ready_is x);
-    deletions = deletions_stay a.deletions a.pending_deletions slots pool k.sq_life k.deletion g.deletes tag size others loose.deletes m.deletions;
-    free_chain = left _ _ m.free_chain (free_unready rules notes a slots k g h region);
-    free_items = All-both (λ (x : ℕ). x ≢ tag) (is_free slots) (is_free pool) (λ x other. same_state slots pool tag size others x 0 other) g.free loose.free m.free_items;
+    windows = record {
+      chain = λ q r is. left _ _ (m.windows.chain q r is) (windows_unready rules notes a slots k g h q r region is);
+      items = λ q r is. All-both (λ (it : Item). it.tag ≢ tag) (IsWaitingIn slots q r) (IsWaitingIn pool q r) (λ it. waiting_stays slots pool tag size others q r it) (g.windows r)
+          (All-unmap (λ (x : ℕ). x ≢ tag) (λ (it : Item). it.tag) (g.windows r) (loose.windows r)) (m.windows.items q r is);
+      none = m.windows.none;
+      are = m.windows.are;
+      picked_there = m.windows.picked_there;
+    };
+    outs = record {
+      items = All-both (λ (it : Item). it.tag ≢ tag) (IsOutIn k.sq_id slots) (IsOutIn k.sq_id pool) (out_stays slots pool tag size others k.sq_id) g.outs
+          (All-unmap (λ (x : ℕ). x ≢ tag) (λ (it : Item). it.tag) g.outs loose.outs) m.outs.items;
+      apart = m.outs.apart;
+      all = λ x is. m.outs.all x (had_state x 2 (omega arith) is);
+      hand_is = m.outs.hand_is;
+    };
+    readies = record {
+      chain = each_ready (λ q x s its. IsChain pool s.ready (ready_tags its)) (subst (IsChain pool chain) (sym tags_are) linked)
+          (λ q x other apart is. left _ _ (m.readies.chain q x is) (h.apart x region apart));
+      items = each_region (λ x c its. All (IsReadyIn k.sq_id pool) its) (All-push (IsReadyIn k.sq_id pool) (g.readies region) (ended tag t) (still region) ready) (λ x other. still x);
+      none = each_region (λ x c its. k.cq_id x ≡ None → its ≡ []) (λ none. absurd (let id = h.numbers.cqs.ids.ids_are cqid region life in cc (none, id))) (λ x other. m.readies.none x);
+      are = each_region (λ x c its. c.ready ≡ readies_of its)
+          (ap (λ (ts : List Ready). ts ++ t ∷ []) (m.readies.are region) ∙ sym (map-append (λ (it : ReadyItem). it.ready) (g.readies region) (ended tag t ∷ [])))
+          (λ x other. m.readies.are x);
+    };
+    deletions = deletions_stay a.sqs a.pending_deletions slots pool k.sq_life k.deletion g.deletes tag size others loose.deletes m.deletions;
+    free = record {
+      chain = left _ _ m.free.chain (free_unready rules notes a slots k g h region);
+      items = All-both (λ (x : ℕ). x ≢ tag) (is_free slots) (is_free pool) (λ x other. same_state slots pool tag size others x 0 other) g.free loose.free m.free.items;
+    };
     few = subst (λ (n : ℕ). n < 2 ^ 16) (sym size) m.few;
   } where
     still : (x : ℕ) → All (IsReadyIn k.sq_id pool) (g.readies x)
     still x = All-both (λ (it : ReadyItem). it.tag ≢ tag) (IsReadyIn k.sq_id slots) (IsReadyIn k.sq_id pool) (ready_stays slots pool tag size others k.sq_id) (g.readies x)
-        (All-unmap (λ (y : ℕ). y ≢ tag) (λ (it : ReadyItem). it.tag) (g.readies x) (loose.readies x)) (h.has.ready_items x)
+        (All-unmap (λ (y : ℕ). y ≢ tag) (λ (it : ReadyItem). it.tag) (g.readies x) (loose.readies x)) (h.has.readies.items x)
 
   doorbells_after : HoldsDoorbells rules notes after kept
   doorbells_after = let d = h.doorbells in record {
     sqs = d.sqs;
-    cqs = each (λ q x s c. HasCounts s.ring (consumed rules notes x) (length (posted_to (logged notes) x))) (d.cqs cqid region life) (λ q x other apart is. d.cqs q x is);
-    phases = each (λ q x s c. (s.phase == 1) ≡ phase_after (length (posted_to (logged notes) x)) s.ring.slots) (d.phases cqid region life) (λ q x other apart is. d.phases q x is);
-    no_tails = d.no_tails;
-    no_heads = d.no_heads;
-    no_posts = d.no_posts;
+    cqs = record {
+      each = each (λ q x s c. HasCounts s.ring (consumed rules notes x) (length (posted_to (logged notes) x))) (d.cqs.each cqid region life) (λ q x other apart is. d.cqs.each q x is);
+      phases = each (λ q x s c. (s.phase == 1) ≡ phase_after (length (posted_to (logged notes) x)) s.ring.slots) (d.cqs.phases cqid region life) (λ q x other apart is. d.cqs.phases q x is);
+      no_heads = d.cqs.no_heads;
+      no_posts = d.cqs.no_posts;
+    };
   }
 
   tags_after : HoldsTags notes after pool kept later
   tags_after = let m = h.tags in record {
     untaken_are = m.untaken_are;
-    outs_held = m.outs_held;
-    readies_held = each_region (λ x c its. All (λ (y : ReadyItem). y.was_out ≡ true → holder notes y.tag ≡ Some y.ready.place) its)
-        (All-push (λ (y : ReadyItem). y.was_out ≡ true → holder notes y.tag ≡ Some y.ready.place) (g.readies region) (ended tag t) (m.readies_held region) (λ no. absurd (cc no)))
-        (λ x other. m.readies_held x);
-    none_held = λ x not_out not_answered. elim (cases_eq x tag) [
-      | inl same ↦ subst (λ (y : ℕ). holder notes y ≡ None) (sym same) (m.none_held tag loose.not_out loose.not_answered)
-      | inr other ↦ let state = ap (λ (s : Slot). s.state) (others x other) in
-          m.none_held x (λ e. not_out (state ∙ e)) (λ e. not_answered (state ∙ e))
-    ];
+    held = record {
+      outs = m.held.outs;
+      readies = each_region (λ x c its. All (λ (y : ReadyItem). y.was_out ≡ true → holder notes y.tag ≡ Some y.ready.place) its)
+          (All-push (λ (y : ReadyItem). y.was_out ≡ true → holder notes y.tag ≡ Some y.ready.place) (g.readies region) (ended tag t) (m.held.readies region) (λ no. absurd (cc no)))
+          (λ x other. m.held.readies x);
+      none = λ x not_out not_answered. elim (cases_eq x tag) [
+        | inl same ↦ subst (λ (y : ℕ). holder notes y ≡ None) (sym same) (m.held.none tag loose.not_out loose.not_answered)
+        | inr other ↦ let state = ap (λ (s : Slot). s.state) (others x other) in
+            m.held.none x (λ e. not_out (state ∙ e)) (λ e. not_answered (state ∙ e))
+      ];
+      answered = λ x is. m.held.answered x (had_state x 3 (omega arith) is);
+    };
     through = each_region (λ x c its. All (λ (y : ReadyItem). IsThrough notes y.ready) its)
         (All-push (λ (y : ReadyItem). IsThrough notes y.ready) (g.readies region) (ended tag t) (m.through region) through) (λ x other. m.through x);
-    windows_unanswered = m.windows_unanswered;
-    outs_unanswered = m.outs_unanswered;
-    deletes_unanswered = m.deletes_unanswered;
-    none_answered = m.none_answered;
-    answered_held = λ x is. m.answered_held x (had_state x 3 (omega arith) is);
+    unanswered = m.unanswered;
     hand_entries = m.hand_entries;
     free_count = m.free_count ∙ ap (λ (n : ℕ). n + all_posts (logged notes)) (sym size);
     cookies = cookies_after;
@@ -224,9 +217,11 @@ module _ (rules : FrontRules) (notes : Notes) (a : Controller) (slots : List Slo
       readies = each_region (λ x c its. All (IsReadyOf notes) its) (All-push (IsReadyOf notes) (g.readies region) (ended tag t) (p.readies region) passed_as) (λ x other. p.readies x);
       deletes = p.deletes;
     });
-    none_flagged = m.none_flagged;
-    flags = each_region (λ x c its. All (HasFlags notes) its)
-        (All-push (HasFlags notes) (g.readies region) (ended tag t) (m.flags region) (ap (λ (o : Option StatusFlags). flags_or t.status o) (sym unflagged))) (λ x other. m.flags x);
+    flagged = record {
+      none = m.flagged.none;
+      readies = each_region (λ x c its. All (HasFlags notes) its)
+          (All-push (HasFlags notes) (g.readies region) (ended tag t) (m.flagged.readies region) (ap (λ (o : Option StatusFlags). flags_or t.status o) (sym unflagged))) (λ x other. m.flagged.readies x);
+    };
   } where
     cookies_after : HoldsCookies notes pool later
     cookies_after = let q = h.tags.cookies in record {
@@ -318,7 +313,7 @@ keeps_end rules notes a b slots mid pool k g t tag state cqid dw0 status chain h
       linked : IsChain mid (cq_at a.cqs cqid).ready (ready_tags (g.readies region))
       linked =
           subst (λ (xs : List Slot). IsChain xs (cq_at a.cqs cqid).ready (ready_tags (g.readies region))) (sym put)
-          (chain-put_item slots (cq_at a.cqs cqid).ready (ready_tags (g.readies region)) tag put_slot (h.has.ready_chain cqid region life))
+          (chain-put_item slots (cq_at a.cqs cqid).ready (ready_tags (g.readies region)) tag put_slot (h.has.readies.chain cqid region life))
 
       left : SameLinks (ready_tags (g.readies region)) slots pool
       left x new = p.links (ready_tags (g.readies region)) linked x new ∙ ap (λ (xs : List Slot). next_at xs x) put ∙ next_at-put_item slots tag put_slot x
@@ -326,7 +321,7 @@ keeps_end rules notes a b slots mid pool k g t tag state cqid dw0 status chain h
       -- the chain and the slot are no more than the pool
       room : length (ready_tags (g.readies region)) + 1 < 2 ^ 16
       room =
-          let was = h.has.ready_chain cqid region life in
+          let was = h.has.readies.chain cqid region life in
           let all = length-apart (length slots) (tag ∷ ready_tags (g.readies region)) (loose.readies region, was.apart)
           (All-cons (λ (x : ℕ). x < length slots) tag (ready_tags (g.readies region)) loose.inside was.inside) in
           let few = h.has.few in

@@ -1,9 +1,9 @@
 -- A fetch from a queue: when it may be made, and that the controller stands at its log afterwards.
-use Rattle.std.proofs.Common.{◌≡◌, ◌≢◌, ℕ, ◌+◌, ◌-◌, ◌%◌, ◌^◌, ◌<◌, ◌≤◌, ◌==◌, not, Bool, false, if◌then◌else◌, List, [], ◌∷◌, ◌++◌, length, map, take, drop, Option, Some, None, refl, sym, ap, ◌∙◌, subst, arith, inl, inr, length-append, length-drop, true, ◌&&◌}
+use Rattle.std.proofs.Common.{◌≡◌, ◌≢◌, ℕ, ◌+◌, ◌-◌, ◌%◌, ◌^◌, ◌<◌, ◌≤◌, ◌==◌, not, Bool, false, if◌then◌else◌, List, [], ◌∷◌, ◌++◌, length, map, take, drop, Option, Some, None, refl, sym, ap, ◌∙◌, subst, arith, inl, inr, length-append, length-drop, true, ◌&&◌, is_some}
 use Rattle.std.specs.Prelude.{slice_set, IsTrue, IsSomeAnd, IfSome, option_map, unwrap_or}
 use Rattle.std.specs.List.{All}
 use Rattle.std.proofs.lemmas.Bool.{cases_eq, eq-eqb, ne_eqb, and_parts, eqb-true}
-use Rattle.std.proofs.lemmas.List.{length-map, length-set, map-append, take-append-le, drop-append-le}
+use Rattle.std.proofs.lemmas.List.{length-map, map-append, take-append-le, drop-append-le}
 use Rattle.std.proofs.lemmas.List.Elements.{All-nil, All-head, All-tail, All-same, All-cons, All-weaker, All-push}
 use Rattle.std.proofs.lemmas.Option.{same_Some}
 use Rattle.nvme_entry.specs.declared.submission.Sqe.{Sqe}
@@ -15,9 +15,7 @@ use Rattle.nvme_arbiter.specs.declared.arbiter_fields.ArbiterFields.{ArbiterFiel
 use Rattle.nvme_arbiter.specs.declared.board_fields.BoardFields.{BoardFields}
 use Rattle.nvme_arbiter.specs.declared.pick.OpenQueue.{OpenQueue}
 use Rattle.nvme_admin.specs.QueueTable.{QueueTable}
-use Rattle.nvme_admin.specs.Standing.{sq_of}
 use Rattle.nvme_admin.specs.declared.verdict.SqEntry.{SqEntry}
-use Rattle.nvme_placing.specs.Telling.{Tells, content_of}
 use Rattle.nvme_log.specs.declared.event.Event.TheVariants.{Fetch}
 use Rattle.nvme_log.specs.Limits.{window_of}
 use Rattle.nvme_log.specs.Rules.{FrontRules, Past}
@@ -39,26 +37,26 @@ use Rattle.nvme_ctrl.specs.declared.state.SqState.{SqState}
 use Rattle.nvme_ctrl.specs.declared.state.Controller.{Controller}
 use Rattle.nvme_ctrl_content.specs.Content.{Candidate, SqContent, Content}
 use Rattle.nvme_ctrl.specs.inside.Fetching.{IsFetchable, filled, waiting_in}
-use Rattle.nvme_ctrl.specs.kept.Kept.{Item, Items, HasNumbers, HasItems, HoldsDoorbells, HoldsTags, StandsAt, IsWaitingIn, IsOutIn, IsUnanswered, HasEntry, is_free, tags_of, ready_tags, places_of, candidate_of, picked_region, picked_of, untaken, ReadyItem, IsReadyIn, IsCookie, HasCookie, HasReadyCookie, HoldsCookies, ready_state}
+use Rattle.nvme_ctrl.specs.kept.Kept.{Item, Items, HasNumbers, HasItems, HoldsDoorbells, HoldsTags, StandsAt, IsWaitingIn, IsOutIn, IsUnanswered, HasEntry, is_free, tags_of, ready_tags, places_of, candidate_of, picked_region, picked_of, untaken, ReadyItem, IsReadyIn, IsCookie, HasCookie, HasReadyCookie, HoldsCookies, ready_state, IsSq, shown_in}
 use Rattle.nvme_slots.specs.Pool.{slot_at, item_at, put_item, IsNew, AreApart, IsChain, SameItems, SameLinks}
 use Rattle.nvme_ctrl_content.specs.Standing.{Holds, counted_on, on_board}
 use Rattle.nvme_ctrl.specs.kept.State.{sq_at, cq_at, picked_in}
 use Rattle.nvme_ctrl.proofs.Passed.{passed_left, passed_later}
 use Rattle.nvme_log.proofs.Turns.{stays}
 use Rattle.nvme_ctrl_content.proofs.AfterSteps.{CanFetch, fetched_sq, came_board, after_fetch}
-use Rattle.nvme_ctrl.proofs.DoorbellCalls.{queue_of, is_open, sq_lives, sq_there, slots_are}
+use Rattle.nvme_ctrl.proofs.DoorbellCalls.{queue_of, is_open, unclosing_is_open, sq_lives, sq_there, slots_are}
 use Rattle.nvme_ctrl_content.proofs.NextEvents.{next-fetch}
 use Rattle.nvme_slots.proofs.Pools.{length-put_item, item_at-put_item_same, item_at-put_item_other, chain-put_item, chain-other, length-apart}
 use Rattle.nvme_ctrl.proofs.Lives.{put_sq-lives}
-use Rattle.nvme_ctrl.proofs.QueueStates.{IsSqWith, sq_with, sq_of_with, put_content-each, put_sq-none}
+use Rattle.nvme_ctrl.proofs.QueueStates.{put_content-each, put_sqs, sq_changed, shown_put}
 use Rattle.nvme_ctrl_log.proofs.ServedPlaces.{entry_stays}
 use Rattle.nvme_ctrl.proofs.SlotItems.{out_stays, all_waiting_stay, all_ready_stay, same_state, All-both, ready_state-range}
 use Rattle.nvme_ctrl.proofs.SlotStates.{window-states, window-queues, ready-states, apart-by}
 use Rattle.nvme_ctrl_log.proofs.OutTags.{still_not_out-logged}
 use Rattle.nvme_ctrl_content.proofs.Standing.{holds-fetch}
-use Rattle.nvme_ctrl_log.proofs.ToldQueues.{told_some, closing_same}
 use Rattle.nvme_slots.proofs.Turns.{filled-is}
-use Rattle.nvme_ctrl.proofs.PendingDeletions.{deletions_stay}
+use Rattle.nvme_ctrl_content.proofs.DeletingRegions.{put-same, put-other}
+use Rattle.nvme_ctrl.proofs.PendingDeletions.{deletions_stay, deletions_kept}
 use Rattle.nvme_ctrl.specs.kept.QueueSets.{with_queue}
 use Rattle.nvme_ctrl.proofs.QueueSets.{rung-put, not_false}
 
@@ -66,13 +64,13 @@ use Rattle.nvme_ctrl.proofs.QueueSets.{rung-put, not_false}
 module _ (rules : FrontRules) (late : Bool) (notes : Notes) (c : Controller) (slots : List Slot) (s : StandsAt rules late notes c slots) where
   -- so many of a queue are picked
   pub picked_are : (q r : ℕ) → s.content.sq_life q ≡ Some r → picked_of c (s.content.sq_id r) ≡ picked_in c q
-  picked_are q r life = ap (picked_of c) (s.numbers.sq_ids.ids_are q r life)
+  picked_are q r life = ap (picked_of c) (s.numbers.sqs.ids.ids_are q r life)
 
   pub waiting_are : (q r : ℕ) → s.content.sq_life q ≡ Some r → length (s.content.sq r).window ≡ waiting_in c q
   waiting_are q r life =
       let len : (sq_at c.sqs q).window.len ≡ length (s.items.windows r) =
-      (s.has.window_chain q r life).len_is ∙ length-map (s.items.windows r) (λ (it : Item). it.tag) in
-      ap (λ (xs : List Candidate). length xs) (s.has.window_is r)
+      (s.has.windows.chain q r life).len_is ∙ length-map (s.items.windows r) (λ (it : Item). it.tag) in
+      ap (λ (xs : List Candidate). length xs) (s.has.windows.are r)
       ∙ length-map (drop (picked_of c (s.content.sq_id r)) (s.items.windows r)) candidate_of
       ∙ length-drop (picked_of c (s.content.sq_id r)) (s.items.windows r)
       ∙ ap (λ (n : ℕ). length (s.items.windows r) - n) (picked_are q r life)
@@ -87,10 +85,10 @@ module _ (rules : FrontRules) (late : Bool) (notes : Notes) (c : Controller) (sl
   pub all_wait : (r : ℕ) → All (λ (it : Item). (slot_at slots it.tag).state ≡ 1) (s.items.windows r)
   all_wait r = by (s.content.sq_id r) refl where
     by : (o : Option ℕ) → s.content.sq_id r ≡ o → All (λ (it : Item). (slot_at slots it.tag).state ≡ 1) (s.items.windows r)
-    by None is = subst (λ (its : List Item). All (λ (it : Item). (slot_at slots it.tag).state ≡ 1) its) (sym (s.has.window_none r is))
+    by None is = subst (λ (its : List Item). All (λ (it : Item). (slot_at slots it.tag).state ≡ 1) its) (sym (s.has.windows.none r is))
         (All-nil (λ (it : Item). (slot_at slots it.tag).state ≡ 1))
     by (Some q) is = All-weaker (IsWaitingIn slots q r) (λ (it : Item). (slot_at slots it.tag).state ≡ 1) (λ it w. w.state) (s.items.windows r)
-        (s.has.window_items q r (s.numbers.sq_ids.lives_are r q is))
+        (s.has.windows.items q r (s.numbers.sqs.ids.lives_are r q is))
 
 -- ---- when a fetch may be made
 -- a count that is below a number is so of a queue that is held or not
@@ -119,20 +117,23 @@ pub record IsToldFetchable (c : Controller) (t : QueueTable) (qid : ℕ) : Type 
   pub entry : SqEntry
   pub can : CanBeFetched c t qid entry
 
-pub told_fetchable : (c : Controller) (t : QueueTable) → Tells c.table t → (qid : ℕ) (e : SqEntry) → IsFetchable c qid e → IsToldFetchable c t qid
-told_fetchable c t tells qid e can =
-    let told_as = told_some (sq_of (content_of c.table) qid) (t.sq qid) (tells.sq qid) e can.in_table in
-    record {
-      entry = told_as.entry;
-      can = record {
-        in_table = told_as.is_there;
-        not_closing = closing_same e told_as.entry told_as.same ∙ can.not_closing;
-        some_free = can.some_free;
-        some_submitted = can.some_submitted;
-        in_depth = can.in_depth;
-        room = can.room;
-      };
-    }
+pub told_fetchable : (rules : FrontRules) (late : Bool) (notes : Notes) (c : Controller) (slots : List Slot) (s : StandsAt rules late notes c slots) (qid : ℕ) → IsFetchable c qid → IsToldFetchable c s.content.table qid
+told_fetchable rules late notes c slots s qid can = by (s.content.sq_life qid) refl where
+  by : (o : Option ℕ) → s.content.sq_life qid ≡ o → IsToldFetchable c s.content.table qid
+  by None none = absurd (can.some_submitted (ap (λ (state : SqState). filled state.ring) (s.numbers.sqs.none qid none)))
+  by (Some r) life =
+      let it = unclosing_is_open rules late notes c slots s qid r life can.not_closing in
+      record {
+        entry = it.entry;
+        can = record {
+          in_table = it.in_table;
+          not_closing = it.opened;
+          some_free = can.some_free;
+          some_submitted = can.some_submitted;
+          in_depth = can.in_depth;
+          room = can.room;
+        };
+      }
 
 module _ (rules : FrontRules) (late : Bool) (notes : Notes) (c : Controller) (slots : List Slot) (s : StandsAt rules late notes c slots)
     (qid : ℕ) (e : SqEntry) (can : CanBeFetched c s.content.table qid e)
@@ -145,16 +146,16 @@ module _ (rules : FrontRules) (late : Bool) (notes : Notes) (c : Controller) (sl
 
     -- there is a place for its state
     pub few_queues : qid < 65
-    few_queues = s.numbers.few_sqs qid e.region (s.holds.lives.sqs qid (queue_of e) fetch_open)
+    few_queues = s.numbers.sqs.few qid e.region (s.holds.lives.sqs qid (queue_of e) fetch_open)
 
     pub can_fetch : CanFetch (logged notes) s.content qid (queue_of e)
     can_fetch = record {
       is_open = fetch_open;
-      room = rw (waiting_are rules late notes c slots s qid e.region fetch_life, ← (s.numbers.sqs qid e.region fetch_life).slots) can.room;
+      room = rw (waiting_are rules late notes c slots s qid e.region fetch_life, ← (s.numbers.sqs.each qid e.region fetch_life).slots) can.room;
     }
 
     fetch_counts : HasCounts (sq_at c.sqs qid).ring (length (fetched (logged notes) e.region)) (submitted rules notes e.region)
-    fetch_counts = s.doorbells.sqs qid e.region fetch_life
+    fetch_counts = s.doorbells.sqs.each qid e.region fetch_life
 
     pub more_submitted : length (fetched (logged notes) e.region) < submitted rules notes e.region
     more_submitted =
@@ -167,7 +168,7 @@ module _ (rules : FrontRules) (late : Bool) (notes : Notes) (c : Controller) (sl
       queue = queue_of e;
       is_open = fetch_open;
       submitted = more_submitted;
-      in_depth = (let w = waits rules late notes c slots s qid e.region fetch_life in let u = (s.numbers.sqs qid e.region fetch_life).unposted in let all = s.holds.counts.unposted e.region in let room = can.in_depth in omega (arith, w, u, all, room));
+      in_depth = (let w = waits rules late notes c slots s qid e.region fetch_life in let u = (s.numbers.sqs.each qid e.region fetch_life).unposted in let all = s.holds.counts.unposted e.region in let room = can.in_depth in omega (arith, w, u, all, room));
       has_room = rw (waits rules late notes c slots s qid e.region fetch_life, ← slots_are rules late notes c slots s qid e.region fetch_life) can.room;
       some_free = let some = can.some_free in let count = s.tags.free_count in omega (arith, some, count);
       slot_is = fetch_counts.head_is ∙ ap (λ (n : ℕ). length (fetched (logged notes) e.region) % n) (slots_are rules late notes c slots s qid e.region fetch_life);
@@ -258,21 +259,21 @@ module _ (rules : FrontRules) (late : Bool) (notes : Notes) (c : Controller) (sl
     life = fetch_life rules late notes c slots s qid e can
 
     its_items : All (IsWaitingIn slots qid e.region) (s.items.windows e.region)
-    its_items = s.has.window_items qid e.region life
+    its_items = s.has.windows.items qid e.region life
 
     its_chain : IsChain slots (sq_at c.sqs qid).window (tags_of (s.items.windows e.region))
-    its_chain = s.has.window_chain qid e.region life
+    its_chain = s.has.windows.chain qid e.region life
 
     first_free : IsPopped slots s.items.free free tag
-    first_free = popped slots c.free free tag s.items.free s.has.free_chain can.some_free f.is_first f.free_left
+    first_free = popped slots c.free free tag s.items.free s.has.free.chain can.some_free f.is_first f.free_left
 
     -- ---- the slot
     was_free : (slot_at slots tag).state ≡ 0
-    was_free = All-head (is_free slots) tag first_free.rest (All-same (is_free slots) (tag ∷ first_free.rest) s.items.free (sym first_free.are) s.has.free_items)
+    was_free = All-head (is_free slots) tag first_free.rest (All-same (is_free slots) (tag ∷ first_free.rest) s.items.free (sym first_free.are) s.has.free.items)
 
     tag_there : tag < length slots
     tag_there = All-head (λ (x : ℕ). x < length slots) tag first_free.rest
-        (All-same (λ (x : ℕ). x < length slots) (tag ∷ first_free.rest) s.items.free (sym first_free.are) s.has.free_chain.inside)
+        (All-same (λ (x : ℕ). x < length slots) (tag ∷ first_free.rest) s.items.free (sym first_free.are) s.has.free.chain.inside)
 
     size : length pool ≡ length slots
     size = f.items.size ∙ length-put_item slots tag slot
@@ -325,7 +326,7 @@ module _ (rules : FrontRules) (late : Bool) (notes : Notes) (c : Controller) (sl
     other_windows p x other is =
         apart-by (λ (t : ℕ). (slot_at slots t).sqid ≡ p) (λ (t : ℕ). (slot_at slots t).sqid ≡ qid) (λ t here there. other (sym here ∙ there))
         (tags_of (s.items.windows x)) (tags_of (s.items.windows e.region))
-        (window-queues slots p x (s.items.windows x) (s.has.window_items p x is)) (window-queues slots qid e.region (s.items.windows e.region) its_items)
+        (window-queues slots p x (s.items.windows x) (s.has.windows.items p x is)) (window-queues slots qid e.region (s.items.windows e.region) its_items)
 
     -- ---- what is so of each queue
     there : qid < length c.sqs
@@ -354,7 +355,7 @@ module _ (rules : FrontRules) (late : Bool) (notes : Notes) (c : Controller) (sl
         → ((p x : ℕ) → p ≢ qid → x ≢ e.region → s.content.sq_life p ≡ Some x → P p x (sq_at c.sqs p) (s.content.sq x) (s.items.windows x))
         → (p x : ℕ) → s.content.sq_life p ≡ Some x → P p x (sq_at after.sqs p) (content.sq x) (items.windows x)
     each_queue P here others =
-        put_sq-lives P s.content.sq_life s.content.sq_id s.numbers.sq_ids c.sqs s.content.sq s.items.windows qid e.region (fetched_state (sq_at c.sqs qid) window ring)
+        put_sq-lives P s.content.sq_life s.content.sq_id s.numbers.sqs.ids c.sqs s.content.sq s.items.windows qid e.region (fetched_state (sq_at c.sqs qid) window ring)
         (fetched_sq (s.content.sq e.region) entry) (s.items.windows e.region ++ item ∷ []) life there here others
 
     -- and of each region
@@ -373,24 +374,14 @@ module _ (rules : FrontRules) (late : Bool) (notes : Notes) (c : Controller) (sl
         })) on f.came in
         came
         ∙ ap (λ (n : ℕ). record (board_of c.board) { queues = slice_set (board_of c.board).queues qid (Some (record (on_board s.content (queue_of e)) { count = n })) })
-        (came_on f.held (s.content.held e.region) (length (s.content.sq e.region).window) (f.held_is ∙ (s.numbers.sqs qid e.region life).held))
+        (came_on f.held (s.content.held e.region) (length (s.content.sq e.region).window) (f.held_is ∙ (s.numbers.sqs.each qid e.region life).held))
         ∙ ap (λ (b : BoardView). record b { queues = slice_set b.queues qid (Some (counted_on s.content (queue_of e) (length (s.content.sq e.region).window + 1))) })
         s.numbers.board_is
 
-    fetched_with : IsSqWith s.content.table s.content.cq_life qid e.region (fetched_state (sq_at c.sqs qid) window ring) (fetched_sq (s.content.sq e.region) entry) (s.content.held e.region)
-    fetched_with = let h = s.numbers.sqs qid e.region life in record {
-      entry = h.entry;
-      in_table = h.in_table;
-      on = h.on;
-      to = h.to;
-      cq_region = h.cq_region;
-      cq_open = h.cq_open;
-      opened = h.opened;
-      held_is = h.held;
-      unposted = h.unposted;
-      slots = f.same_slots ∙ h.slots;
-      some = h.some;
-    }
+    -- the queue was shown, and so the same are
+    still_shown : (p : ℕ) → shown_in content.board p ≡ shown_in s.content.board p
+    still_shown = shown_put s.content.board.queues qid (Some (counted_on s.content (queue_of e) (length (s.content.sq e.region).window + 1)))
+        (sym (ap (λ (o : Option OpenQueue). is_some o) (ap (λ (b : BoardView). queue_at b.queues qid) (sym s.numbers.board_is) ∙ on_its_board rules late notes c slots s qid e can)))
 
     numbers_now : HasNumbers after content
     numbers_now =
@@ -400,20 +391,14 @@ module _ (rules : FrontRules) (late : Bool) (notes : Notes) (c : Controller) (sl
           board_is = board_now;
           is_arbiter = subst (λ (a : ArbiterFields). IsTrue (is_arbiter a)) (sym f.arbiter) n.is_arbiter;
           outstanding_is = n.outstanding_is;
-          sq_ids = n.sq_ids;
-          cq_ids = n.cq_ids;
-          sqs = λ p x is. sq_of_with after content p x
-              (each_queue (λ p x state k xs. IsSqWith s.content.table s.content.cq_life p x state k (s.content.held x)) fetched_with
-              (λ p x other apart is. sq_with c s.content p x (n.sqs p x is)) p x is);
-          cqs = λ p x is. (let h = n.cqs p x is in record { slots = h.slots; some = h.some });
-          few_sqs = n.few_sqs;
-          few_cqs = n.few_cqs;
-          no_sqs = put_sq-none c s.content n qid e.region life (fetched_state (sq_at c.sqs qid) window ring);
-          no_cqs = n.no_cqs;
-          sq_size = length-set c.sqs qid (fetched_state (sq_at c.sqs qid) window ring) ∙ n.sq_size;
-          cq_size = n.cq_size;
-          rung = rung-put c.rung qid (not (ring.head == ring.tail)) c.sqs (fetched_state (sq_at c.sqs qid) window ring) there n.rung (λ same. eqb-true ring.head ring.tail (not_false (ring.head == ring.tail) same));
-          readied = n.readied;
+          sqs = (let h = n.sqs.each qid e.region life in let state : SqState = fetched_state (sq_at c.sqs qid) window ring in let more : SqContent = fetched_sq (s.content.sq e.region) entry in
+              put_sqs c s.content n qid e.region life state (with_queue c.rung qid (not (ring.head == ring.tail))) content.sq s.content.held (shown_in content.board)
+              (subst (λ (x : SqContent). IsSq s.content.table s.content.cq_life qid e.region state x (s.content.held e.region) (shown_in content.board qid)) (sym (put-same s.content.sq e.region more))
+              (sq_changed s.content.table s.content.cq_life qid e.region (sq_at c.sqs qid) state (s.content.sq e.region) more (s.content.held e.region) (s.content.held e.region)
+              (shown_in s.content.board qid) (shown_in content.board qid) h refl f.same_slots h.unposted refl refl h.held (h.shown ∙ sym (still_shown qid))))
+              (λ x other. put-other s.content.sq e.region more x other) (λ x other. refl) (λ p other. still_shown p)
+              (rung-put c.rung qid (not (ring.head == ring.tail)) c.sqs state there n.sqs.rung (λ same. eqb-true ring.head ring.tail (not_false (ring.head == ring.tail) same))));
+          cqs = n.cqs;
         }
 
     -- ---- the commands
@@ -421,7 +406,7 @@ module _ (rules : FrontRules) (late : Bool) (notes : Notes) (c : Controller) (sl
     picked_le = rw (picked_are rules late notes c slots s qid e.region life) (elim (cases_eq qid c.picked_qid) [
       | inl same ↦
           let region : picked_region c s.content ≡ e.region = ap (λ (o : Option ℕ). unwrap_or o 0) (subst (λ (p : ℕ). s.content.sq_life p ≡ Some e.region) same life) in
-          rw (eq-eqb qid c.picked_qid same) (subst (λ (x : ℕ). c.picked ≤ length (s.items.windows x)) region s.has.picked_there)
+          rw (eq-eqb qid c.picked_qid same) (subst (λ (x : ℕ). c.picked ≤ length (s.items.windows x)) region s.has.windows.picked_there)
       | inr other ↦ rw (ne_eqb qid c.picked_qid other) (omega arith)
     ])
 
@@ -429,7 +414,7 @@ module _ (rules : FrontRules) (late : Bool) (notes : Notes) (c : Controller) (sl
     window_now =
         let n : ℕ = picked_of c (s.content.sq_id e.region) in
         let xs : List Item = s.items.windows e.region in
-        ap (λ (cs : List Candidate). cs ++ record { index = index; entry = entry } ∷ []) (s.has.window_is e.region)
+        ap (λ (cs : List Candidate). cs ++ record { index = index; entry = entry } ∷ []) (s.has.windows.are e.region)
         ∙ sym (ap (λ (ys : List Item). map candidate_of ys) (drop-append-le n xs (item ∷ []) picked_le) ∙ map-append candidate_of (drop n xs) (item ∷ []))
 
     item_now : IsWaitingIn pool qid e.region item
@@ -442,12 +427,12 @@ module _ (rules : FrontRules) (late : Bool) (notes : Notes) (c : Controller) (sl
 
     windows_left : (p x : ℕ) → s.content.sq_life p ≡ Some x → All (IsWaitingIn pool p x) (s.items.windows x)
     windows_left p x is =
-        all_waiting_stay slots pool tag size left p x (s.items.windows x) (λ is. (let zero = was_free in omega (arith, zero, is))) (s.has.window_items p x is)
+        all_waiting_stay slots pool tag size left p x (s.items.windows x) (λ is. (let zero = was_free in omega (arith, zero, is))) (s.has.windows.items p x is)
 
     untaken_left : untaken after content items ≡ untaken c s.content s.items
     untaken_left =
         each_region (λ x k xs. c.picked ≤ length (s.items.windows x) → take c.picked xs ≡ take c.picked (s.items.windows x))
-        (λ le. take-append-le c.picked (s.items.windows e.region) (item ∷ []) le) (λ x other le. refl) (picked_region c s.content) s.has.picked_there
+        (λ le. take-append-le c.picked (s.items.windows e.region) (item ∷ []) le) (λ x other le. refl) (picked_region c s.content) s.has.windows.picked_there
 
     longer : length (s.items.windows (picked_region c s.content)) ≤ length (items.windows (picked_region c s.content))
     longer =
@@ -458,10 +443,10 @@ module _ (rules : FrontRules) (late : Bool) (notes : Notes) (c : Controller) (sl
     not_new x n is differs same = differs (sym is ∙ ap (λ (y : ℕ). (slot_at pool y).state) same ∙ ap (λ (y : Slot). y.state) now ∙ f.state)
 
     rest_apart : IsNew tag first_free.rest
-    rest_apart = (subst (λ (xs : List ℕ). AreApart xs) first_free.are s.has.free_chain.apart).0
+    rest_apart = (subst (λ (xs : List ℕ). AreApart xs) first_free.are s.has.free.chain.apart).0
 
     rest_free : All (is_free slots) first_free.rest
-    rest_free = All-tail (is_free slots) tag first_free.rest (All-same (is_free slots) (tag ∷ first_free.rest) s.items.free (sym first_free.are) s.has.free_items)
+    rest_free = All-tail (is_free slots) tag first_free.rest (All-same (is_free slots) (tag ∷ first_free.rest) s.items.free (sym first_free.are) s.has.free.items)
 
     both_free : All (λ (x : ℕ). x ≢ tag × is_free slots x) first_free.rest
     both_free k d below = (rest_apart k d below, rest_free k d below)
@@ -470,31 +455,40 @@ module _ (rules : FrontRules) (late : Bool) (notes : Notes) (c : Controller) (sl
     items_now =
         let h = s.has in
         record {
-          window_chain = each_queue (λ p x state k xs. IsChain pool state.window (tags_of xs))
-              (subst (IsChain pool window) (sym (map-append (λ (it : Item). it.tag) (s.items.windows e.region) (item ∷ []))) pushed_chain)
-              (λ p x other apart is. chain_left (sq_at c.sqs p).window (tags_of (s.items.windows x)) (h.window_chain p x is) (other_windows p x other is));
-          window_items = each_queue (λ p x state k xs. All (IsWaitingIn pool p x) xs)
-              (All-push (IsWaitingIn pool qid e.region) (s.items.windows e.region) item (windows_left qid e.region life) item_now) (λ p x other apart is. windows_left p x is);
-          window_none = each_region (λ x k xs. s.content.sq_id x ≡ None → xs ≡ [])
-              (λ none. absurd (let here = s.numbers.sq_ids.ids_are qid e.region life in cc (none, here))) (λ x other. h.window_none x);
-          window_is = each_region (λ x k xs. k.window ≡ map candidate_of (drop (picked_of c (s.content.sq_id x)) xs)) window_now (λ x other. h.window_is x);
-          picked_there = let le = h.picked_there in omega (arith, le, longer);
-          outs_items = All-weaker (IsOutIn s.content.sq_id slots) (IsOutIn s.content.sq_id pool)
-              (λ it w. out_stays slots pool tag size left s.content.sq_id it (other_than it.tag 2 w.state (omega arith)) w) s.items.outs h.outs_items;
-          outs_apart = h.outs_apart;
-          outs_all = λ x is. h.outs_all x (sym (ap (λ (y : Slot). y.state) (left x (not_new x 2 is (λ same. omega (arith, same))))) ∙ is);
-          hand_is = h.hand_is ∙ ap (λ (xs : List Item). places_of (s.items.outs ++ xs)) (sym untaken_left);
-          ready_chain = λ p x is. chain_left (cq_at c.cqs p).ready (ready_tags (s.items.readies x)) (h.ready_chain p x is)
-              (elsewhere (ready_tags (s.items.readies x)) (All-weaker (λ (t : ℕ). 3 ≤ (slot_at slots t).state) (λ (t : ℕ). (slot_at slots t).state ≢ 1)
-              (λ t least is. omega (arith, least, is)) (ready_tags (s.items.readies x)) (ready-states s.content.sq_id slots (s.items.readies x) (h.ready_items x))));
-          ready_items = λ x. all_ready_stay slots pool tag size left s.content.sq_id (s.items.readies x) (let zero = was_free in omega (arith, zero)) (h.ready_items x);
-          ready_none = h.ready_none;
-          ready_is = h.ready_is;
-          deletions = deletions_stay c.deletions c.pending_deletions slots pool s.content.sq_life s.content.deletion s.items.deletes tag size left
-              (λ r d at. other_than d.tag 6 (h.deletions.items r d at).state (omega arith)) h.deletions;
-          free_chain = chain_left free first_free.rest first_free.chain
-              (elsewhere first_free.rest (All-weaker (is_free slots) (λ (t : ℕ). (slot_at slots t).state ≢ 1) (λ t zero is. omega (arith, zero, is)) first_free.rest rest_free));
-          free_items = All-weaker (λ (x : ℕ). x ≢ tag × is_free slots x) (is_free pool) (λ x both. same_state slots pool tag size left x 0 both.0 both.1) first_free.rest both_free;
+          windows = record {
+            chain = each_queue (λ p x state k xs. IsChain pool state.window (tags_of xs))
+                (subst (IsChain pool window) (sym (map-append (λ (it : Item). it.tag) (s.items.windows e.region) (item ∷ []))) pushed_chain)
+                (λ p x other apart is. chain_left (sq_at c.sqs p).window (tags_of (s.items.windows x)) (h.windows.chain p x is) (other_windows p x other is));
+            items = each_queue (λ p x state k xs. All (IsWaitingIn pool p x) xs)
+                (All-push (IsWaitingIn pool qid e.region) (s.items.windows e.region) item (windows_left qid e.region life) item_now) (λ p x other apart is. windows_left p x is);
+            none = each_region (λ x k xs. s.content.sq_id x ≡ None → xs ≡ [])
+                (λ none. absurd (let here = s.numbers.sqs.ids.ids_are qid e.region life in cc (none, here))) (λ x other. h.windows.none x);
+            are = each_region (λ x k xs. k.window ≡ map candidate_of (drop (picked_of c (s.content.sq_id x)) xs)) window_now (λ x other. h.windows.are x);
+            picked_there = let le = h.windows.picked_there in omega (arith, le, longer);
+          };
+          outs = record {
+            items = All-weaker (IsOutIn s.content.sq_id slots) (IsOutIn s.content.sq_id pool)
+                (λ it w. out_stays slots pool tag size left s.content.sq_id it (other_than it.tag 2 w.state (omega arith)) w) s.items.outs h.outs.items;
+            apart = h.outs.apart;
+            all = λ x is. h.outs.all x (sym (ap (λ (y : Slot). y.state) (left x (not_new x 2 is (λ same. omega (arith, same))))) ∙ is);
+            hand_is = h.outs.hand_is ∙ ap (λ (xs : List Item). places_of (s.items.outs ++ xs)) (sym untaken_left);
+          };
+          readies = record {
+            chain = λ p x is. chain_left (cq_at c.cqs p).ready (ready_tags (s.items.readies x)) (h.readies.chain p x is)
+                (elsewhere (ready_tags (s.items.readies x)) (All-weaker (λ (t : ℕ). 3 ≤ (slot_at slots t).state) (λ (t : ℕ). (slot_at slots t).state ≢ 1)
+                (λ t least is. omega (arith, least, is)) (ready_tags (s.items.readies x)) (ready-states s.content.sq_id slots (s.items.readies x) (h.readies.items x))));
+            items = λ x. all_ready_stay slots pool tag size left s.content.sq_id (s.items.readies x) (let zero = was_free in omega (arith, zero)) (h.readies.items x);
+            none = h.readies.none;
+            are = h.readies.are;
+          };
+          deletions = deletions_kept c.sqs c.pending_deletions pool s.content.sq_life s.content.deletion s.items.deletes qid (fetched_state (sq_at c.sqs qid) window ring) there refl refl
+              (deletions_stay c.sqs c.pending_deletions slots pool s.content.sq_life s.content.deletion s.items.deletes tag size left
+              (λ r d at. other_than d.tag 6 (h.deletions.items r d at).state (omega arith)) h.deletions);
+          free = record {
+            chain = chain_left free first_free.rest first_free.chain
+                (elsewhere first_free.rest (All-weaker (is_free slots) (λ (t : ℕ). (slot_at slots t).state ≢ 1) (λ t zero is. omega (arith, zero, is)) first_free.rest rest_free));
+            items = All-weaker (λ (x : ℕ). x ≢ tag × is_free slots x) (is_free pool) (λ x both. same_state slots pool tag size left x 0 both.0 both.1) first_free.rest both_free;
+          };
           few = let small = h.few in omega (arith, small, size);
         }
 
@@ -507,34 +501,33 @@ module _ (rules : FrontRules) (late : Bool) (notes : Notes) (c : Controller) (sl
 
     doorbells_now : HoldsDoorbells rules later after content
     doorbells_now = record {
-      sqs = each_queue (λ p x state k xs. HasCounts state.ring (length (fetched (logged later) x)) (submitted rules notes x))
-          (subst (λ (n : ℕ). HasCounts ring n (submitted rules notes e.region)) (sym (fetched_more (logged notes) e.region index entry))
-          (f.counts (length (fetched (logged notes) e.region)) (submitted rules notes e.region) (fetch_counts rules late notes c slots s qid e can)
-          (more_submitted rules late notes c slots s qid e can)))
-          (λ p x other apart is. subst (λ (ys : List Sqe). HasCounts (sq_at c.sqs p).ring (length ys) (submitted rules notes x))
-          (sym (fetched_others (logged notes) e.region index entry x apart)) (s.doorbells.sqs p x is));
+      sqs = record {
+        each = each_queue (λ p x state k xs. HasCounts state.ring (length (fetched (logged later) x)) (submitted rules notes x))
+            (subst (λ (n : ℕ). HasCounts ring n (submitted rules notes e.region)) (sym (fetched_more (logged notes) e.region index entry))
+            (f.counts (length (fetched (logged notes) e.region)) (submitted rules notes e.region) (fetch_counts rules late notes c slots s qid e can)
+            (more_submitted rules late notes c slots s qid e can)))
+            (λ p x other apart is. subst (λ (ys : List Sqe). HasCounts (sq_at c.sqs p).ring (length ys) (submitted rules notes x))
+            (sym (fetched_others (logged notes) e.region index entry x apart)) (s.doorbells.sqs.each p x is));
+        no_tails = each_region (λ x k xs. k.queue ≡ None → submitted rules notes x ≡ 0) (s.doorbells.sqs.no_tails e.region) (λ x other. s.doorbells.sqs.no_tails x);
+      };
       cqs = s.doorbells.cqs;
-      phases = s.doorbells.phases;
-      no_tails = each_region (λ x k xs. k.queue ≡ None → submitted rules notes x ≡ 0) (s.doorbells.no_tails e.region) (λ x other. s.doorbells.no_tails x);
-      no_heads = s.doorbells.no_heads;
-      no_posts = s.doorbells.no_posts;
     }
 
     none_answered_now : (x i : ℕ) → length (fetched (logged later) x) ≤ i → answer_of notes x i ≡ None
-    none_answered_now x i le = s.tags.none_answered x i (let least = fetched_least (logged notes) e.region index entry x in omega (arith, least, le))
+    none_answered_now x i le = s.tags.unanswered.none x i (let least = fetched_least (logged notes) e.region index entry x in omega (arith, least, le))
 
     none_held_now : (t : ℕ) → (slot_at pool t).state ≢ 2 → (slot_at pool t).state ≢ 3 → holder notes t ≡ None
     none_held_now t not_two not_three = elim (cases_eq t tag) [
-      | inl same ↦ s.tags.none_held t (λ is. other_than t 2 is (omega arith) same) (λ is. other_than t 3 is (omega arith) same)
+      | inl same ↦ s.tags.held.none t (λ is. other_than t 2 is (omega arith) same) (λ is. other_than t 3 is (omega arith) same)
       | inr other ↦
           let stays : (slot_at pool t).state ≡ (slot_at slots t).state = ap (λ (y : Slot). y.state) (left t other) in
-          s.tags.none_held t (λ is. not_two (stays ∙ is)) (λ is. not_three (stays ∙ is))
+          s.tags.held.none t (λ is. not_two (stays ∙ is)) (λ is. not_three (stays ∙ is))
     ]
 
     answered_held_now : (t : ℕ) → (slot_at pool t).state ≡ 3 → is_out later t ≡ false
     answered_held_now t is =
         let other : t ≢ tag = not_new t 3 is (λ same. omega (arith, same)) in
-        still_not_out-logged (Fetch e.region index entry) notes t (s.tags.answered_held t (sym (ap (λ (y : Slot). y.state) (left t other)) ∙ is))
+        still_not_out-logged (Fetch e.region index entry) notes t (s.tags.held.answered t (sym (ap (λ (y : Slot). y.state) (left t other)) ∙ is))
 
     hand_entries_now : All (HasEntry (logged later)) (s.items.outs ++ untaken after content items)
     hand_entries_now =
@@ -544,7 +537,7 @@ module _ (rules : FrontRules) (late : Bool) (notes : Notes) (c : Controller) (sl
 
     free_count_now : free.len + (all_fetches (logged notes) + 1) ≡ length pool + all_posts (logged notes)
     free_count_now =
-        let before : c.free.len ≡ length first_free.rest + 1 = s.has.free_chain.len_is ∙ ap (λ (xs : List ℕ). length xs) first_free.are ∙ (let one : length (tag ∷ first_free.rest) ≡ length first_free.rest + 1 = omega arith in one) in
+        let before : c.free.len ≡ length first_free.rest + 1 = s.has.free.chain.len_is ∙ ap (λ (xs : List ℕ). length xs) first_free.are ∙ (let one : length (tag ∷ first_free.rest) ≡ length first_free.rest + 1 = omega arith in one) in
         let after_it : free.len ≡ length first_free.rest = first_free.chain.len_is in
         omega (arith, before, after_it, s.tags.free_count, size)
 
@@ -592,8 +585,8 @@ module _ (rules : FrontRules) (late : Bool) (notes : Notes) (c : Controller) (sl
       windows = each_region (λ x k xs. All (HasCookie later pool) xs)
           (All-push (HasCookie later pool) (s.items.windows e.region) item (windows_kept e.region) item_kept) (λ x other. windows_kept x);
       outs = All-both (IsOutIn s.content.sq_id slots) (HasCookie notes slots) (HasCookie later pool) (λ it w h. keeps_other it.tag it.place (other_than it.tag 2 w.state (omega arith)) h)
-          s.items.outs s.has.outs_items s.tags.cookies.outs;
-      readies = λ x. All-both (IsReadyIn s.content.sq_id slots) (HasReadyCookie notes slots) (HasReadyCookie later pool) ready_kept (s.items.readies x) (s.has.ready_items x) (s.tags.cookies.readies x);
+          s.items.outs s.has.outs.items s.tags.cookies.outs;
+      readies = λ x. All-both (IsReadyIn s.content.sq_id slots) (HasReadyCookie notes slots) (HasReadyCookie later pool) ready_kept (s.items.readies x) (s.has.readies.items x) (s.tags.cookies.readies x);
       deletes = λ r d at. keeps_other d.tag (place_at 0 d.index) (other_than d.tag 6 (s.has.deletions.items r d at).state (omega arith)) (s.tags.cookies.deletes r d at);
       none = none_kept_now;
     }
@@ -603,24 +596,27 @@ module _ (rules : FrontRules) (late : Bool) (notes : Notes) (c : Controller) (sl
         let t = s.tags in
         record {
           untaken_are = t.untaken_are ∙ ap (λ (xs : List Item). taken notes ++ places_of xs) (sym untaken_left);
-          outs_held = t.outs_held;
-          readies_held = t.readies_held;
-          none_held = none_held_now;
+          held = record {
+            outs = t.held.outs;
+            readies = t.held.readies;
+            none = none_held_now;
+            answered = answered_held_now;
+          };
           through = t.through;
-          windows_unanswered = each_region (λ x k xs. All (λ (it : Item). IsUnanswered notes it.place) xs)
-              (All-push (λ (it : Item). IsUnanswered notes it.place) (s.items.windows e.region) item (t.windows_unanswered e.region)
-              (t.none_answered e.region index (let is = index_is in omega (arith, is))))
-              (λ x other. t.windows_unanswered x);
-          outs_unanswered = t.outs_unanswered;
-          deletes_unanswered = t.deletes_unanswered;
-          none_answered = none_answered_now;
-          answered_held = answered_held_now;
+          unanswered = record {
+            windows = each_region (λ x k xs. All (λ (it : Item). IsUnanswered notes it.place) xs)
+                (All-push (λ (it : Item). IsUnanswered notes it.place) (s.items.windows e.region) item (t.unanswered.windows e.region)
+                (t.unanswered.none e.region index (let is = index_is in omega (arith, is))))
+                (λ x other. t.unanswered.windows x);
+            outs = t.unanswered.outs;
+            deletes = t.unanswered.deletes;
+            none = none_answered_now;
+          };
           hand_entries = hand_entries_now;
           free_count = free_count_now;
           cookies = cookies_now;
           passed = passed_later notes later items (λ i. refl) refl (λ i waits. stays (Fetch e.region index entry) (logged notes) 0 i waits) (passed_left notes s.items items (λ x. refl) refl t.passed);
-          none_flagged = t.none_flagged;
-          flags = t.flags;
+          flagged = t.flagged;
         }
 
     lawful_now : late ≡ false → IsLawfulEvent rules notes (Fetch e.region index entry)

@@ -30,11 +30,12 @@ use Rattle.nvme_slots.specs.declared.slot.Slot.{Slot}
 use Rattle.nvme_ctrl.specs.declared.state.Controller.{Controller}
 use Rattle.nvme_ctrl_content.specs.Content.{Candidate, Ready, PendingDelete, Content, with_ready, put_deletion, put_life}
 use Rattle.nvme_ctrl_content.specs.Standing.{Holds, HoldsReady, IsPending, HasOwnStatus, hand_of, held_upto, times_held, times_ready, HasItsStatus}
-use Rattle.nvme_ctrl.specs.kept.Kept.{Item, ReadyItem, Items, IsWaitingIn, IsOutIn, IsReadyIn, IsSqOf, HasNumbers, HasItems, StandsAt, tags_of, places_of, candidate_of, picked_region, picked_of, untaken, HasEntry, IsThrough, IsUnflagged, is_passed_at, IsDevices, DeleteItem, deletion_in, put_delete, IsDeletingIn, HasDeletions, IsUnanswered, IsCookie}
+use Rattle.nvme_ctrl.specs.kept.Kept.{Item, ReadyItem, Items, IsWaitingIn, IsOutIn, IsReadyIn, IsSqOf, HasNumbers, HasItems, StandsAt, tags_of, places_of, candidate_of, picked_region, picked_of, untaken, HasEntry, IsThrough, IsUnflagged, is_passed_at, IsDevices, DeleteItem, deletion_in, put_delete, IsDeletingIn, HasDeletions, IsUnanswered, IsCookie, IsSq, shown_in}
+use Rattle.nvme_ctrl.proofs.QueueStates.{sq_told}
 use Rattle.nvme_ctrl_content.specs.Shown.{HasRegionsMade}
 use Rattle.nvme_ctrl.specs.inside.Loose.{IsLoose, Keeps, MakesReady, ended, with_item}
 use Rattle.nvme_slots.specs.Pool.{slot_at, IsChain}
-use Rattle.nvme_ctrl.specs.kept.State.{sq_at, deletion_at, no_sq_state, no_deletion, IsFinishable}
+use Rattle.nvme_ctrl.specs.kept.State.{sq_at, no_sq_state, IsFinishable}
 use Rattle.nvme_ctrl.proofs.Passed.{not_passed, hand_is_devices}
 use Rattle.nvme_ctrl_content.proofs.AfterSteps.{CanClose, deleted, after_closed}
 use Rattle.nvme_ctrl.proofs.CarriedOut.{last_of, was_picked}
@@ -146,8 +147,8 @@ module _ (rules : FrontRules) (late : Bool) (notes : Notes) (c : Controller) (sl
   abbrev past : Past
   past = logged notes
 
-  pub flagged : IsFlagged k.sq_life g.deletes qid (deletion_at c.deletions qid).tag
-  flagged = flagged_item c.deletions c.pending_deletions slots k.sq_life k.deletion g.deletes s.has.deletions qid finishable.pending
+  pub flagged : IsFlagged k.sq_life g.deletes qid (sq_at c.sqs qid).tag
+  flagged = flagged_item c.sqs c.pending_deletions slots k.sq_life k.deletion g.deletes s.has.deletions qid finishable.closing
 
   abbrev region : ℕ
   region = flagged.region
@@ -159,7 +160,7 @@ module _ (rules : FrontRules) (late : Bool) (notes : Notes) (c : Controller) (sl
   d = deletion_in slots region item
 
   pending_is : k.deletion region ≡ Some d
-  pending_is = deletion_item c.deletions c.pending_deletions slots k.sq_life k.deletion g.deletes s.has.deletions region item flagged.is
+  pending_is = deletion_item c.sqs c.pending_deletions slots k.sq_life k.deletion g.deletes s.has.deletions region item flagged.is
 
   stands : IsPending past k region d
   stands = s.holds.deletion.stands region d pending_is
@@ -169,20 +170,20 @@ module _ (rules : FrontRules) (late : Bool) (notes : Notes) (c : Controller) (sl
   life = s.has.deletions.queues region item flagged.is
 
   pub qid_is : qid ≡ item.qid
-  qid_is = one_id k.sq_life k.sq_id s.numbers.sq_ids qid item.qid region flagged.life life
+  qid_is = one_id k.sq_life k.sq_id s.numbers.sqs.ids qid item.qid region flagged.life life
 
   within : item.qid < 65
-  within = s.numbers.few_sqs item.qid region life
+  within = s.numbers.sqs.few item.qid region life
 
   id : k.sq_id region ≡ Some item.qid
-  id = s.numbers.sq_ids.ids_are item.qid region life
+  id = s.numbers.sqs.ids.ids_are item.qid region life
 
   only : (q : ℕ) → k.sq_life q ≡ Some region → q ≡ item.qid
-  only q is = one_id k.sq_life k.sq_id s.numbers.sq_ids q item.qid region is life
+  only q is = one_id k.sq_life k.sq_id s.numbers.sqs.ids q item.qid region is life
 
   -- it isn't the admin queue
   io : item.qid ≢ 0
-  io e = stands.not_admin (one_life k.sq_life 0 region 0 (subst (λ (q : ℕ). k.sq_life q ≡ Some region) e life) s.numbers.sq_ids.admin)
+  io e = stands.not_admin (one_life k.sq_life 0 region 0 (subst (λ (q : ℕ). k.sq_life q ≡ Some region) e life) s.numbers.sqs.ids.admin)
 
   -- it is closing in the table
   pub closes : IsSomeAnd (sq_of (content_of c.table) qid) (λ (queue : SqEntry). IsTrue queue.closing)
@@ -194,7 +195,7 @@ module _ (rules : FrontRules) (late : Bool) (notes : Notes) (c : Controller) (sl
 
   -- ---- nothing of its region is left
   all_posted : (k.sq region).unposted ≡ 0
-  all_posted = sym (s.numbers.sqs qid region flagged.life).unposted ∙ finishable.posted
+  all_posted = sym (s.numbers.sqs.each qid region flagged.life).unposted ∙ finishable.posted
 
   posted : unposted_of past region ≡ 0
   posted = sym (s.holds.counts.unposted region) ∙ all_posted
@@ -216,7 +217,7 @@ module _ (rules : FrontRules) (late : Bool) (notes : Notes) (c : Controller) (sl
   hand_elsewhere : All (λ (it : Item). it.place.region ≢ region) (g.outs ++ untaken c k g)
   hand_elsewhere =
       All-unmap (λ (p : Place). p.region ≢ region) (λ (it : Item). it.place) (g.outs ++ untaken c k g)
-      (subst (All (λ (p : Place). p.region ≢ region)) s.has.hand_is (region_unheld past k s.holds.ready region posted))
+      (subst (All (λ (p : Place). p.region ≢ region)) s.has.outs.hand_is (region_unheld past k s.holds.ready region posted))
 
   outs_elsewhere : All (λ (it : Item). it.place.region ≢ region) g.outs
   outs_elsewhere = (All-parts (λ (it : Item). it.place.region ≢ region) g.outs (untaken c k g) hand_elsewhere).0
@@ -224,17 +225,17 @@ module _ (rules : FrontRules) (late : Bool) (notes : Notes) (c : Controller) (sl
   readies_elsewhere : (x : ℕ) → All (λ (it : ReadyItem). it.ready.place.region ≢ region) (g.readies x)
   readies_elsewhere x =
       All-unmap (λ (t : Ready). t.place.region ≢ region) (λ (it : ReadyItem). it.ready) (g.readies x)
-      (subst (All (λ (t : Ready). t.place.region ≢ region)) (s.has.ready_is x) (region_unready past k (hand_of k) s.holds.ready region posted x))
+      (subst (All (λ (t : Ready). t.place.region ≢ region)) (s.has.readies.are x) (region_unready past k (hand_of k) s.holds.ready region posted x))
 
   -- what is picked of a queue and not taken
   picked_taken : (P : Item → Type 0) → All P (untaken c k g) → (q r : ℕ) → k.sq_life q ≡ Some r → All P (take (picked_of c (k.sq_id r)) (g.windows r))
   picked_taken P all q r is = elim (cases_eq q c.picked_qid) [
     | inl same ↦ (
-        let count : picked_of c (k.sq_id r) ≡ c.picked = ap (picked_of c) (s.numbers.sq_ids.ids_are q r is) ∙ ap (λ (b : Bool). if b then c.picked else 0) (eq-eqb q c.picked_qid same) in
+        let count : picked_of c (k.sq_id r) ≡ c.picked = ap (picked_of c) (s.numbers.sqs.ids.ids_are q r is) ∙ ap (λ (b : Bool). if b then c.picked else 0) (eq-eqb q c.picked_qid same) in
         let at : picked_region c k ≡ r = ap (λ (o : Option ℕ). unwrap_or o 0) (ap k.sq_life (sym same) ∙ is) in
         subst (λ (n : ℕ). All P (take n (g.windows r))) (sym count) (subst (λ (x : ℕ). All P (take c.picked (g.windows x))) at all))
     | inr other ↦ (
-        let count : picked_of c (k.sq_id r) ≡ 0 = ap (picked_of c) (s.numbers.sq_ids.ids_are q r is) ∙ ap (λ (b : Bool). if b then c.picked else 0) (ne_eqb q c.picked_qid other) in
+        let count : picked_of c (k.sq_id r) ≡ 0 = ap (picked_of c) (s.numbers.sqs.ids.ids_are q r is) ∙ ap (λ (b : Bool). if b then c.picked else 0) (ne_eqb q c.picked_qid other) in
         subst (λ (n : ℕ). All P (take n (g.windows r))) (sym count) (All-nil P))
   ]
 
@@ -242,13 +243,13 @@ module _ (rules : FrontRules) (late : Bool) (notes : Notes) (c : Controller) (sl
   each_window : (P : ℕ → Item → Type 0) → ((q r : ℕ) (it : Item) → IsWaitingIn slots q r it → P r it) → (r : ℕ) → All (P r) (g.windows r)
   each_window P all r = by (k.sq_id r) refl where
     by : (o : Option ℕ) → k.sq_id r ≡ o → All (P r) (g.windows r)
-    by None none = subst (All (P r)) (sym (s.has.window_none r none)) (All-nil (P r))
-    by (Some q) is = All-weaker (IsWaitingIn slots q r) (P r) (all q r) (g.windows r) (s.has.window_items q r (s.numbers.sq_ids.lives_are r q is))
+    by None none = subst (All (P r)) (sym (s.has.windows.none r none)) (All-nil (P r))
+    by (Some q) is = All-weaker (IsWaitingIn slots q r) (P r) (all q r) (g.windows r) (s.has.windows.items q r (s.numbers.sqs.ids.lives_are r q is))
 
   window_gone : g.windows region ≡ []
   window_gone =
       let rest : drop (picked_of c (k.sq_id region)) (g.windows region) ≡ [] =
-      map_none candidate_of (drop (picked_of c (k.sq_id region)) (g.windows region)) (sym (s.has.window_is region) ∙ stands.none_waits) in
+      map_none candidate_of (drop (picked_of c (k.sq_id region)) (g.windows region)) (sym (s.has.windows.are region) ∙ stands.none_waits) in
       none_of_both (λ (it : Item). it.place.region ≡ region) (g.windows region)
       (each_window (λ r it. it.place.region ≡ r) (λ q r it w. w.place) region)
       (all_joined (λ (it : Item). it.place.region ≢ region) (picked_of c (k.sq_id region)) (g.windows region)
@@ -258,7 +259,7 @@ module _ (rules : FrontRules) (late : Bool) (notes : Notes) (c : Controller) (sl
   none_picked : c.picked_qid ≡ item.qid → c.picked ≡ 0
   none_picked same =
       let at : picked_region c k ≡ region = ap (λ (o : Option ℕ). unwrap_or o 0) (ap k.sq_life same ∙ life) in
-      let few : c.picked ≤ length (g.windows region) = subst (λ (r : ℕ). c.picked ≤ length (g.windows r)) at s.has.picked_there in
+      let few : c.picked ≤ length (g.windows region) = subst (λ (r : ℕ). c.picked ≤ length (g.windows r)) at s.has.windows.picked_there in
       let none : length (g.windows region) ≡ 0 = ap (λ (items : List Item). length items) window_gone in
       omega (arith, few, none)
 
@@ -278,15 +279,15 @@ module _ (rules : FrontRules) (late : Bool) (notes : Notes) (c : Controller) (sl
     windows = λ r. All-map (λ (y : ℕ). y ≢ item.tag) (λ (it : Item). it.tag) (g.windows r)
         (each_window (λ r it. it.tag ≢ item.tag) (λ q r it w e. absurd (let six = held.state in cc (sym w.state ∙ ap (λ (z : ℕ). (slot_at slots z).state) e ∙ six))) r);
     outs = All-map (λ (y : ℕ). y ≢ item.tag) (λ (it : Item). it.tag) g.outs
-        (All-weaker (IsOutIn k.sq_id slots) (λ (it : Item). it.tag ≢ item.tag) (λ it w e. absurd (let six = held.state in cc (sym w.state ∙ ap (λ (z : ℕ). (slot_at slots z).state) e ∙ six))) g.outs s.has.outs_items);
+        (All-weaker (IsOutIn k.sq_id slots) (λ (it : Item). it.tag ≢ item.tag) (λ it w e. absurd (let six = held.state in cc (sym w.state ∙ ap (λ (z : ℕ). (slot_at slots z).state) e ∙ six))) g.outs s.has.outs.items);
     readies = λ y. All-map (λ (z : ℕ). z ≢ item.tag) (λ (it : ReadyItem). it.tag) (g.readies y)
         (All-weaker (IsReadyIn k.sq_id slots) (λ (it : ReadyItem). it.tag ≢ item.tag)
-        (λ it w e. absurd (let range = (ready_state-range it.was_out it.ready.with_queue).1 in let at = ap (λ (z : ℕ). (slot_at slots z).state) e in let was = w.state in let six = held.state in omega (arith, range, at, was, six))) (g.readies y) (s.has.ready_items y));
+        (λ it w e. absurd (let range = (ready_state-range it.was_out it.ready.with_queue).1 in let at = ap (λ (z : ℕ). (slot_at slots z).state) e in let was = w.state in let six = held.state in omega (arith, range, at, was, six))) (g.readies y) (s.has.readies.items y));
     deletes = λ r it at same. elim (is_put g.deletes region None r it at) [
       | Here e none ↦ absurd (cc none)
       | Elsewhere differs there ↦ differs (s.has.deletions.apart r region it item there flagged.is same)
     ];
-    free = IsNew-by (λ (y : ℕ). (slot_at slots y).state ≡ 0) item.tag g.free s.has.free_items (λ e. absurd (let six = held.state in cc (sym e ∙ six)));
+    free = IsNew-by (λ (y : ℕ). (slot_at slots y).state ≡ 0) item.tag g.free s.has.free.items (λ e. absurd (let six = held.state in cc (sym e ∙ six)));
     not_out = λ e. absurd (let six = held.state in cc (sym e ∙ six));
     not_answered = λ e. absurd (let six = held.state in cc (sym e ∙ six));
   }
@@ -308,7 +309,6 @@ module _ (rules : FrontRules) (late : Bool) (notes : Notes) (c : Controller) (sl
     m = record c {
       table = table;
       sqs = slice_set c.sqs item.qid no_sq_state;
-      deletions = slice_set c.deletions item.qid no_deletion;
       pending_deletions = c.pending_deletions - 1;
     }
 
@@ -358,11 +358,11 @@ module _ (rules : FrontRules) (late : Bool) (notes : Notes) (c : Controller) (sl
         let moved : is_waiting (fate_of past 0 item.index) ≡ true = subst (λ (z : ℕ). is_waiting (fate_of past 0 z) ≡ true) (sym same) w in
         absurd (cc (moved, done)))) (drop (picked_of c (k.sq_id 0)) (g.windows 0))
         (All-unmap (λ (x : Candidate). is_waiting (fate_of past 0 x.index) ≡ true) candidate_of (drop (picked_of c (k.sq_id 0)) (g.windows 0))
-        (subst (All (λ (x : Candidate). is_waiting (fate_of past 0 x.index) ≡ true)) (s.has.window_is 0) (candidates_wait past 0 (k.sq 0) (s.holds.regions 0))))
+        (subst (All (λ (x : Candidate). is_waiting (fate_of past 0 x.index) ≡ true)) (s.has.windows.are 0) (candidates_wait past 0 (k.sq 0) (s.holds.regions 0))))
 
     picked_other : All (λ (it : Item). IsOther item.index it.place) (take (picked_of c (k.sq_id 0)) (g.windows 0))
     picked_other =
-        picked_taken (λ (it : Item). IsOther item.index it.place) (All-parts (λ (it : Item). IsOther item.index it.place) g.outs (untaken c k g) hand_other).1 0 0 s.numbers.sq_ids.admin
+        picked_taken (λ (it : Item). IsOther item.index it.place) (All-parts (λ (it : Item). IsOther item.index it.place) g.outs (untaken c k g) hand_other).1 0 0 s.numbers.sqs.ids.admin
 
     windows_other : (r : ℕ) → All (λ (it : Item). IsOther item.index it.place) (g.windows r)
     windows_other r = elim (cases_eq r 0) [
@@ -373,13 +373,13 @@ module _ (rules : FrontRules) (late : Bool) (notes : Notes) (c : Controller) (sl
     ]
 
     -- nor has another Delete
-    still : HasDeletions m.deletions m.pending_deletions slots k1.sq_life k1.deletion left
-    still = deletions_ended c.deletions c.pending_deletions slots k.sq_life k.deletion g.deletes region item s.has.deletions only life within flagged.is
+    still : HasDeletions m.sqs m.pending_deletions slots k1.sq_life k1.deletion left
+    still = deletions_ended c.sqs c.pending_deletions slots k.sq_life k.deletion g.deletes region item s.has.deletions only life within flagged.is s.numbers.sqs.size
 
     deletes_other : (r : ℕ) (it : DeleteItem) → left r ≡ Some it → IsOther item.index (place_at 0 it.index)
     deletes_other r it at = false_from_ne_true (0 == 0 && item.index == it.index) (λ e.
         unheld_apart rules late later (with_ready k1 0 t) holds_after item.index answerable.not_held r (deletion_in slots r it)
-        (deletion_item m.deletions m.pending_deletions slots k1.sq_life k1.deletion left still r it at) (sym (eqb-true item.index it.index e)))
+        (deletion_item m.sqs m.pending_deletions slots k1.sq_life k1.deletion left still r it at) (sym (eqb-true item.index it.index e)))
 
     abbrev answer : Answer
     answer = record { status = success; dw0 = 0 }
@@ -388,7 +388,7 @@ module _ (rules : FrontRules) (late : Bool) (notes : Notes) (c : Controller) (sl
     finished = Answered 0 item.index answer ∷ Logged (event.ClosedSq item.qid region) ∷ notes
 
     unanswered : answer_of notes 0 item.index ≡ None
-    unanswered = s.tags.deletes_unanswered region item flagged.is
+    unanswered = s.tags.unanswered.deletes region item flagged.is
 
     -- what holds of the Deletes holds of the others
     each_left : (P : DeleteItem → Type 0) → ((r : ℕ) (it : DeleteItem) → g.deletes r ≡ Some it → P it) → (r : ℕ) (it : DeleteItem) → left r ≡ Some it → P it
@@ -418,7 +418,7 @@ module _ (rules : FrontRules) (late : Bool) (notes : Notes) (c : Controller) (sl
     picked_left_there : c.picked ≤ length (g.windows (picked_region m k1))
     picked_left_there = elim (cases_eq c.picked_qid item.qid) [
       | inl same ↦ omega (arith, none_picked same)
-      | inr other ↦ subst (λ (o : Option ℕ). c.picked ≤ length (g.windows (unwrap_or o 0))) (sym (put-other k.sq_life item.qid None c.picked_qid other)) s.has.picked_there
+      | inr other ↦ subst (λ (o : Option ℕ). c.picked ≤ length (g.windows (unwrap_or o 0))) (sym (put-other k.sq_life item.qid None c.picked_qid other)) s.has.windows.picked_there
     ]
 
     numbers_ended : HasNumbers m k1
@@ -427,73 +427,62 @@ module _ (rules : FrontRules) (late : Bool) (notes : Notes) (c : Controller) (sl
       board_is = n.board_is;
       is_arbiter = n.is_arbiter;
       outstanding_is = n.outstanding_is;
-      sq_ids = ids_closed k.sq_life k.sq_id item.qid region n.sq_ids life io;
-      cq_ids = n.cq_ids;
-      sqs = λ q r is. sq_left q r (kept_before q r is).0 (kept_before q r is).1;
-      cqs = λ q x is. let w = n.cqs q x is in record { slots = w.slots; some = w.some };
-      few_sqs = λ q r is. n.few_sqs q r (kept_before q r is).1;
-      few_cqs = n.few_cqs;
-      no_sqs = λ q none. put_sq-states (λ y state. k1.sq_life y ≡ None → state ≡ no_sq_state) c.sqs item.qid no_sq_state (omega (arith, within, n.sq_size)) (λ no. refl) q
-          (λ other no. n.no_sqs q (sym (put-other k.sq_life item.qid None q other) ∙ no)) none;
-      no_cqs = n.no_cqs;
-      sq_size = length-set c.sqs item.qid no_sq_state ∙ n.sq_size;
-      cq_size = n.cq_size;
-      rung = rung-kept c.rung item.qid c.sqs no_sq_state (omega (arith, within, n.sq_size)) n.rung (λ same. refl);
-      readied = n.readied;
+      sqs = record {
+        ids = ids_closed k.sq_life k.sq_id item.qid region n.sqs.ids life io;
+        each = λ q r is. sq_left q r (kept_before q r is).0 (kept_before q r is).1;
+        few = λ q r is. n.sqs.few q r (kept_before q r is).1;
+        none = λ q none. put_sq-states (λ y state. k1.sq_life y ≡ None → state ≡ no_sq_state) c.sqs item.qid no_sq_state (omega (arith, within, n.sqs.size)) (λ no. refl) q
+            (λ other no. n.sqs.none q (sym (put-other k.sq_life item.qid None q other) ∙ no)) none;
+        size = length-set c.sqs item.qid no_sq_state ∙ n.sqs.size;
+        rung = rung-kept c.rung item.qid c.sqs no_sq_state (omega (arith, within, n.sqs.size)) n.sqs.rung (λ same. refl);
+      };
+      cqs = n.cqs;
     }) where
       sq_left : (q r : ℕ) → q ≢ item.qid → k.sq_life q ≡ Some r → IsSqOf m k1 q r
       sq_left q r other is =
-          let w = s.numbers.sqs q r is in
-          let same = state_left q other in
-          record {
-            entry = w.entry;
-            in_table = others_are q other ∙ w.in_table;
-            on = w.on;
-            to = w.to ∙ ap (λ (x : SqState). x.cqid) (sym same);
-            cq_region = w.cq_region;
-            cq_open = ap (λ (x : SqState). k.cq_life x.cqid) same ∙ w.cq_open;
-            opened = w.opened;
-            held = ap (λ (x : SqState). x.held == 1) same ∙ w.held;
-            unposted = ap (λ (x : SqState). x.unposted) same ∙ w.unposted;
-            slots = ap (λ (x : SqState). x.ring.slots) same ∙ w.slots;
-            some = w.some;
-          }
+          subst (λ (state : SqState). IsSq without k.cq_life q r state (k.sq r) (k.held r) (shown_in k.board q)) (sym (state_left q other))
+          (sq_told k.table without k.cq_life q r (sq_at c.sqs q) (k.sq r) (k.sq r) (k.held r) (shown_in k.board q) (s.numbers.sqs.each q r is) (others_are q other) refl refl refl)
 
     has_ended : HasItems m slots k1 others
     has_ended = (let x = s.has in record {
-      window_chain = λ q r is.
-          subst (λ (state : SqState). IsChain slots state.window (tags_of (g.windows r))) (sym (state_left q (kept_before q r is).0)) (x.window_chain q r (kept_before q r is).1);
-      window_items = λ q r is. x.window_items q r (kept_before q r is).1;
-      window_none = λ r none. elim (cases_eq r region) [
-        | inl same ↦ ap g.windows same ∙ window_gone
-        | inr other ↦ x.window_none r (sym (put-other k.sq_id region None r other) ∙ none)
-      ];
-      window_is = window_ended;
-      picked_there = picked_left_there;
-      outs_items = All-both (IsOutIn k.sq_id slots) (λ (it : Item). it.place.region ≢ region) (IsOutIn k1.sq_id slots)
-          (λ it h other. record { inside = h.inside; state = h.state; queue = put-other k.sq_id region None it.place.region other ∙ h.queue; entry = h.entry }) g.outs x.outs_items outs_elsewhere;
-      outs_apart = x.outs_apart;
-      outs_all = x.outs_all;
-      hand_is = x.hand_is ∙ ap (λ (items : List Item). places_of (g.outs ++ items)) (sym untaken_left);
-      ready_chain = x.ready_chain;
-      ready_items = λ y. All-both (IsReadyIn k.sq_id slots) (λ (it : ReadyItem). it.ready.place.region ≢ region) (IsReadyIn k1.sq_id slots)
-          (λ it h other. record {
-            state = h.state;
-            queue = put-other k.sq_id region None it.ready.place.region other ∙ h.queue;
-            sqid = h.sqid;
-            cid = h.cid;
-            sct = h.sct;
-            few_types = h.few_types;
-            sc = h.sc;
-            dw0 = h.dw0;
-            not_both = h.not_both;
-            flags = h.flags;
-          }) (g.readies y) (x.ready_items y) (readies_elsewhere y);
-      ready_none = x.ready_none;
-      ready_is = x.ready_is;
+      windows = record {
+        chain = λ q r is.
+            subst (λ (state : SqState). IsChain slots state.window (tags_of (g.windows r))) (sym (state_left q (kept_before q r is).0)) (x.windows.chain q r (kept_before q r is).1);
+        items = λ q r is. x.windows.items q r (kept_before q r is).1;
+        none = λ r none. elim (cases_eq r region) [
+          | inl same ↦ ap g.windows same ∙ window_gone
+          | inr other ↦ x.windows.none r (sym (put-other k.sq_id region None r other) ∙ none)
+        ];
+        are = window_ended;
+        picked_there = picked_left_there;
+      };
+      outs = record {
+        items = All-both (IsOutIn k.sq_id slots) (λ (it : Item). it.place.region ≢ region) (IsOutIn k1.sq_id slots)
+            (λ it h other. record { inside = h.inside; state = h.state; queue = put-other k.sq_id region None it.place.region other ∙ h.queue; entry = h.entry }) g.outs x.outs.items outs_elsewhere;
+        apart = x.outs.apart;
+        all = x.outs.all;
+        hand_is = x.outs.hand_is ∙ ap (λ (items : List Item). places_of (g.outs ++ items)) (sym untaken_left);
+      };
+      readies = record {
+        chain = x.readies.chain;
+        items = λ y. All-both (IsReadyIn k.sq_id slots) (λ (it : ReadyItem). it.ready.place.region ≢ region) (IsReadyIn k1.sq_id slots)
+            (λ it h other. record {
+              state = h.state;
+              queue = put-other k.sq_id region None it.ready.place.region other ∙ h.queue;
+              sqid = h.sqid;
+              cid = h.cid;
+              sct = h.sct;
+              few_types = h.few_types;
+              sc = h.sc;
+              dw0 = h.dw0;
+              not_both = h.not_both;
+              flags = h.flags;
+            }) (g.readies y) (x.readies.items y) (readies_elsewhere y);
+        none = x.readies.none;
+        are = x.readies.are;
+      };
       deletions = still;
-      free_chain = x.free_chain;
-      free_items = x.free_items;
+      free = x.free;
       few = x.few;
     }) where
       window_ended : (r : ℕ) → (k1.sq r).window ≡ map candidate_of (drop (picked_of m (k1.sq_id r)) (g.windows r))
@@ -501,7 +490,7 @@ module _ (rules : FrontRules) (late : Bool) (notes : Notes) (c : Controller) (sl
         | inl same ↦ subst (λ (z : ℕ). (k1.sq z).window ≡ map candidate_of (drop (picked_of m (k1.sq_id z)) (g.windows z))) (sym same)
             (stands.none_waits ∙ sym (ap (λ (o : Option ℕ). map candidate_of (drop (picked_of m o) (g.windows region))) (put-same k.sq_id region None)
             ∙ ap (λ (items : List Item). map candidate_of (drop 0 items)) window_gone))
-        | inr other ↦ s.has.window_is r ∙ ap (λ (n : ℕ). map candidate_of (drop n (g.windows r)))
+        | inr other ↦ s.has.windows.are r ∙ ap (λ (n : ℕ). map candidate_of (drop n (g.windows r)))
             (picked_left c m refl refl (k.sq_id r) ∙ ap (picked_of m) (sym (put-other k.sq_id region None r other)))
       ]
 
@@ -511,24 +500,22 @@ module _ (rules : FrontRules) (late : Bool) (notes : Notes) (c : Controller) (sl
       numbers = numbers_ended;
       has = has_ended;
       doorbells = (let x = s.doorbells in record {
-        sqs = λ q r is. subst (λ (state : SqState). HasCounts state.ring (length (fetched past r)) (submitted rules notes r)) (sym (state_left q (kept_before q r is).0)) (x.sqs q r (kept_before q r is).1);
+        sqs = record {
+          each = λ q r is. subst (λ (state : SqState). HasCounts state.ring (length (fetched past r)) (submitted rules notes r)) (sym (state_left q (kept_before q r is).0)) (x.sqs.each q r (kept_before q r is).1);
+          no_tails = x.sqs.no_tails;
+        };
         cqs = x.cqs;
-        phases = x.phases;
-        no_tails = x.no_tails;
-        no_heads = x.no_heads;
-        no_posts = x.no_posts;
       });
       tags = (let x = s.tags in record {
         untaken_are = x.untaken_are ∙ ap (λ (items : List Item). taken notes ++ places_of items) (sym untaken_left);
-        outs_held = x.outs_held;
-        readies_held = x.readies_held;
-        none_held = x.none_held;
+        held = x.held;
         through = x.through;
-        windows_unanswered = x.windows_unanswered;
-        outs_unanswered = x.outs_unanswered;
-        deletes_unanswered = each_left (λ (it : DeleteItem). IsUnanswered notes (place_at 0 it.index)) x.deletes_unanswered;
-        none_answered = x.none_answered;
-        answered_held = x.answered_held;
+        unanswered = record {
+          windows = x.unanswered.windows;
+          outs = x.unanswered.outs;
+          deletes = each_left (λ (it : DeleteItem). IsUnanswered notes (place_at 0 it.index)) x.unanswered.deletes;
+          none = x.unanswered.none;
+        };
         hand_entries = subst (λ (items : List Item). All (HasEntry past) (g.outs ++ items)) (sym untaken_left) x.hand_entries;
         free_count = x.free_count;
         cookies = (let q = x.cookies in record {
@@ -544,8 +531,7 @@ module _ (rules : FrontRules) (late : Bool) (notes : Notes) (c : Controller) (sl
           readies = q.readies;
           deletes = each_left (λ (it : DeleteItem). is_passed notes it.index ≡ false) q.deletes;
         });
-        none_flagged = x.none_flagged;
-        flags = x.flags;
+        flagged = x.flagged;
       });
       apart = readies_are_apart rules late notes c slots s;
     }
@@ -620,20 +606,20 @@ module _ (rules : FrontRules) (late : Bool) (notes : Notes) (c : Controller) (sl
           end rules finished k1 others t keeps_finished loose
           (record { state_is = refl; sqid = held.queue; cid = refl; status_is = refl; dw0_is = refl })
           (inr (rw (eq-eqb item.index item.index refl) refl)) (s.tags.cookies.deletes region item flagged.is)
-          (sym (s.tags.passed.deletes region item flagged.is)) (s.tags.none_flagged 0 item.index unanswered)
-          0 s.numbers.cq_ids.admin (put-other k.sq_id region None 0 (λ e. stands.not_admin (sym e)) ∙ s.numbers.sq_ids.ids_are 0 0 s.numbers.sq_ids.admin)
+          (sym (s.tags.passed.deletes region item flagged.is)) (s.tags.flagged.none 0 item.index unanswered)
+          0 s.numbers.cqs.ids.admin (put-other k.sq_id region None 0 (λ e. stands.not_admin (sym e)) ∙ s.numbers.sqs.ids.ids_are 0 0 s.numbers.sqs.ids.admin)
 
   -- ---- as it is finished
-  pub finish_call : (tag n : ℕ) (table : PlacedTable) (p q b : Controller) (pool : List Slot) → tag ≡ (deletion_at c.deletions qid).tag
+  pub finish_call : (tag n : ℕ) (table : PlacedTable) (p q b : Controller) (pool : List Slot) → tag ≡ (sq_at c.sqs qid).tag
       → ((start : Start) (h : TableHistory) → Tells c.table (queue_table start h) → Tells table (queue_table start (DeletionFinished qid ∷ h)))
-      → p ≡ record c { table = table; sqs = slice_set c.sqs qid no_sq_state; deletions = slice_set c.deletions qid no_deletion } → n ≡ p.pending_deletions - 1 → q ≡ record p { pending_deletions = n }
+      → p ≡ record c { table = table; sqs = slice_set c.sqs qid no_sq_state } → n ≡ p.pending_deletions - 1 → q ≡ record p { pending_deletions = n }
       → FinishesEnd q slots tag b pool → HasFinished rules late notes qid b pool
   finish_call tag n table p q b pool tag_as finishes p_is n_is q_is end =
       subst (λ (z : ℕ). HasFinished rules late notes z b pool) (sym qid_is)
       (finished_item table (subst (λ (z : ℕ). (start : Start) (h : TableHistory) → Tells c.table (queue_table start h) → Tells table (queue_table start (DeletionFinished z ∷ h))) qid_is finishes)
       b pool
-      (subst (λ (y : ℕ). FinishesEnd (record c { table = table; sqs = slice_set c.sqs y no_sq_state; deletions = slice_set c.deletions y no_deletion; pending_deletions = c.pending_deletions - 1 }) slots item.tag b pool) qid_is
-      (subst (λ (z : ℕ). FinishesEnd (record c { table = table; sqs = slice_set c.sqs qid no_sq_state; deletions = slice_set c.deletions qid no_deletion; pending_deletions = c.pending_deletions - 1 }) slots z b pool) (tag_as ∙ sym flagged.tag_is)
+      (subst (λ (y : ℕ). FinishesEnd (record c { table = table; sqs = slice_set c.sqs y no_sq_state; pending_deletions = c.pending_deletions - 1 }) slots item.tag b pool) qid_is
+      (subst (λ (z : ℕ). FinishesEnd (record c { table = table; sqs = slice_set c.sqs qid no_sq_state; pending_deletions = c.pending_deletions - 1 }) slots z b pool) (tag_as ∙ sym flagged.tag_is)
       (subst (λ (z : Controller). FinishesEnd (record z { pending_deletions = z.pending_deletions - 1 }) slots tag b pool) p_is
       (subst (λ (z : ℕ). FinishesEnd (record p { pending_deletions = z }) slots tag b pool) n_is
       (subst (λ (z : Controller). FinishesEnd z slots tag b pool) q_is end))))))
@@ -652,14 +638,14 @@ found rules late notes c slots s r i is posted = by (s.content.deletion r) refl 
   by : (o : Option PendingDelete) → s.content.deletion r ≡ o → IsFound (logged notes) c r
   by None none = absurd (let no : deleting (logged notes) r ≡ None = s.holds.deletion.place_is r ∙ ap (option_map (λ (x : PendingDelete). x.place.index)) none in cc (no, is))
   by (Some delete) some =
-      let it = some_deletes c.deletions c.pending_deletions slots s.content.sq_life s.content.deletion s.items.deletes s.has.deletions r delete some in
-      let flag = item_flagged c.deletions c.pending_deletions slots s.content.sq_life s.content.deletion s.items.deletes s.has.deletions r it.item it.is in
+      let it = some_deletes c.sqs c.pending_deletions slots s.content.sq_life s.content.deletion s.items.deletes s.has.deletions r delete some in
+      let flag = item_flagged c.sqs c.pending_deletions slots s.content.sq_life s.content.deletion s.items.deletes s.has.deletions r it.item it.is in
       let life = s.has.deletions.queues r it.item it.is in
       record {
         qid = it.item.qid;
         named = s.holds.lives.named it.item.qid r life;
-        few = s.numbers.few_sqs it.item.qid r life;
-        is = record { pending = flag; posted = (s.numbers.sqs it.item.qid r life).unposted ∙ s.holds.counts.unposted r ∙ posted };
+        few = s.numbers.sqs.few it.item.qid r life;
+        is = record { closing = flag; posted = (s.numbers.sqs.each it.item.qid r life).unposted ∙ s.holds.counts.unposted r ∙ posted };
       }
 
 -- what the log says can be finished is kept so
@@ -675,6 +661,6 @@ pub none_finishes : (rules : FrontRules) (late : Bool) (notes : Notes) (c : Cont
 none_finishes rules late notes c slots s why r i is posted =
     let it = found rules late notes c slots s r i is posted in
     elim why [
-      | inl idle ↦ it.is.pending (none_counted c.deletions c.pending_deletions slots s.content.sq_life s.content.deletion s.items.deletes s.has.deletions idle it.qid)
+      | inl idle ↦ it.is.closing (none_counted c.sqs c.pending_deletions slots s.content.sq_life s.content.deletion s.items.deletes s.has.deletions idle it.qid)
       | inr unfinishable ↦ unfinishable it.qid it.few it.is
     ]

@@ -1,8 +1,8 @@
 -- The device holds a queue, holds it no longer, or sets its class: the controller stands at its log with the note.
-use Rattle.std.proofs.Common.{◌≡◌, ◌≢◌, ℕ, ◌<◌, ◌==◌, Bool, true, false, if◌then◌else◌, List, ◌∷◌, length, Option, Some, None, refl, sym, ap, ◌∙◌, subst, arith, inl, inr}
+use Rattle.std.proofs.Common.{◌≡◌, ◌≢◌, ℕ, ◌<◌, ◌==◌, Bool, true, false, if◌then◌else◌, List, ◌∷◌, length, Option, Some, None, refl, sym, ap, ◌∙◌, subst, arith, inl, inr, is_some}
 use Rattle.std.specs.Prelude.{slice_set, option_map, unwrap_or, min, IsTrue}
 use Rattle.std.proofs.lemmas.Bool.{cases_eq, eq-eqb, eqb-true, eqb-false}
-use Rattle.std.proofs.lemmas.List.{length-set, set-get_or}
+use Rattle.std.proofs.lemmas.List.{set-get_or}
 use Rattle.std.proofs.lemmas.Option.{same_Some}
 use Rattle.nvme_arbiter.specs.Settings.{ArbitrationFields}
 use Rattle.nvme_arbiter.specs.History.{History}
@@ -21,15 +21,13 @@ use Rattle.nvme_log.specs.Queues.{Queue, open_sq}
 use Rattle.nvme_log.specs.Histories.{arbitration_of}
 use Rattle.nvme_ctrl_log.specs.Notes.{Notes, Held, Classed, logged}
 use Rattle.nvme_ctrl_log.specs.Doorbells.{submitted}
-use Rattle.nvme_slots.specs.Rings.{HasCounts}
 use Rattle.nvme_ctrl_log.specs.Observation.{is_held, class_set}
 use Rattle.nvme_ctrl_log.specs.Account.{MayBeHeld, MayBeClassed}
 use Rattle.nvme_slots.specs.declared.slot.Slot.{Slot}
 use Rattle.nvme_ctrl.specs.declared.state.SqState.{SqState}
 use Rattle.nvme_ctrl.specs.declared.state.Controller.{Controller}
 use Rattle.nvme_ctrl_content.specs.Content.{PendingDelete, Content, put_held, put_class}
-use Rattle.nvme_ctrl.specs.kept.Kept.{HasNumbers, HasItems, HoldsDoorbells, StandsAt, tags_of}
-use Rattle.nvme_slots.specs.Pool.{IsChain}
+use Rattle.nvme_ctrl.specs.kept.Kept.{HasNumbers, HasItems, HoldsDoorbells, StandsAt, shown_in}
 use Rattle.nvme_ctrl_content.specs.Standing.{HoldsReady, HoldsDeletion, HoldsQueues, IsPending, Holds, hand_of, on_board}
 use Rattle.nvme_ctrl.specs.kept.State.{no_sq_state, sq_at}
 use Rattle.nvme_ctrl.specs.inside.Fetching.{waiting_in}
@@ -41,8 +39,8 @@ use Rattle.nvme_ctrl_content.proofs.QueueChanges.{apart_queues, arrange}
 use Rattle.nvme_ctrl_content.proofs.QueueSteps.{agreement, holds_queues}
 use Rattle.nvme_ctrl_content.proofs.QueueWords.{in_log, in_content, counted}
 use Rattle.nvme_ctrl_log.proofs.QueueWords.{at_same, at_other}
-use Rattle.nvme_ctrl.proofs.Lives.{put_sq-states}
-use Rattle.nvme_ctrl.proofs.QueueStates.{IsSqWith, sq_of_with, put_sq-with, put_sq-none, put_sq-regions}
+use Rattle.nvme_ctrl.proofs.PendingDeletions.{deletions_kept}
+use Rattle.nvme_ctrl.proofs.QueueStates.{put_sqs, sq_changed, shown_put, waiting_kept, rings_kept}
 use Rattle.nvme_ctrl.proofs.QueueSets.{rung-kept}
 
 -- another number for whether a queue is held
@@ -64,6 +62,13 @@ put_class-same classed r x = elim (cases_eq x r) [
   | inl same ↦ at_same x r (classed r) (classed x) same ∙ ap classed (sym same)
   | inr other ↦ at_other x r (classed r) (classed x) other
 ]
+
+-- an open queue is on the board
+pub open_is_shown : (rules : FrontRules) (late : Bool) (notes : Notes) (c : Controller) (slots : List Slot) → StandsAt rules late notes c slots → (q : ℕ) → queue_at (board_of c.board).queues q ≡ None
+    → (queue : Queue) → open_sq (logged notes) q ≡ Some queue → ⊥
+open_is_shown rules late notes c slots s q none queue is_open =
+    let here = ap (λ (b : BoardView). queue_at b.queues q) s.numbers.board_is ∙ s.holds.queues.board q ∙ ap (option_map (on_board s.content)) is_open in
+    absurd (cc (none, here))
 
 module _ (rules : FrontRules) (late : Bool) (notes : Notes) (c : Controller) (slots : List Slot) (s : StandsAt rules late notes c slots)
     (q : ℕ) (queue : Queue) (is_open : open_sq (logged notes) q ≡ Some queue)
@@ -185,20 +190,10 @@ module _ (rules : FrontRules) (late : Bool) (notes : Notes) (c : Controller) (sl
   abbrev state : SqState
   state = held_state (sq_at c.sqs q) h
 
-  held_with : IsSqWith k.table k.cq_life q r state (k.sq r) (put_held k.held r on r)
-  held_with = let m = s.numbers.sqs q r life in record {
-    entry = m.entry;
-    in_table = m.in_table;
-    on = m.on;
-    to = m.to;
-    cq_region = m.cq_region;
-    cq_open = m.cq_open;
-    opened = m.opened;
-    held_is = h_is ∙ sym (at_same r r on (k.held r) refl);
-    unposted = m.unposted;
-    slots = m.slots;
-    some = m.some;
-  }
+  -- the queue was shown, and so the same are
+  still_shown : (p : ℕ) → shown_in now.board p ≡ shown_in k.board p
+  still_shown = shown_put k.board.queues q (Some (counted (put_held k.held r on) (put_class k.classed r class) k.sq queue))
+      (sym (ap (λ (o : Option OpenQueue). is_some o) (s.holds.queues.board q ∙ ap (option_map (on_board k)) is_open)))
 
   numbers_now : HasNumbers after now
   numbers_now = let n = s.numbers in record {
@@ -206,52 +201,27 @@ module _ (rules : FrontRules) (late : Bool) (notes : Notes) (c : Controller) (sl
     board_is = board_is;
     is_arbiter = subst (λ (a : ArbiterFields). IsTrue (is_arbiter a)) (sym arbiter) n.is_arbiter;
     outstanding_is = n.outstanding_is;
-    sq_ids = n.sq_ids;
-    cq_ids = n.cq_ids;
-    sqs = λ p x is. sq_of_with after now p x
-        (put_sq-with c k n q r life state k.sq (put_held k.held r on) held_with (λ y other. refl) (λ y other. at_other y r on (k.held y) other) p x is);
-    cqs = λ p x is. (let m = n.cqs p x is in record { slots = m.slots; some = m.some });
-    few_sqs = n.few_sqs;
-    few_cqs = n.few_cqs;
-    no_sqs = put_sq-none c k n q r life state;
-    no_cqs = n.no_cqs;
-    sq_size = length-set c.sqs q state ∙ n.sq_size;
-    cq_size = n.cq_size;
-    rung = rung-kept c.rung q c.sqs state there n.rung (λ same. same);
-    readied = n.readied;
+    sqs = (let m = n.sqs.each q r life in put_sqs c k n q r life state c.rung k.sq (put_held k.held r on) (shown_in now.board)
+        (sq_changed k.table k.cq_life q r (sq_at c.sqs q) state (k.sq r) (k.sq r) (k.held r) (put_held k.held r on r) (shown_in k.board q) (shown_in now.board q) m refl refl m.unposted refl refl
+        (h_is ∙ sym (at_same r r on (k.held r) refl)) (m.shown ∙ sym (still_shown q)))
+        (λ x other. refl) (λ x other. at_other x r on (k.held x) other) (λ p other. still_shown p) (rung-kept c.rung q c.sqs state there n.sqs.rung (λ same. same)));
+    cqs = n.cqs;
   }
 
   items_now : HasItems after slots now s.items
   items_now = let m = s.has in record {
-    window_chain = λ p. put_sq-states (λ y state. (x : ℕ) → k.sq_life y ≡ Some x → IsChain slots state.window (tags_of (s.items.windows x)))
-        c.sqs q state there (m.window_chain q) p (λ other. m.window_chain p);
-    window_items = m.window_items;
-    window_none = m.window_none;
-    window_is = m.window_is;
-    picked_there = m.picked_there;
-    outs_items = m.outs_items;
-    outs_apart = m.outs_apart;
-    outs_all = m.outs_all;
-    hand_is = m.hand_is;
-    ready_chain = m.ready_chain;
-    ready_items = m.ready_items;
-    ready_none = m.ready_none;
-    ready_is = m.ready_is;
-    deletions = m.deletions;
-    free_chain = m.free_chain;
-    free_items = m.free_items;
+    windows = waiting_kept c.sqs c.picked c.picked_qid slots k.sq_life k.sq_id (λ (x : ℕ). (k.sq x).window) s.items.windows q state there refl m.windows;
+    outs = m.outs;
+    readies = m.readies;
+    deletions = deletions_kept c.sqs c.pending_deletions slots k.sq_life k.deletion s.items.deletes q state there refl refl m.deletions;
+    free = m.free;
     few = m.few;
   }
 
   doorbells_now : HoldsDoorbells rules notes after now
   doorbells_now = let d = s.doorbells in record {
-    sqs = put_sq-regions (λ p x state. HasCounts state.ring (length (fetched past x)) (submitted rules notes x)) k.sq_life k.sq_id s.numbers.sq_ids c.sqs q r state life there
-        (d.sqs q r life) (λ p x other apart is. d.sqs p x is);
+    sqs = rings_kept c.sqs k.sq_life (λ (x : ℕ). (k.sq x).queue) (fetched past) (submitted rules notes) q state there refl d.sqs;
     cqs = d.cqs;
-    phases = d.phases;
-    no_tails = d.no_tails;
-    no_heads = d.no_heads;
-    no_posts = d.no_posts;
   }
 
   -- ---- what is shown
@@ -283,24 +253,17 @@ module _ (rules : FrontRules) (late : Bool) (notes : Notes) (c : Controller) (sl
     holds = holds_now;
     numbers = numbers_now;
     has = items_now;
-    doorbells = (let d = doorbells_now in record { sqs = d.sqs; cqs = d.cqs; phases = d.phases; no_tails = d.no_tails; no_heads = d.no_heads; no_posts = d.no_posts });
+    doorbells = (let d = doorbells_now in record { sqs = d.sqs; cqs = d.cqs });
     tags = (let t = s.tags in record {
       untaken_are = t.untaken_are;
-      outs_held = t.outs_held;
-      readies_held = t.readies_held;
-      none_held = t.none_held;
+      held = t.held;
       through = t.through;
-      windows_unanswered = t.windows_unanswered;
-      outs_unanswered = t.outs_unanswered;
-      deletes_unanswered = t.deletes_unanswered;
-      none_answered = t.none_answered;
-      answered_held = t.answered_held;
+      unanswered = t.unanswered;
       hand_entries = t.hand_entries;
       free_count = t.free_count;
       cookies = cookies_later notes (Held q on ∷ notes) slots s.items (λ x i. refl) (λ x. refl) t.cookies;
       passed = passed_later notes (Held q on ∷ notes) s.items (λ i. refl) refl (λ i waits. waits) t.passed;
-      none_flagged = t.none_flagged;
-      flags = t.flags;
+      flagged = t.flagged;
     });
     shown = record {
       held = held_now;
@@ -318,24 +281,17 @@ module _ (rules : FrontRules) (late : Bool) (notes : Notes) (c : Controller) (sl
     holds = holds_now;
     numbers = numbers_now;
     has = items_now;
-    doorbells = (let d = doorbells_now in record { sqs = d.sqs; cqs = d.cqs; phases = d.phases; no_tails = d.no_tails; no_heads = d.no_heads; no_posts = d.no_posts });
+    doorbells = (let d = doorbells_now in record { sqs = d.sqs; cqs = d.cqs });
     tags = (let t = s.tags in record {
       untaken_are = t.untaken_are;
-      outs_held = t.outs_held;
-      readies_held = t.readies_held;
-      none_held = t.none_held;
+      held = t.held;
       through = t.through;
-      windows_unanswered = t.windows_unanswered;
-      outs_unanswered = t.outs_unanswered;
-      deletes_unanswered = t.deletes_unanswered;
-      none_answered = t.none_answered;
-      answered_held = t.answered_held;
+      unanswered = t.unanswered;
       hand_entries = t.hand_entries;
       free_count = t.free_count;
       cookies = cookies_later notes (Classed q given ∷ notes) slots s.items (λ x i. refl) (λ x. refl) t.cookies;
       passed = passed_later notes (Classed q given ∷ notes) s.items (λ i. refl) refl (λ i waits. waits) t.passed;
-      none_flagged = t.none_flagged;
-      flags = t.flags;
+      flagged = t.flagged;
     });
     shown = record {
       held = λ p other is_other. ap (λ (b : Bool). put_held k.held r b other.region) left ∙ put_held-same k.held r other.region ∙ s.shown.held p other is_other;
@@ -422,7 +378,7 @@ pub class_call : (rules : FrontRules) (late : Bool) (notes : Notes) (c : Control
 class_call rules late notes c slots s q seen is io class class_of_io board shows arbiter stands =
     subst (λ (sqs : List SqState). StandsAt rules late (Classed q class ∷ notes) (record c { board = board; sqs = sqs }) slots) (set-get_or c.sqs q no_sq_state)
     (classed_stands rules late notes c slots s q it.queue it.is_open (s.content.held it.queue.region) (Some class) (sq_at c.sqs q).held
-    (s.numbers.sqs q it.queue.region (sq_lives rules late notes c slots s q it.queue it.is_open)).held board
+    (s.numbers.sqs.each q it.queue.region (sq_lives rules late notes c slots s q it.queue it.is_open)).held board
     (shows ∙ ap (λ (n : ℕ). record (board_of c.board) { queues = slice_set (board_of c.board).queues q (Some (record { class = class; count = n })) }) (ap (λ (x : OpenQueue). x.count) it.shown))
     arbiter stands io class class_of_io refl refl)
   where

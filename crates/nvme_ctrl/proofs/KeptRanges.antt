@@ -5,7 +5,7 @@ use Rattle.std.specs.List.{All, list_all}
 use Rattle.std.proofs.Math.Nat.{mod-lt}
 use Rattle.std.proofs.lemmas.Bool.{cases_lt, cases_eq, eq-eqb, ne_eqb, lt-ltb, le-leb, and_from, or_left, or_right}
 use Rattle.std.proofs.lemmas.List.{length-map}
-use Rattle.std.proofs.lemmas.List.Elements.{All-nil, All-cons, All-head, All-tail, All-weaker, All-map, All-same}
+use Rattle.std.proofs.lemmas.List.Elements.{All-head, All-tail, All-weaker, All-map, All-same}
 use Rattle.std.proofs.lemmas.List.Recursion.{and_from_places}
 use Rattle.nvme_admin.specs.declared.bounds.TheConstants.{MAX_REGIONS}
 use Rattle.nvme_log.specs.Rules.{FrontRules}
@@ -26,7 +26,7 @@ use Rattle.nvme_ctrl.proofs.Passed.{hand_is_devices}
 use Rattle.nvme_ctrl.proofs.PendingDeletions.{flagged_item}
 use Rattle.nvme_ctrl_content.proofs.Windows.{window-waits}
 use Rattle.nvme_slots.specs.Pool.{no_slot, slot_at, next_at, AreLinked, IsChain}
-use Rattle.nvme_ctrl.specs.kept.State.{no_chain, no_sq_state, no_cq_state, no_deletion, sq_at, cq_at, deletion_at}
+use Rattle.nvme_ctrl.specs.kept.State.{no_chain, no_sq_state, no_cq_state, sq_at, cq_at}
 use Rattle.nvme_ctrl.specs.kept.Kept.{Item, ReadyItem, IsWaitingIn, IsOutIn, IsReadyIn, IsDevices, is_free, tags_of, ready_tags, candidate_of, picked_region, picked_of, untaken, StandsAt}
 use Rattle.nvme_slots.proofs.Pools.{length-chain}
 use Rattle.nvme_ctrl.proofs.SlotItems.{All-both, All-parts, ready_state-range}
@@ -132,27 +132,39 @@ no_cq_in_range slots = and_from _ _ refl (no_chain_in_range 3 5 slots)
 module _ (rules : FrontRules) (late : Bool) (notes : Notes) (c : Controller) (slots : List Slot) (s : StandsAt rules late notes c slots) where
   -- a region has the queue of an identifier that there can be
   there : (r q : ℕ) → s.content.sq_id r ≡ Some q → q < MAX_REGIONS
-  there r q is = omega (arith, s.numbers.few_sqs q r (s.numbers.sq_ids.lives_are r q is))
+  there r q is = omega (arith, s.numbers.sqs.few q r (s.numbers.sqs.ids.lives_are r q is))
 
   -- submission queues
   attached : (q r : ℕ) → s.content.sq_life q ≡ Some r → (sq_at c.sqs q).cqid < MAX_REGIONS
-  attached q r life = let w = s.numbers.sqs q r life in omega (arith, s.numbers.few_cqs (sq_at c.sqs q).cqid w.cq_region w.cq_open)
+  attached q r life = let w = s.numbers.sqs.each q r life in omega (arith, s.numbers.cqs.few (sq_at c.sqs q).cqid w.cq_region w.cq_open)
 
   waiting_used : (q r : ℕ) → s.content.sq_life q ≡ Some r → All (λ (x : ℕ). is_used_as 1 1 (slot_at slots x) ≡ true) (tags_of (s.items.windows r))
   waiting_used q r life =
       All-map (λ (x : ℕ). is_used_as 1 1 (slot_at slots x) ≡ true) (λ (it : Item). it.tag) (s.items.windows r)
       (All-weaker (IsWaitingIn slots q r) (λ (it : Item). is_used_as 1 1 (slot_at slots it.tag) ≡ true)
-      (λ it h. used 1 1 (slot_at slots it.tag) (omega (arith, h.state)) (omega (arith, h.state)) (λ some. omega (arith, h.queue, s.numbers.few_sqs q r life)) (λ ended. absurd (omega (arith, h.state, ended))))
-      (s.items.windows r) (s.has.window_items q r life))
+      (λ it h. used 1 1 (slot_at slots it.tag) (omega (arith, h.state)) (omega (arith, h.state)) (λ some. omega (arith, h.queue, s.numbers.sqs.few q r life)) (λ ended. absurd (omega (arith, h.state, ended))))
+      (s.items.windows r) (s.has.windows.items q r life))
+
+  deletion_in_range : (q : ℕ) → is_deletion slots (sq_at c.sqs q) ≡ true
+  deletion_in_range q = elim (cases_eq (sq_at c.sqs q).closing 0) [
+    | inl none ↦ rw (eq-eqb (sq_at c.sqs q).closing 0 none) refl
+    | inr some ↦ (
+        let f = flagged_item c.sqs c.pending_deletions slots s.content.sq_life s.content.deletion s.items.deletes s.has.deletions q some in
+        let has = s.has.deletions.items f.region f.item f.is in
+        rw (ne_eqb (sq_at c.sqs q).closing 0 some)
+        (and_from _ _ (lt-ltb (sq_at c.sqs q).tag (length slots) (omega (arith, f.tag_is, has.inside)))
+        (eq-eqb _ _ (ap (λ (t : ℕ). (slot_at slots t).state) (sym f.tag_is) ∙ has.state))))
+  ]
 
   sq_in_range : (q : ℕ) → is_sq slots (sq_at c.sqs q) ≡ true
   sq_in_range q = by (s.content.sq_life q) refl where
     by : (o : Option ℕ) → s.content.sq_life q ≡ o → is_sq slots (sq_at c.sqs q) ≡ true
-    by None none = ap (is_sq slots) (s.numbers.no_sqs q none) ∙ no_sq_in_range slots
+    by None none = ap (is_sq slots) (s.numbers.sqs.none q none) ∙ no_sq_in_range slots
     by (Some r) life =
-        and_from _ _ (ring_of (sq_at c.sqs q).ring _ _ (s.doorbells.sqs q r life))
+        and_from _ _ (ring_of (sq_at c.sqs q).ring _ _ (s.doorbells.sqs.each q r life))
         (and_from _ _ (attached_of (sq_at c.sqs q) (attached q r life))
-        (chain 1 1 slots (sq_at c.sqs q).window (tags_of (s.items.windows r)) (s.has.window_chain q r life) (waiting_used q r life)))
+        (and_from _ _ (deletion_in_range q)
+        (chain 1 1 slots (sq_at c.sqs q).window (tags_of (s.items.windows r)) (s.has.windows.chain q r life) (waiting_used q r life))))
 
   -- completion queues
   ended_used : (x : ℕ) → All (λ (t : ℕ). is_used_as 3 5 (slot_at slots t) ≡ true) (ready_tags (s.items.readies x))
@@ -163,21 +175,21 @@ module _ (rules : FrontRules) (late : Bool) (notes : Notes) (c : Controller) (sl
       let range = ready_state-range y.was_out y.ready.with_queue in
       used 3 5 (slot_at slots y.tag) (omega (arith, h.state, range.0)) (omega (arith, h.state, range.1))
       (λ some. there y.ready.place.region (slot_at slots y.tag).sqid h.queue) (λ ended. h.few_types))
-      (s.items.readies x) (s.has.ready_items x))
+      (s.items.readies x) (s.has.readies.items x))
 
   cq_in_range : (q : ℕ) → is_cq slots (cq_at c.cqs q) ≡ true
   cq_in_range q = by (s.content.cq_life q) refl where
     by : (o : Option ℕ) → s.content.cq_life q ≡ o → is_cq slots (cq_at c.cqs q) ≡ true
-    by None none = ap (is_cq slots) (s.numbers.no_cqs q none) ∙ no_cq_in_range slots
+    by None none = ap (is_cq slots) (s.numbers.cqs.none q none) ∙ no_cq_in_range slots
     by (Some x) life =
-        and_from _ _ (ring_of (cq_at c.cqs q).ring _ _ (s.doorbells.cqs q x life))
-        (chain 3 5 slots (cq_at c.cqs q).ready (ready_tags (s.items.readies x)) (s.has.ready_chain q x life) (ended_used x))
+        and_from _ _ (ring_of (cq_at c.cqs q).ring _ _ (s.doorbells.cqs.each q x life))
+        (chain 3 5 slots (cq_at c.cqs q).ready (ready_tags (s.items.readies x)) (s.has.readies.chain q x life) (ended_used x))
 
   -- the commands that the device has
   out_placed : (x : ℕ) → (slot_at slots x).state ≡ 2 → (slot_at slots x).sqid < MAX_REGIONS
   out_placed x state =
-      let at = s.has.outs_all x state in
-      let is = (All-taken (IsOutIn s.content.sq_id slots) at.before at.item at.after (All-same (IsOutIn s.content.sq_id slots) _ _ (sym at.are) s.has.outs_items)).0 in
+      let at = s.has.outs.all x state in
+      let is = (All-taken (IsOutIn s.content.sq_id slots) at.before at.item at.after (All-same (IsOutIn s.content.sq_id slots) _ _ (sym at.are) s.has.outs.items)).0 in
       there at.item.place.region (slot_at slots x).sqid (is.queue ∙ ap (λ (t : ℕ). Some (slot_at slots t).sqid) at.tag)
 
   placed : (x : ℕ) → is_placed (slot_at slots x) ≡ true
@@ -186,30 +198,18 @@ module _ (rules : FrontRules) (late : Bool) (notes : Notes) (c : Controller) (sl
     | inr other ↦ rw (ne_eqb (slot_at slots x).state 2 other) refl
   ]
 
-  -- the pending deletions
-  deletion_in_range : (q : ℕ) → is_deletion slots (deletion_at c.deletions q) ≡ true
-  deletion_in_range q = elim (cases_eq (deletion_at c.deletions q).pending 0) [
-    | inl none ↦ rw (eq-eqb (deletion_at c.deletions q).pending 0 none) refl
-    | inr some ↦ (
-        let f = flagged_item c.deletions c.pending_deletions slots s.content.sq_life s.content.deletion s.items.deletes s.has.deletions q some in
-        let has = s.has.deletions.items f.region f.item f.is in
-        rw (ne_eqb (deletion_at c.deletions q).pending 0 some)
-        (and_from _ _ (lt-ltb (deletion_at c.deletions q).tag (length slots) (omega (arith, f.tag_is, has.inside)))
-        (eq-eqb _ _ (ap (λ (t : ℕ). (slot_at slots t).state) (sym f.tag_is) ∙ has.state))))
-  ]
-
   -- ---- the commands that are picked and not taken
   -- what waits in the admin queue isn't the device's
   none_picked : (it : Item) (rest : List Item) → s.items.windows 0 ≡ it ∷ rest → c.picked_qid ≢ 0 → IsDevices notes it.place → ⊥
   none_picked it rest are other device =
-      let none : picked_of c (s.content.sq_id 0) ≡ 0 = ap (picked_of c) (s.numbers.sq_ids.ids_are 0 0 s.numbers.sq_ids.admin) ∙ rw (ne_eqb 0 c.picked_qid (λ e. other (sym e))) refl in
+      let none : picked_of c (s.content.sq_id 0) ≡ 0 = ap (picked_of c) (s.numbers.sqs.ids.ids_are 0 0 s.numbers.sqs.ids.admin) ∙ rw (ne_eqb 0 c.picked_qid (λ e. other (sym e))) refl in
       let window : (s.content.sq 0).window ≡ candidate_of it ∷ map candidate_of rest =
-      s.has.window_is 0 ∙ ap (λ (n : ℕ). map candidate_of (drop n (s.items.windows 0))) none ∙ ap (map candidate_of) are in
+      s.has.windows.are 0 ∙ ap (λ (n : ℕ). map candidate_of (drop n (s.items.windows 0))) none ∙ ap (map candidate_of) are in
       let waits : is_waiting (fate_of (logged notes) 0 it.place.index) ≡ true =
       All-head (λ (z : Candidate). is_waiting (fate_of (logged notes) 0 z.index) ≡ true) (candidate_of it) (map candidate_of rest)
       (All-same (λ (z : Candidate). is_waiting (fate_of (logged notes) 0 z.index) ≡ true) _ _ (sym window) (window-waits (logged notes) 0 (s.content.sq 0) (s.holds.regions 0))) in
       let place : it.place.region ≡ 0 =
-      (All-head (IsWaitingIn slots 0 0) it rest (All-same (IsWaitingIn slots 0 0) _ _ (sym are) (s.has.window_items 0 0 s.numbers.sq_ids.admin))).place in
+      (All-head (IsWaitingIn slots 0 0) it rest (All-same (IsWaitingIn slots 0 0) _ _ (sym are) (s.has.windows.items 0 0 s.numbers.sqs.ids.admin))).place in
       let passed : is_passed notes it.place.index ≡ true = sym (rw place refl) ∙ device in
       let served = s.tags.passed.served it.place.index passed in
       cc (waits, served)
@@ -226,11 +226,11 @@ module _ (rules : FrontRules) (late : Bool) (notes : Notes) (c : Controller) (sl
     by (Some r) life = life ∙ ap (λ (o : Option ℕ). Some (unwrap_or o 0)) (sym life)
     by None none =
         let region : picked_region c s.content ≡ 0 = ap (λ (o : Option ℕ). unwrap_or o 0) none in
-        let few : c.picked ≤ length (s.items.windows 0) = subst (λ (r : ℕ). c.picked ≤ length (s.items.windows r)) region s.has.picked_there in
+        let few : c.picked ≤ length (s.items.windows 0) = subst (λ (r : ℕ). c.picked ≤ length (s.items.windows r)) region s.has.windows.picked_there in
         let all : All (λ (it : Item). IsDevices notes it.place) (take c.picked (s.items.windows 0)) =
         subst (λ (r : ℕ). All (λ (it : Item). IsDevices notes it.place) (take c.picked (s.items.windows r))) region
         (All-parts (λ (it : Item). IsDevices notes it.place) s.items.outs (untaken c s.content s.items) (hand_is_devices notes c slots s.content s.items s.tags)).1 in
-        absurd (at_least c.picked (s.items.windows 0) some few refl (λ e. let admin = s.numbers.sq_ids.admin in let closed = ap s.content.sq_life (sym e) ∙ none in cc (admin, closed)) all)
+        absurd (at_least c.picked (s.items.windows 0) some few refl (λ e. let admin = s.numbers.sqs.ids.admin in let closed = ap s.content.sq_life (sym e) ∙ none in cc (admin, closed)) all)
 
   -- the counts
   few_picked : c.picked ≤ (sq_at c.sqs c.picked_qid).window.len
@@ -238,8 +238,8 @@ module _ (rules : FrontRules) (late : Bool) (notes : Notes) (c : Controller) (sl
     | inl none ↦ omega (arith, none)
     | inr some ↦ (
         let r : ℕ = picked_region c s.content in
-        let window = s.has.window_chain c.picked_qid r (picked_open some) in
-        omega (arith, s.has.picked_there, window.len_is, length-map (s.items.windows r) (λ (it : Item). it.tag)))
+        let window = s.has.windows.chain c.picked_qid r (picked_open some) in
+        omega (arith, s.has.windows.picked_there, window.len_is, length-map (s.items.windows r) (λ (it : Item). it.tag)))
   ]
 
   counts_in_range : has_counts c slots ≡ true
@@ -249,15 +249,15 @@ module _ (rules : FrontRules) (late : Bool) (notes : Notes) (c : Controller) (sl
 
   -- the free slots
   free_in_range : is_chain 0 0 slots c.free ≡ true
-  free_in_range = chain 0 0 slots c.free s.items.free s.has.free_chain
+  free_in_range = chain 0 0 slots c.free s.items.free s.has.free.chain
       (All-weaker (is_free slots) (λ (x : ℕ). is_used_as 0 0 (slot_at slots x) ≡ true)
-      (λ x free. used 0 0 (slot_at slots x) (omega arith) (omega (arith, free)) (λ some. absurd (some free)) (λ ended. absurd (omega (arith, free, ended)))) s.items.free s.has.free_items)
+      (λ x free. used 0 0 (slot_at slots x) (omega arith) (omega (arith, free)) (λ some. absurd (some free)) (λ ended. absurd (omega (arith, free, ended)))) s.items.free s.has.free.items)
 
   -- all of it
   all_in_range : is_in_range c slots ≡ true
   all_in_range =
       and_from (has_numbers c slots) (has_queues c slots && list_all is_placed slots)
-      (and_from _ _ s.numbers.is_arbiter (and_from _ _ counts_in_range (and_from _ _ (all_at (is_deletion slots) c.deletions no_deletion (λ r below. deletion_in_range r)) free_in_range)))
+      (and_from _ _ s.numbers.is_arbiter (and_from _ _ counts_in_range free_in_range))
       (and_from (has_queues c slots) (list_all is_placed slots)
       (and_from _ _ (all_at (is_sq slots) c.sqs no_sq_state (λ q below. sq_in_range q)) (all_at (is_cq slots) c.cqs no_cq_state (λ x below. cq_in_range x)))
       (all_at is_placed slots no_slot (λ x below. placed x)))

@@ -112,32 +112,39 @@ keeps-quiet rules notes e c slots k g quiet h = record {
   numbers = h.numbers;
   has = h.has;
   doorbells = (let d = h.doorbells in record {
-    sqs = λ q r life. subst (λ (xs : List Sqe). HasCounts (sq_at c.sqs q).ring (length xs) (submitted rules notes r)) (sym (quiet.fetches r)) (d.sqs q r life);
-    cqs = λ q x life. subst (λ (xs : List Cqe). HasCounts (cq_at c.cqs q).ring (consumed rules notes x) (length xs)) (sym (quiet.posts x)) (d.cqs q x life);
-    phases = λ q x life. d.phases q x life ∙ ap (λ (xs : List Cqe). phase_after (length xs) (cq_at c.cqs q).ring.slots) (sym (quiet.posts x));
-    no_tails = d.no_tails;
-    no_heads = λ x none. d.no_heads x (unopened_before e (logged notes) x none);
-    no_posts = λ x none. quiet.posts x ∙ d.no_posts x (unopened_before e (logged notes) x none);
+    sqs = record {
+      each = λ q r life. subst (λ (xs : List Sqe). HasCounts (sq_at c.sqs q).ring (length xs) (submitted rules notes r)) (sym (quiet.fetches r)) (d.sqs.each q r life);
+      no_tails = d.sqs.no_tails;
+    };
+    cqs = record {
+      each = λ q x life. subst (λ (xs : List Cqe). HasCounts (cq_at c.cqs q).ring (consumed rules notes x) (length xs)) (sym (quiet.posts x)) (d.cqs.each q x life);
+      phases = λ q x life. d.cqs.phases q x life ∙ ap (λ (xs : List Cqe). phase_after (length xs) (cq_at c.cqs q).ring.slots) (sym (quiet.posts x));
+      no_heads = λ x none. d.cqs.no_heads x (unopened_before e (logged notes) x none);
+      no_posts = λ x none. quiet.posts x ∙ d.cqs.no_posts x (unopened_before e (logged notes) x none);
+    };
   });
   tags = (let m = h.tags in record {
     untaken_are = quiet.dispatches ∙ m.untaken_are;
-    outs_held = All-weaker (λ (it : Item). holder notes it.tag ≡ Some it.place) (λ (it : Item). holder (Logged e ∷ notes) it.tag ≡ Some it.place) (λ it is. quiet.holders it.tag ∙ is) g.outs m.outs_held;
-    readies_held = λ x. All-weaker (λ (y : ReadyItem). y.was_out ≡ true → holder notes y.tag ≡ Some y.ready.place) (λ (y : ReadyItem). y.was_out ≡ true → holder (Logged e ∷ notes) y.tag ≡ Some y.ready.place)
-        (λ y is was. quiet.holders y.tag ∙ is was) (g.readies x) (m.readies_held x);
-    none_held = λ t a b. quiet.holders t ∙ m.none_held t a b;
+    held = record {
+      outs = All-weaker (λ (it : Item). holder notes it.tag ≡ Some it.place) (λ (it : Item). holder (Logged e ∷ notes) it.tag ≡ Some it.place) (λ it is. quiet.holders it.tag ∙ is) g.outs m.held.outs;
+      readies = λ x. All-weaker (λ (y : ReadyItem). y.was_out ≡ true → holder notes y.tag ≡ Some y.ready.place) (λ (y : ReadyItem). y.was_out ≡ true → holder (Logged e ∷ notes) y.tag ≡ Some y.ready.place)
+          (λ y is was. quiet.holders y.tag ∙ is was) (g.readies x) (m.held.readies x);
+      none = λ t a b. quiet.holders t ∙ m.held.none t a b;
+      answered = λ t is. still_not_out-logged e notes t (m.held.answered t is);
+    };
     through = λ x. All-weaker (λ (y : ReadyItem). IsThrough notes y.ready) (λ (y : ReadyItem). IsThrough (Logged e ∷ notes) y.ready) (λ y is. through-event notes e y.ready is) (g.readies x) (m.through x);
-    windows_unanswered = m.windows_unanswered;
-    outs_unanswered = m.outs_unanswered;
-    deletes_unanswered = m.deletes_unanswered;
-    none_answered = λ r i past. m.none_answered r i (subst (λ (xs : List Sqe). length xs ≤ i) (quiet.fetches r) past);
-    answered_held = λ t is. still_not_out-logged e notes t (m.answered_held t is);
+    unanswered = record {
+      windows = m.unanswered.windows;
+      outs = m.unanswered.outs;
+      deletes = m.unanswered.deletes;
+      none = λ r i past. m.unanswered.none r i (subst (λ (xs : List Sqe). length xs ≤ i) (quiet.fetches r) past);
+    };
     hand_entries = All-weaker (HasEntry (logged notes)) (HasEntry (e ∷ logged notes)) (λ it is. ap (λ (xs : List Sqe). slice_get xs it.place.index) (quiet.fetches it.place.region) ∙ is)
         (g.outs ++ untaken c k g) m.hand_entries;
     free_count = ap (λ (n : ℕ). c.free.len + n) quiet.fetch_count ∙ m.free_count ∙ ap (λ (n : ℕ). length slots + n) (sym quiet.post_count);
     cookies = cookies_later notes (Logged e ∷ notes) slots g (λ r i. refl) quiet.fetches m.cookies;
     passed = passed_later notes (Logged e ∷ notes) g (λ i. refl) quiet.dispatches (λ i waits. stays e (logged notes) 0 i waits) m.passed;
-    none_flagged = m.none_flagged;
-    flags = m.flags;
+    flagged = m.flagged;
   });
   apart = h.apart;
 }
@@ -190,30 +197,36 @@ pub keeps-answered : (rules : FrontRules) (notes : Notes) (i : ℕ) (answer : An
 keeps-answered rules notes i answer c slots k g none there windows outs deletes h = record {
   numbers = h.numbers;
   has = h.has;
-  doorbells = (let d = h.doorbells in record { sqs = d.sqs; cqs = d.cqs; phases = d.phases; no_tails = d.no_tails; no_heads = d.no_heads; no_posts = d.no_posts });
+  doorbells = (let d = h.doorbells in record { sqs = d.sqs; cqs = d.cqs });
   tags = (let m = h.tags in record {
     untaken_are = m.untaken_are;
-    outs_held = m.outs_held;
-    readies_held = m.readies_held;
-    none_held = m.none_held;
+    held = record {
+      outs = m.held.outs;
+      readies = m.held.readies;
+      none = m.held.none;
+      answered = λ t is. still_not_out-answered 0 i answer notes t (m.held.answered t is);
+    };
     through = λ x. All-weaker (λ (y : ReadyItem). IsThrough notes y.ready) (λ (y : ReadyItem). IsThrough (Answered 0 i answer ∷ notes) y.ready) (λ y is. still y.ready is) (g.readies x) (m.through x);
-    windows_unanswered = λ r k d lt. other_answer notes i answer _ (windows r k d lt) ∙ m.windows_unanswered r k d lt;
-    outs_unanswered = λ k d lt. other_answer notes i answer _ (outs k d lt) ∙ m.outs_unanswered k d lt;
-    deletes_unanswered = λ r it is. other_answer notes i answer (place_at 0 it.index) (deletes r it is) ∙ m.deletes_unanswered r it is;
-    none_answered = λ r j past. other_answer notes i answer (record { region = r; index = j }) (beyond r j past) ∙ m.none_answered r j past;
-    answered_held = λ t is. still_not_out-answered 0 i answer notes t (m.answered_held t is);
+    unanswered = record {
+      windows = λ r k d lt. other_answer notes i answer _ (windows r k d lt) ∙ m.unanswered.windows r k d lt;
+      outs = λ k d lt. other_answer notes i answer _ (outs k d lt) ∙ m.unanswered.outs k d lt;
+      deletes = λ r it is. other_answer notes i answer (place_at 0 it.index) (deletes r it is) ∙ m.unanswered.deletes r it is;
+      none = λ r j past. other_answer notes i answer (record { region = r; index = j }) (beyond r j past) ∙ m.unanswered.none r j past;
+    };
     hand_entries = m.hand_entries;
     free_count = m.free_count;
     cookies = cookies_later notes (Answered 0 i answer ∷ notes) slots g (λ r j. refl) (λ r. refl) m.cookies;
     passed = passed_later notes (Answered 0 i answer ∷ notes) g (λ j. refl) refl (λ j waits. waits) m.passed;
-    none_flagged = λ r j none_there. unflagged r j (0 == r && i == j) none_there;
-    flags = m.flags;
+    flagged = record {
+      none = λ r j none_there. unflagged r j (0 == r && i == j) none_there;
+      readies = m.flagged.readies;
+    };
   });
   apart = h.apart;
 } where
   unflagged : (r j : ℕ) (b : Bool) → (if b then Some answer else answer_of notes r j) ≡ None → flags_of notes r j ≡ None
   unflagged r j true lost = absurd (cc lost)
-  unflagged r j false is = h.tags.none_flagged r j is
+  unflagged r j false is = h.tags.flagged.none r j is
 
   still : (t : Ready) → IsThrough notes t → IsThrough (Answered 0 i answer ∷ notes) t
   still t is = elim is [

@@ -27,7 +27,7 @@ module _ (rules : FrontRules) (late : Bool) (notes : Notes) (c : Controller) (sl
 
   -- the queue of a region whose state is kept
   queue_is : (q r : ℕ) → s.content.sq_id r ≡ Some q → qid_of_region (logged notes) r ≡ Some q
-  queue_is q r id = s.holds.queues.qid_is r ∙ ap (λ (o : Option Attachment). option_map (λ (a : Attachment). a.qid) o) (s.numbers.sqs q r (s.numbers.sq_ids.lives_are r q id)).opened
+  queue_is q r id = s.holds.queues.qid_is r ∙ ap (λ (o : Option Attachment). option_map (λ (a : Attachment). a.qid) o) (s.numbers.sqs.each q r (s.numbers.sqs.ids.lives_are r q id)).opened
 
   -- the place of a slot whose command the device has
   record IsHeld : Type 0 where
@@ -36,9 +36,9 @@ module _ (rules : FrontRules) (late : Bool) (notes : Notes) (c : Controller) (sl
 
   place_held : slot.state ≡ 2 → IsHeld
   place_held state =
-      let at = s.has.outs_all tag state in
+      let at = s.has.outs.all tag state in
       let held = (All-taken (λ (y : Item). holder notes y.tag ≡ Some y.place) at.before at.item at.after
-      (All-same (λ (y : Item). holder notes y.tag ≡ Some y.place) (at.before ++ at.item ∷ at.after) s.items.outs (sym at.are) s.tags.outs_held)).0 in
+      (All-same (λ (y : Item). holder notes y.tag ≡ Some y.place) (at.before ++ at.item ∷ at.after) s.items.outs (sym at.are) s.tags.held.outs)).0 in
       record { place = at.item.place; held = ap (holder notes) (sym at.tag) ∙ held }
 
   -- a slot that is found has the command's tag

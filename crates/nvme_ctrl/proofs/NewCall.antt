@@ -10,6 +10,8 @@ use Rattle.std.proofs.lemmas.Option.{same_Some}
 use Rattle.std.proofs.lemmas.List.{length-set, length-replicate}
 use Rattle.std.proofs.lemmas.List.Elements.{All-nil}
 use Rattle.nvme_arbiter.specs.Limits.{queue_limit}
+use Rattle.nvme_arbiter.specs.declared.pick.OpenQueue.{OpenQueue}
+use Rattle.nvme_arbiter.specs.Queues.{queue_at}
 use Rattle.nvme_arbiter.specs.Layout.{is_arbiter, board_of}
 use Rattle.nvme_arbiter.specs.Settings.{ArbitrationFields}
 use Rattle.nvme_arbiter.specs.Board.{BoardStandsAt}
@@ -40,9 +42,9 @@ use Rattle.nvme_ctrl.specs.declared.state.CqState.{CqState}
 use Rattle.nvme_ctrl.specs.declared.state.Controller.{Controller}
 use Rattle.nvme_ctrl_log.specs.First.{IsFirst}
 use Rattle.nvme_ctrl_content.specs.Content.{Content}
-use Rattle.nvme_ctrl.specs.kept.Kept.{Item, Items, HasNumbers, HasItems, HoldsDoorbells, HoldsTags, StandsAt, IsWaitingIn, IsOutIn, IsReadyIn, IsSqOf, IsCqOf, AreIds, DeleteItem, candidate_of, picked_of, delete_of, HasDeletions}
+use Rattle.nvme_ctrl.specs.kept.Kept.{Item, Items, HasNumbers, HasItems, HoldsDoorbells, HoldsTags, StandsAt, IsWaitingIn, IsOutIn, IsReadyIn, IsSqOf, IsCqOf, AreIds, DeleteItem, candidate_of, picked_of, delete_of, HasDeletions, shown_in}
 use Rattle.nvme_slots.specs.Pool.{IsChain, slot_at}
-use Rattle.nvme_ctrl.specs.kept.State.{no_sq_state, no_cq_state, no_chain, sq_at, cq_at, no_deletion, deletion_at, pending_tag}
+use Rattle.nvme_ctrl.specs.kept.State.{no_sq_state, no_cq_state, no_chain, sq_at, cq_at, delete_tag}
 use Rattle.nvme_ctrl_content.proofs.Beginning.{first_content, first_table, first_made, first_holds, first_sq_regions, first_cq_regions, same_each}
 use Rattle.nvme_ctrl.proofs.Lives.{put_sq-states, put_cq-states}
 
@@ -208,7 +210,6 @@ made table board sq_slots cq_slots depths free = record {
   outstanding = 0;
   picked = 0;
   picked_qid = 0;
-  deletions = replicate 65 no_deletion;
   pending_deletions = 0;
   own = no_own;
   rung = 0;
@@ -259,6 +260,9 @@ module _ (rules : FrontRules) (mechanism : Mechanism) (settings : ArbitrationFie
     in_table : k.table.sq 0 ≡ Some admin_entry
     in_table = (first_table rules first.placing first.sq_address sq_slots first.cq_address cq_slots first.regions_are).sq 0
 
+    admin_shown : shown_in k.board 0 ≡ true
+    admin_shown = ap (λ (qs : List (Option OpenQueue)). is_some (queue_at qs 0)) queues
+
     admin_sq_is : IsSqOf c k 0 0
     admin_sq_is = record {
       entry = admin_entry;
@@ -269,6 +273,7 @@ module _ (rules : FrontRules) (mechanism : Mechanism) (settings : ArbitrationFie
       cq_open = ap (λ (state : SqState). first_life state.cqid) sq_is;
       opened = refl;
       held = ap (λ (state : SqState). state.held == 1) sq_is;
+      shown = ap (λ (state : SqState). state.closing == 0) sq_is ∙ sym admin_shown;
       unposted = ap (λ (state : SqState). state.unposted) sq_is;
       slots = ap (λ (state : SqState). state.ring.slots) sq_is ∙ sq_here;
       some = subst (λ (m : ℕ). 0 < m) sq_here sq_counts.some;
@@ -283,56 +288,64 @@ module _ (rules : FrontRules) (mechanism : Mechanism) (settings : ArbitrationFie
       board_is = refl;
       is_arbiter = arbiter;
       outstanding_is = refl;
-      sq_ids = first_ids;
-      cq_ids = first_ids;
-      sqs = of_kept (λ q r. IsSqOf c k q r) admin_sq_is;
-      cqs = of_kept (λ q x. IsCqOf c k q x) admin_cq_is;
-      few_sqs = of_kept (λ q r. q < 65) (omega arith);
-      few_cqs = of_kept (λ q r. q < 65) (omega arith);
-      no_sqs = λ q none. each_sq (λ y state. y ≢ 0 → state ≡ no_sq_state) sq_slots (λ other. absurd (other refl)) (λ y other also. refl) q (only_others q none);
-      no_cqs = λ q none. each_cq (λ y state. y ≢ 0 → state ≡ no_cq_state) cq_slots (λ other. absurd (other refl)) (λ y other also. refl) q (only_others q none);
-      sq_size = length-set (replicate 65 no_sq_state) 0 (first_sq_state sq_slots) ∙ length-replicate 65 no_sq_state;
-      cq_size = length-set (replicate 65 no_cq_state) 0 (first_cq_state cq_slots) ∙ length-replicate 65 no_cq_state;
-      rung = λ q few out. each_sq (λ y state. state.ring.head ≡ state.ring.tail) sq_slots refl (λ y other. refl) q;
-      readied = λ q few out. each_cq (λ y state. state.ready.len ≡ 0) cq_slots refl (λ y other. refl) q;
+      sqs = record {
+        ids = first_ids;
+        each = of_kept (λ q r. IsSqOf c k q r) admin_sq_is;
+        few = of_kept (λ q r. q < 65) (omega arith);
+        none = λ q none. each_sq (λ y state. y ≢ 0 → state ≡ no_sq_state) sq_slots (λ other. absurd (other refl)) (λ y other also. refl) q (only_others q none);
+        size = length-set (replicate 65 no_sq_state) 0 (first_sq_state sq_slots) ∙ length-replicate 65 no_sq_state;
+        rung = λ q few out. each_sq (λ y state. state.ring.head ≡ state.ring.tail) sq_slots refl (λ y other. refl) q;
+      };
+      cqs = record {
+        ids = first_ids;
+        each = of_kept (λ q x. IsCqOf c k q x) admin_cq_is;
+        few = of_kept (λ q r. q < 65) (omega arith);
+        none = λ q none. each_cq (λ y state. y ≢ 0 → state ≡ no_cq_state) cq_slots (λ other. absurd (other refl)) (λ y other also. refl) q (only_others q none);
+        size = length-set (replicate 65 no_cq_state) 0 (first_cq_state cq_slots) ∙ length-replicate 65 no_cq_state;
+        readied = λ q few out. each_cq (λ y state. state.ready.len ≡ 0) cq_slots refl (λ y other. refl) q;
+      };
     }
-
-    none_pending : (r : ℕ) → deletion_at (replicate 65 no_deletion) r ≡ no_deletion
-    none_pending r = same_each 65 r no_deletion
 
     no_delete : (o : Option ℕ) → delete_of (λ (r : ℕ). None) o ≡ None
     no_delete None = refl
     no_delete (Some r) = refl
 
-    new_deletions : HasDeletions (replicate 65 no_deletion) 0 slots first_life (λ r. None) (λ r. None)
+    new_deletions : HasDeletions c.sqs 0 slots first_life (λ r. None) (λ r. None)
     new_deletions = record {
       are = λ r. refl;
-      tags = λ q. ap pending_tag (none_pending q) ∙ sym (ap (λ (o : Option DeleteItem). option_map (λ (it : DeleteItem). it.tag) o) (no_delete (first_life q)));
+      tags = λ q. each_sq (λ x state. delete_tag state ≡ None) sq_slots refl (λ x other. refl) q ∙ sym (ap (λ (o : Option DeleteItem). option_map (λ (it : DeleteItem). it.tag) o) (no_delete (first_life q)));
       queues = λ r it at. cc at;
       items = λ r it at. cc at;
       apart = λ r x it other at there same. cc at;
       counted = refl;
-      size = length-replicate 65 no_deletion;
     }
 
     new_items : HasItems c slots k (no_items n)
     new_items = record {
-      window_chain = λ q r is. each_sq (λ x state. IsChain slots state.window []) sq_slots (no_chain-is slots) (λ x other. no_chain-is slots) q;
-      window_items = λ q r is. All-nil (IsWaitingIn slots q r);
-      window_none = λ r none. refl;
-      window_is = λ r. ap (λ (its : List Item). map candidate_of its) (sym (drop-nil (picked_of c (first_life r))));
-      picked_there = omega arith;
-      outs_items = All-nil (IsOutIn first_life slots);
-      outs_apart = tt;
-      outs_all = λ x out. (let z = all_free x in cc);
-      hand_is = refl;
-      ready_chain = λ q x is. each_cq (λ y state. IsChain slots state.ready []) cq_slots (no_chain-is slots) (λ y other. no_chain-is slots) q;
-      ready_items = λ x. All-nil (IsReadyIn first_life slots);
-      ready_none = λ x none. refl;
-      ready_is = λ x. refl;
+      windows = record {
+        chain = λ q r is. each_sq (λ x state. IsChain slots state.window []) sq_slots (no_chain-is slots) (λ x other. no_chain-is slots) q;
+        items = λ q r is. All-nil (IsWaitingIn slots q r);
+        none = λ r none. refl;
+        are = λ r. ap (λ (its : List Item). map candidate_of its) (sym (drop-nil (picked_of c (first_life r))));
+        picked_there = omega arith;
+      };
+      outs = record {
+        items = All-nil (IsOutIn first_life slots);
+        apart = tt;
+        all = λ x out. (let z = all_free x in cc);
+        hand_is = refl;
+      };
+      readies = record {
+        chain = λ q x is. each_cq (λ y state. IsChain slots state.ready []) cq_slots (no_chain-is slots) (λ y other. no_chain-is slots) q;
+        items = λ x. All-nil (IsReadyIn first_life slots);
+        none = λ x none. refl;
+        are = λ x. refl;
+      };
       deletions = new_deletions;
-      free_chain = chain;
-      free_items = λ i e lt. all_free _;
+      free = record {
+        chain = chain;
+        items = λ i e lt. all_free _;
+      };
       few = few;
     }
 
@@ -342,35 +355,37 @@ module _ (rules : FrontRules) (mechanism : Mechanism) (settings : ArbitrationFie
 
     new_doorbells : HoldsDoorbells rules [] c k
     new_doorbells = record {
-      sqs = of_kept (λ q r. HasCounts (sq_at c.sqs q).ring 0 0) (subst (λ (state : SqState). HasCounts state.ring 0 0) (sym sq_is) sq_counts);
-      cqs = of_kept (λ q x. HasCounts (cq_at c.cqs q).ring 0 0) (subst (λ (state : CqState). HasCounts state.ring 0 0) (sym cq_is) cq_counts);
-      phases = of_kept (λ q x. ((cq_at c.cqs q).phase == 1) ≡ phase_after 0 (cq_at c.cqs q).ring.slots)
-          (subst (λ (state : CqState). (state.phase == 1) ≡ phase_after 0 state.ring.slots) (sym cq_is) (first_phase cq_slots));
-      no_tails = λ r none. refl;
-      no_heads = λ x none. refl;
-      no_posts = λ x none. refl;
+      sqs = record {
+        each = of_kept (λ q r. HasCounts (sq_at c.sqs q).ring 0 0) (subst (λ (state : SqState). HasCounts state.ring 0 0) (sym sq_is) sq_counts);
+        no_tails = λ r none. refl;
+      };
+      cqs = record {
+        each = of_kept (λ q x. HasCounts (cq_at c.cqs q).ring 0 0) (subst (λ (state : CqState). HasCounts state.ring 0 0) (sym cq_is) cq_counts);
+        phases = of_kept (λ q x. ((cq_at c.cqs q).phase == 1) ≡ phase_after 0 (cq_at c.cqs q).ring.slots)
+            (subst (λ (state : CqState). (state.phase == 1) ≡ phase_after 0 state.ring.slots) (sym cq_is) (first_phase cq_slots));
+        no_heads = λ x none. refl;
+        no_posts = λ x none. refl;
+      };
     }
 
     new_tags : HoldsTags [] c slots k (no_items n)
     new_tags = record {
       untaken_are = refl;
-      outs_held = λ i e lt. absurd (omega (arith, lt));
-      readies_held = λ x i e lt. absurd (omega (arith, lt));
-      none_held = λ t out answered. refl;
+      held = record {
+        outs = λ i e lt. absurd (omega (arith, lt));
+        readies = λ x i e lt. absurd (omega (arith, lt));
+        none = λ t out answered. refl;
+        answered = λ t answered. refl;
+      };
       through = λ x i e lt. absurd (omega (arith, lt));
-      windows_unanswered = λ r i e lt. absurd (omega (arith, lt));
-      outs_unanswered = λ i e lt. absurd (omega (arith, lt));
-      deletes_unanswered = λ r it at. refl;
-      none_answered = λ r i le. refl;
-      answered_held = λ t answered. refl;
+      unanswered = record {
+        windows = λ r i e lt. absurd (omega (arith, lt));
+        outs = λ i e lt. absurd (omega (arith, lt));
+        deletes = λ r it at. refl;
+        none = λ r i le. refl;
+      };
       hand_entries = λ i e lt. absurd (omega (arith, lt));
       free_count = omega (arith, chain.len_is, length-upto n, size);
-      passed = record {
-        all_handed = λ i e lt. absurd (omega (arith, lt));
-        served = λ i is. cc is;
-        readies = λ x i e lt. absurd (omega (arith, lt));
-        deletes = λ r it at. refl;
-      };
       cookies = record {
         windows = λ r i e lt. absurd (omega (arith, lt));
         outs = λ i e lt. absurd (omega (arith, lt));
@@ -378,8 +393,16 @@ module _ (rules : FrontRules) (mechanism : Mechanism) (settings : ArbitrationFie
         deletes = λ r it at. cc at;
         none = λ r i le. refl;
       };
-      none_flagged = λ r i none. refl;
-      flags = λ x i e lt. absurd (omega (arith, lt));
+      passed = record {
+        all_handed = λ i e lt. absurd (omega (arith, lt));
+        served = λ i is. cc is;
+        readies = λ x i e lt. absurd (omega (arith, lt));
+        deletes = λ r it at. refl;
+      };
+      flagged = record {
+        none = λ r i none. refl;
+        readies = λ x i e lt. absurd (omega (arith, lt));
+      };
     }
 
     -- the controller stands at the empty log

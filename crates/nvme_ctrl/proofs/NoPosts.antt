@@ -69,7 +69,7 @@ module _ (rules : FrontRules) (late : Bool) (notes : Notes) (c : Controller) (sl
       | inl aborted ↦ (
           let got : length (stands.content.sq r).got ≤ i = subst (λ (xs : List Sqe). length xs ≤ i) (stands.holds.regions r).fetched_is beyond in
           false≢true (sym ((stands.holds.regions r).none_aborted i got) ∙ aborted))
-      | inr a ↦ (let none : None ≡ Some a.answer = sym (stands.tags.none_answered r i beyond) ∙ a.answered in cc none)
+      | inr a ↦ (let none : None ≡ Some a.answer = sym (stands.tags.unanswered.none r i beyond) ∙ a.answered in cc none)
     ])
   ]
 
@@ -77,10 +77,10 @@ module _ (rules : FrontRules) (late : Bool) (notes : Notes) (c : Controller) (sl
   window_regions : (r : ℕ) → All (λ (it : Item). it.place.region ≡ r) (stands.items.windows r)
   window_regions r = by (stands.content.sq_id r) refl where
     by : (o : Option ℕ) → stands.content.sq_id r ≡ o → All (λ (it : Item). it.place.region ≡ r) (stands.items.windows r)
-    by None none = All-same (λ (it : Item). it.place.region ≡ r) (stands.items.windows r) [] (stands.has.window_none r none) (All-nil (λ (it : Item). it.place.region ≡ r))
+    by None none = All-same (λ (it : Item). it.place.region ≡ r) (stands.items.windows r) [] (stands.has.windows.none r none) (All-nil (λ (it : Item). it.place.region ≡ r))
     by (Some q) is =
         All-weaker (IsWaitingIn slots q r) (λ (it : Item). it.place.region ≡ r) (λ it h. h.place) (stands.items.windows r)
-        (stands.has.window_items q r (stands.numbers.sq_ids.lives_are r q is))
+        (stands.has.windows.items q r (stands.numbers.sqs.ids.lives_are r q is))
 
   -- it doesn't wait
   not_waiting : (r i : ℕ) → IsServed notes (place_at r i) → one_if (is_served (logged notes) r i) ≡ 1
@@ -90,9 +90,9 @@ module _ (rules : FrontRules) (late : Bool) (notes : Notes) (c : Controller) (sl
       let picked : ℕ = picked_of c (stands.content.sq_id r) in
       let unanswered : All (λ (it : Item). answer_of notes r it.place.index ≡ None) all =
       All-both (λ (it : Item). it.place.region ≡ r) (λ (it : Item). IsUnanswered notes it.place) (λ (it : Item). answer_of notes r it.place.index ≡ None)
-      (λ it at u. ap (λ (z : ℕ). answer_of notes z it.place.index) (sym at) ∙ u) all (window_regions r) (stands.tags.windows_unanswered r) in
+      (λ it at u. ap (λ (z : ℕ). answer_of notes z it.place.index) (sym at) ∙ u) all (window_regions r) (stands.tags.unanswered.windows r) in
       let candidates : All (λ (z : Candidate). answer_of notes r z.index ≡ None) s.window =
-      All-same (λ (z : Candidate). answer_of notes r z.index ≡ None) s.window (map candidate_of (drop picked all)) (stands.has.window_is r)
+      All-same (λ (z : Candidate). answer_of notes r z.index ≡ None) s.window (map candidate_of (drop picked all)) (stands.has.windows.are r)
       (All-map (λ (z : Candidate). answer_of notes r z.index ≡ None) candidate_of (drop picked all)
       (All-drop (λ (it : Item). answer_of notes r it.place.index ≡ None) picked all unanswered)) in
       let others : All (λ (z : Candidate). (z.index == i) ≡ false) s.window =
@@ -111,10 +111,10 @@ module _ (rules : FrontRules) (late : Bool) (notes : Notes) (c : Controller) (sl
   not_in_hand r i served =
       let held : List Item = stands.items.outs ++ untaken c stands.content stands.items in
       let unanswered : All (IsUnanswered notes) stands.content.hand =
-      All-same (IsUnanswered notes) stands.content.hand (places_of held) stands.has.hand_is
+      All-same (IsUnanswered notes) stands.content.hand (places_of held) stands.has.outs.hand_is
       (All-map (IsUnanswered notes) (λ (it : Item). it.place) held
-      (All-append (λ (it : Item). IsUnanswered notes it.place) stands.items.outs (untaken c stands.content stands.items) stands.tags.outs_unanswered
-      (All-take (λ (it : Item). IsUnanswered notes it.place) c.picked (stands.items.windows (picked_region c stands.content)) (stands.tags.windows_unanswered (picked_region c stands.content))))) in
+      (All-append (λ (it : Item). IsUnanswered notes it.place) stands.items.outs (untaken c stands.content stands.items) stands.tags.unanswered.outs
+      (All-take (λ (it : Item). IsUnanswered notes it.place) c.picked (stands.items.windows (picked_region c stands.content)) (stands.tags.unanswered.windows (picked_region c stands.content))))) in
       none_of (λ (q : Place). q.region == r && q.index == i) stands.content.hand
       (All-both (IsInHand (logged notes)) (IsUnanswered notes) (λ (q : Place). (q.region == r && q.index == i) ≡ false)
       (λ q h u. undone_other r i served q h.not_aborted u) stands.content.hand stands.holds.hand.each unanswered)
@@ -122,8 +122,8 @@ module _ (rules : FrontRules) (late : Bool) (notes : Notes) (c : Controller) (sl
   -- nor that of a pending deletion
   not_deleting : (r i : ℕ) → IsServed notes (place_at r i) → times_held r i (held_upto stands.content.deletion stands.content.nsq) ≡ 0
   not_deleting r i served = held-none r i stands.content.deletion stands.content.nsq (λ x d e.
-      let is = some_deletes c.deletions c.pending_deletions slots stands.content.sq_life stands.content.deletion stands.items.deletes stands.has.deletions x d e in
-      let unanswered : IsUnanswered notes d.place = subst (IsUnanswered notes) (ap (λ (z : PendingDelete). z.place) (sym is.same)) (stands.tags.deletes_unanswered x is.item is.is) in
+      let is = some_deletes c.sqs c.pending_deletions slots stands.content.sq_life stands.content.deletion stands.items.deletes stands.has.deletions x d e in
+      let unanswered : IsUnanswered notes d.place = subst (IsUnanswered notes) (ap (λ (z : PendingDelete). z.place) (sym is.same)) (stands.tags.unanswered.deletes x is.item is.is) in
       undone_other r i served d.place (stands.holds.deletion.stands x d e).not_aborted unanswered)
 
   -- nor ready, where nothing is ready in the region that it posts to
@@ -156,7 +156,7 @@ module _ (rules : FrontRules) (late : Bool) (notes : Notes) (c : Controller) (sl
 
   -- no slot is ready where the chain has none
   pub none_ready : (q x : ℕ) → stands.content.cq_life q ≡ Some x → ((y : ℕ) (rest : List ℕ) → IsChain slots (cq_at c.cqs q).ready (y ∷ rest) → ⊥) → (stands.content.cq x).ready ≡ []
-  none_ready q x life none = stands.has.ready_is x ∙ by (stands.items.readies x) (stands.has.ready_chain q x life) where
+  none_ready q x life none = stands.has.readies.are x ∙ by (stands.items.readies x) (stands.has.readies.chain q x life) where
     by : (items : List ReadyItem) → IsChain slots (cq_at c.cqs q).ready (ready_tags items) → readies_of items ≡ []
     by [] h = refl
     by (it ∷ rest) h = absurd (none it.tag (ready_tags rest) h)
@@ -172,19 +172,19 @@ module _ (rules : FrontRules) (late : Bool) (notes : Notes) (c : Controller) (sl
       omega (
         arith,
         stands.holds.tabled.cq_slots x,
-        (stands.numbers.cqs q x life).slots,
+        (stands.numbers.cqs.each q x life).slots,
         filled,
-        filled-is (cq_at c.cqs q).ring (consumed rules notes x) (length (posted_to (logged notes) x)) (stands.doorbells.cqs q x life),
+        filled-is (cq_at c.cqs q).ring (consumed rules notes x) (length (posted_to (logged notes) x)) (stands.doorbells.cqs.each q x life),
       )
 
   -- ---- where no completion comes next, nothing may be posted
   pub none_postable : (q x : ℕ) → open_cq (logged notes) q ≡ Some x → next_post_of c slots q ≡ None → NonePostable rules notes x
   none_postable q x is none =
       let life = open_life q x is in
-      let few = stands.numbers.few_cqs q x life in
+      let few = stands.numbers.cqs.few q x life in
       let empty : (cq_at c.cqs q).ready.len ≡ 0 → NonePostable rules notes x = λ len. inr (all_posted x (none_ready q x life (chain-none slots (cq_at c.cqs q) len))) in
       elim (none_is_out c slots q none) [
-        | inl out ↦ empty (stands.numbers.readied q (omega (arith, few)) out)
+        | inl out ↦ empty (stands.numbers.cqs.readied q (omega (arith, few)) out)
         | inr within ↦ elim (not_postable c slots (cq_at c.cqs q) within) [
           | inl full ↦ inl (full_ring q x life full)
           | inr len ↦ empty len

@@ -54,7 +54,7 @@ module _ (rules : FrontRules) (late : Bool) (notes : Notes) (c : Controller) (sl
         same_Some can_be.queue admin_queue (sym can_be.is_open ∙ ap (open_sq past) first_is ∙ admin_is_open rules late past k s.holds some)
 
     window_all : (k.sq 0).window ≡ map candidate_of (g.windows 0)
-    window_all = s.has.window_is 0 ∙ ap (λ (n : ℕ). map candidate_of (drop n (g.windows 0))) (none_picked_of c (k.sq_id 0) none)
+    window_all = s.has.windows.are 0 ∙ ap (λ (n : ℕ). map candidate_of (drop n (g.windows 0))) (none_picked_of c (k.sq_id 0) none)
 
     -- its oldest command
     oldest : IsSplit (g.windows 0)
@@ -72,8 +72,8 @@ module _ (rules : FrontRules) (late : Bool) (notes : Notes) (c : Controller) (sl
     in_slot : oldest_entry c slots ≡ x.entry
     in_slot =
         let linked : IsChain slots (sq_at c.sqs 0).window (x.tag ∷ tags_of oldest.rest) =
-        subst (λ (its : List Item). IsChain slots (sq_at c.sqs 0).window (tags_of its)) oldest.is (s.has.window_chain 0 0 s.numbers.sq_ids.admin) in
-        let waits : IsWaitingIn slots 0 0 x = All-head (IsWaitingIn slots 0 0) x oldest.rest (subst (All (IsWaitingIn slots 0 0)) oldest.is (s.has.window_items 0 0 s.numbers.sq_ids.admin)) in
+        subst (λ (its : List Item). IsChain slots (sq_at c.sqs 0).window (tags_of its)) oldest.is (s.has.windows.chain 0 0 s.numbers.sqs.ids.admin) in
+        let waits : IsWaitingIn slots 0 0 x = All-head (IsWaitingIn slots 0 0) x oldest.rest (subst (All (IsWaitingIn slots 0 0)) oldest.is (s.has.windows.items 0 0 s.numbers.sqs.ids.admin)) in
         ap (λ (z : ℕ). (slot_at slots z).entry) (linked-head slots (sq_at c.sqs 0).window.first (sq_at c.sqs 0).window.last x.tag (tags_of oldest.rest) linked.linked) ∙ waits.entry
 
     pub entry_is : Some (oldest_entry c slots) ≡ admin_entry past

@@ -39,7 +39,7 @@ module _ (rules : FrontRules) (late : Bool) (notes : Notes) (c : Controller) (sl
   pub open_cq_is_few : (q x : ℕ) → open_cq (logged notes) q ≡ Some x → (q < 65) × (x < length (cq_regions_of rules))
   open_cq_is_few q x is =
       let below = s.holds.queues.cq_there q x is in
-      (s.numbers.few_cqs q x (s.holds.lives.cqs q ∙ is), omega (arith, below, s.holds.tabled.cq_number))
+      (s.numbers.cqs.few q x (s.holds.lives.cqs q ∙ is), omega (arith, below, s.holds.tabled.cq_number))
 
   -- the region of a place whose completion isn't posted isn't closed
   unclosed : (r i : ℕ) → is_served (logged notes) r i ≡ true → is_posted (logged notes) r i ≡ false → is_closed_region (logged notes) r ≡ false
@@ -60,11 +60,11 @@ module _ (rules : FrontRules) (late : Bool) (notes : Notes) (c : Controller) (sl
     by (Some a) is =
         let named : qid_of_region (logged notes) r ≡ Some a.qid = s.holds.queues.qid_is r ∙ ap (option_map (λ (a : Attachment). a.qid)) is in
         let life = s.holds.lives.there r a.qid named (unclosed r i served unposted) in
-        let of = s.numbers.sqs a.qid r life in
+        let of = s.numbers.sqs.each a.qid r life in
         let to : x ≡ of.cq_region =
         same_Some x of.cq_region (sym region ∙ s.holds.queues.cq_region_is r ∙ ap (option_map (λ (a : Attachment). a.cq_region)) of.opened) in
         record {
           cqid = (sq_at c.sqs a.qid).cqid;
           is_open = sym (s.holds.lives.cqs (sq_at c.sqs a.qid).cqid) ∙ of.cq_open ∙ ap (λ (z : ℕ). Some z) (sym to);
-          few = s.numbers.few_cqs (sq_at c.sqs a.qid).cqid of.cq_region of.cq_open;
+          few = s.numbers.cqs.few (sq_at c.sqs a.qid).cqid of.cq_region of.cq_open;
         }

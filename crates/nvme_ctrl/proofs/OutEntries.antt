@@ -27,26 +27,26 @@ module _ (rules : FrontRules) (late : Bool) (notes : Notes) (c : Controller) (sl
   -- where the device has the command
   module _ (state : (slot_at slots tag).state ≡ 2) where
     at : IsAmongOuts s.items.outs tag
-    at = s.has.outs_all tag state
+    at = s.has.outs.all tag state
 
     -- what holds of all that it has holds of this
     of_it : (P : Item → Type 0) → All P s.items.outs → P at.item
     of_it P all = (All-taken P at.before at.item at.after (All-same P (at.before ++ at.item ∷ at.after) s.items.outs (sym at.are) all)).0
 
     same : at.item.place ≡ place
-    same = same_Some at.item.place place (sym (of_it (λ (y : Item). holder notes y.tag ≡ Some y.place) s.tags.outs_held) ∙ ap (holder notes) at.tag ∙ held)
+    same = same_Some at.item.place place (sym (of_it (λ (y : Item). holder notes y.tag ≡ Some y.place) s.tags.held.outs) ∙ ap (holder notes) at.tag ∙ held)
 
     entry_in_slot : entry_at (logged notes) place.region place.index ≡ Some (slot_at slots tag).entry
     entry_in_slot =
         let entry = of_it (HasEntry (logged notes)) (All-parts (HasEntry (logged notes)) s.items.outs (untaken c s.content s.items) s.tags.hand_entries).0 in
-        let there : (slot_at slots tag).entry ≡ at.item.entry = ap (λ (t : ℕ). (slot_at slots t).entry) (sym at.tag) ∙ (of_it (IsOutIn s.content.sq_id slots) s.has.outs_items).entry in
+        let there : (slot_at slots tag).entry ≡ at.item.entry = ap (λ (t : ℕ). (slot_at slots t).entry) (sym at.tag) ∙ (of_it (IsOutIn s.content.sq_id slots) s.has.outs.items).entry in
         subst (λ (p : Place). entry_at (logged notes) p.region p.index ≡ Some (slot_at slots tag).entry) same (entry ∙ ap (λ (e : Sqe). Some e) (sym there))
 
     queue_in_slot : s.content.sq_id place.region ≡ Some (slot_at slots tag).sqid
-    queue_in_slot = ap (λ (p : Place). s.content.sq_id p.region) (sym same) ∙ (of_it (IsOutIn s.content.sq_id slots) s.has.outs_items).queue ∙ ap (λ (t : ℕ). Some (slot_at slots t).sqid) at.tag
+    queue_in_slot = ap (λ (p : Place). s.content.sq_id p.region) (sym same) ∙ (of_it (IsOutIn s.content.sq_id slots) s.has.outs.items).queue ∙ ap (λ (t : ℕ). Some (slot_at slots t).sqid) at.tag
 
     in_pool : tag < length slots
-    in_pool = subst (λ (t : ℕ). t < length slots) at.tag (of_it (IsOutIn s.content.sq_id slots) s.has.outs_items).inside
+    in_pool = subst (λ (t : ℕ). t < length slots) at.tag (of_it (IsOutIn s.content.sq_id slots) s.has.outs.items).inside
 
     cookie_in_slot : cookie_of notes place.region place.index ≡ Some (slot_at slots tag).cookie
     cookie_in_slot = subst (λ (p : Place). cookie_of notes p.region p.index ≡ Some (slot_at slots tag).cookie) same

@@ -48,20 +48,20 @@ module _ (rules : FrontRules) (late : Bool) (notes : Notes) (c : Controller) (sl
   -- ---- the places that are out
   module _ (tag : ℕ) (place : Place) (held : holder notes tag ≡ Some place) (out : is_out notes tag ≡ true) where
     at : IsAmongOuts s.items.outs tag
-    at = s.has.outs_all tag (is_two rules late notes c slots s tag place held out)
+    at = s.has.outs.all tag (is_two rules late notes c slots s tag place held out)
 
     of_item : (P : Item → Type 0) → All P s.items.outs → P at.item
     of_item P all = (All-taken P at.before at.item at.after (All-same P (at.before ++ at.item ∷ at.after) s.items.outs (sym at.are) all)).0
 
     same : at.item.place ≡ place
-    same = same_Some at.item.place place (sym (of_item (λ (y : Item). holder notes y.tag ≡ Some y.place) s.tags.outs_held) ∙ ap (holder notes) at.tag ∙ held)
+    same = same_Some at.item.place place (sym (of_item (λ (y : Item). holder notes y.tag ≡ Some y.place) s.tags.held.outs) ∙ ap (holder notes) at.tag ∙ held)
 
     -- what holds of all that is in hand holds of it
     of_hand : (P : Place → Type 0) → All P s.content.hand → P place
     of_hand P all =
         let items : List Item = s.items.outs ++ untaken c s.content s.items in
         let each : All (λ (y : Item). P y.place) items =
-        All-unmap P (λ (y : Item). y.place) items (All-same P (places_of items) s.content.hand (sym s.has.hand_is) all) in
+        All-unmap P (λ (y : Item). y.place) items (All-same P (places_of items) s.content.hand (sym s.has.outs.hand_is) all) in
         subst P same (of_item (λ (y : Item). P y.place) (All-parts (λ (y : Item). P y.place) s.items.outs (untaken c s.content s.items) each).0)
 
     held_once : 1 ≤ times_held place.region place.index (hand_of s.content)
@@ -106,7 +106,7 @@ module _ (rules : FrontRules) (late : Bool) (notes : Notes) (c : Controller) (sl
   among_outs tag out = by (holder notes tag) refl where
     by : (o : Option Place) → holder notes tag ≡ o → IsAmongOuts s.items.outs tag
     by None none = absurd (let down : is_out notes tag ≡ false = ap (is_unanswered notes) none in cc (out, down))
-    by (Some place) held = s.has.outs_all tag (is_two rules late notes c slots s tag place held out)
+    by (Some place) held = s.has.outs.all tag (is_two rules late notes c slots s tag place held out)
 
   -- the commands that are out, and those that are picked and not taken, are outstanding
   pub few_out_with : (tags : List ℕ) (rest : List Place) → AreApart tags → All (λ (t : ℕ). is_out notes t ≡ true) tags → handed notes ≡ taken notes ++ rest
@@ -115,7 +115,7 @@ module _ (rules : FrontRules) (late : Bool) (notes : Notes) (c : Controller) (sl
       let items : List Item = untaken c s.content s.items in
       let few = few_among tags s.items.outs apart (λ j d lt. among_outs (get_or tags j d) (outs j d lt)) in
       let lengths : length (taken notes ++ places_of items) ≡ length (taken notes ++ rest) = ap (λ (ps : List Place). length ps) (sym s.tags.untaken_are ∙ handed_are) in
-      let hand : length s.content.hand ≡ length (places_of (s.items.outs ++ items)) = ap (λ (ps : List Place). length ps) s.has.hand_is in
+      let hand : length s.content.hand ≡ length (places_of (s.items.outs ++ items)) = ap (λ (ps : List Place). length ps) s.has.outs.hand_is in
       omega (
         arith,
         few,

@@ -184,7 +184,7 @@ module _ (rules : FrontRules) (late : Bool) (notes : Notes) (c : Controller) (sl
       (All-same P (x.place ∷ []) (places_of (untaken new after g)) (sym (ap places_of untaken_one))
       (All-parts P (places_of g.outs) (places_of (untaken new after g)) (subst (All P) (hand_now ∙ places-append g.outs (untaken new after g)) all)).1)) where
         hand_now : after.hand ≡ places_of (g.outs ++ untaken new after g)
-        hand_now = (pick-items rules late notes c slots s none pick board lawful stands queues arbiter).hand_is
+        hand_now = (pick-items rules late notes c slots s none pick board lawful stands queues arbiter).outs.hand_is
 
         places-append : (xs ys : List Item) → places_of (xs ++ ys) ≡ places_of xs ++ places_of ys
         places-append [] ys = refl
@@ -223,7 +223,7 @@ module _ (rules : FrontRules) (late : Bool) (notes : Notes) (c : Controller) (sl
     -- a Delete whose deletion is pending was picked before
     delete_stays : (r : ℕ) (it : DeleteItem) → g.deletes r ≡ Some it → (b : Bool) → (i == it.index) ≡ b → (b || is_passed notes it.index) ≡ false
     delete_stays r it at true e =
-        let d = deletion_item c.deletions c.pending_deletions slots k.sq_life k.deletion g.deletes s.has.deletions r it at in
+        let d = deletion_item c.sqs c.pending_deletions slots k.sq_life k.deletion g.deletes s.has.deletions r it at in
         let ended : is_waiting (fate_of now 0 it.index) ≡ false = deletion_done rules late now k s.holds r (deletion_in slots r it) d in
         let here : is_waiting (fate_of now 0 i) ≡ false = subst (λ (z : ℕ). is_waiting (fate_of now 0 z) ≡ false) (sym (eqb-true i it.index e)) ended in
         absurd (cc (here, waited))
@@ -244,7 +244,7 @@ module _ (rules : FrontRules) (late : Bool) (notes : Notes) (c : Controller) (sl
     readies_stay y = All-both (λ (z : ReadyItem). is_waiting (fate_of now z.ready.place.region z.ready.place.index) ≡ false) (IsReadyOf notes) (IsReadyOf later)
         (λ z ended is. is ∙ same_at z.ready.place ended) (g.readies y)
         (All-unmap (λ (t : Ready). is_waiting (fate_of now t.place.region t.place.index) ≡ false) (λ (z : ReadyItem). z.ready) (g.readies y)
-        (subst (All (λ (t : Ready). is_waiting (fate_of now t.place.region t.place.index) ≡ false)) (s.has.ready_is y)
+        (subst (All (λ (t : Ready). is_waiting (fate_of now t.place.region t.place.index) ≡ false)) (s.has.readies.are y)
         (All-weaker (λ (t : Ready). IsAnswerable now (hand_of k) t.place.region t.place.index) (λ (t : Ready). is_waiting (fate_of now t.place.region t.place.index) ≡ false)
         (λ t is. answerable_is_done now (hand_of k) t.place.region t.place.index is) (k.cq y).ready (ready_is_answerable now k (hand_of k) s.holds.ready y))))
         (s.tags.passed.readies y)
@@ -252,23 +252,16 @@ module _ (rules : FrontRules) (late : Bool) (notes : Notes) (c : Controller) (sl
   pass-tags : HoldsTags later new slots after g
   pass-tags = record {
     untaken_are = untaken_now;
-    outs_held = s.tags.outs_held;
-    readies_held = s.tags.readies_held;
-    none_held = s.tags.none_held;
+    held = s.tags.held;
     through = s.tags.through;
-    windows_unanswered = s.tags.windows_unanswered;
-    outs_unanswered = s.tags.outs_unanswered;
-    deletes_unanswered = s.tags.deletes_unanswered;
-    none_answered = s.tags.none_answered;
-    answered_held = s.tags.answered_held;
+    unanswered = s.tags.unanswered;
     hand_entries = All-append (HasEntry now) g.outs (untaken new after g) (All-parts (HasEntry now) g.outs (untaken c k g) s.tags.hand_entries).0
         (subst (All (HasEntry now)) (sym untaken_one)
         (All-cons (HasEntry now) x [] (ap (λ (r : ℕ). entry_at now r i) waits_there.place ∙ entry_there) (All-nil (HasEntry now))));
     free_count = s.tags.free_count;
     cookies = cookies_later notes later slots g (λ r j. refl) (λ r. refl) s.tags.cookies;
     passed = passed_now;
-    none_flagged = s.tags.none_flagged;
-    flags = s.tags.flags;
+    flagged = s.tags.flagged;
   }
 
   -- the note is lawful
@@ -289,7 +282,7 @@ module _ (rules : FrontRules) (late : Bool) (notes : Notes) (c : Controller) (sl
 
   pass-doorbells : HoldsDoorbells rules later new after
   pass-doorbells = let d = pick-doorbells rules late notes c slots s none pick board lawful stands queues arbiter in
-      record { sqs = d.sqs; cqs = d.cqs; phases = d.phases; no_tails = d.no_tails; no_heads = d.no_heads; no_posts = d.no_posts }
+      record { sqs = d.sqs; cqs = d.cqs }
 
   -- the controller stands at its log with the pick and the note
   pub pass-stands : StandsAt rules late later new slots

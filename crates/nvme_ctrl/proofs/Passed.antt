@@ -69,6 +69,6 @@ pub hand_is_devices : (notes : Notes) (c : Controller) (slots : List Slot) (k : 
 hand_is_devices notes c slots k g t =
     All-append (λ (it : Item). IsDevices notes it.place) g.outs (untaken c k g)
     (All-weaker (λ (it : Item). holder notes it.tag ≡ Some it.place) (λ (it : Item). IsDevices notes it.place)
-    (λ it held. held_is_devices notes c k g t.untaken_are t.passed it.tag it.place held) g.outs t.outs_held)
+    (λ it held. held_is_devices notes c k g t.untaken_are t.passed it.tag it.place held) g.outs t.held.outs)
     (All-unmap (IsDevices notes) (λ (it : Item). it.place) (untaken c k g)
     (All-parts (IsDevices notes) (taken notes) (places_of (untaken c k g)) (subst (All (IsDevices notes)) t.untaken_are t.passed.all_handed)).1)

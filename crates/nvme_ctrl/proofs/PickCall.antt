@@ -1,6 +1,6 @@
 -- The next pick, and a pick of an I/O queue: the controller stands at its log afterwards.
-use Rattle.std.proofs.Common.{◌≢◌, inl, ◌≡◌, ℕ, ◌+◌, ◌<◌, ◌≤◌, Bool, if◌then◌else◌, List, [], ◌∷◌, ◌++◌, length, map, take, drop, Option, Some, None, refl, sym, ap, ◌∙◌, subst, arith}
-use Rattle.std.proofs.lemmas.List.{length-append, length-take-le, append-nil, drop-map, length-map, length-set, map-append, take-map}
+use Rattle.std.proofs.Common.{◌≢◌, inl, ◌≡◌, ℕ, ◌+◌, ◌<◌, ◌≤◌, Bool, if◌then◌else◌, List, [], ◌∷◌, ◌++◌, length, map, take, drop, Option, Some, None, refl, sym, ap, ◌∙◌, subst, arith, is_some}
+use Rattle.std.proofs.lemmas.List.{length-append, length-take-le, append-nil, drop-map, length-map, map-append, take-map}
 use Rattle.std.specs.Prelude.{min, slice_set, unwrap_or, IsTrue, IsSomeAnd, not, ◌||◌}
 use Rattle.std.specs.List.{All}
 use Rattle.std.proofs.lemmas.Bool.{eq-eqb, ne_eqb}
@@ -17,12 +17,12 @@ use Rattle.nvme_slots.specs.Rings.{HasCounts}
 use Rattle.nvme_ctrl_log.specs.Tags.{taken, is_passed, handed}
 use Rattle.nvme_ctrl_log.specs.Steps.{IsNextPick, IsBusy, picked_notes}
 use Rattle.nvme_ctrl.specs.declared.state.SqState.{SqState}
-use Rattle.nvme_ctrl_content.specs.Content.{Candidate, Content}
+use Rattle.nvme_ctrl_content.specs.Content.{Candidate, Content, SqContent}
 use Rattle.nvme_ctrl_content.specs.Standing.{Holds, IsAttached}
 use Rattle.nvme_ctrl_content.specs.Steps.{CanPick, picked_sq}
 use Rattle.nvme_slots.specs.Pool.{IsChain}
 use Rattle.nvme_ctrl.specs.kept.State.{sq_at}
-use Rattle.nvme_ctrl.specs.kept.Kept.{Item, Items, IsWaitingIn, HasNumbers, HasItems, HoldsDoorbells, HoldsTags, HasEntry, StandsAt, tags_of, places_of, candidate_of, picked_region, picked_of, untaken, IsDevices, HoldsPassed}
+use Rattle.nvme_ctrl.specs.kept.Kept.{Item, Items, IsWaitingIn, HasNumbers, HasItems, HoldsDoorbells, HoldsTags, HasEntry, StandsAt, tags_of, places_of, candidate_of, picked_region, picked_of, untaken, IsDevices, HoldsPassed, IsSq, shown_in}
 use Rattle.nvme_arbiter.proofs.Stands.{lawful as lawful_where_stands}
 use Rattle.nvme_log.proofs.Turns.{stays}
 use Rattle.nvme_ctrl_content.proofs.OpenQueues.{io_region}
@@ -33,19 +33,22 @@ use Rattle.nvme_ctrl_content.proofs.NextEvents.{next-io}
 use Rattle.nvme_log.proofs.AdminPicks.{admin_is_whole}
 use Rattle.nvme_ctrl_content.proofs.Observing.{IsPickable, pickable, seen_is_observed}
 use Rattle.nvme_ctrl_content.proofs.OwnStatus.{All-unmap}
-use Rattle.nvme_ctrl.proofs.Lives.{one_life, put_sq-states, put_sq-lives}
-use Rattle.nvme_ctrl.proofs.QueueStates.{IsSqWith, sq_with, sq_of_with, put_sq-regions, put_sq-none, kept_there, none_picked_of}
+use Rattle.nvme_ctrl.proofs.Lives.{one_life, put_sq-states}
+use Rattle.nvme_ctrl.proofs.QueueStates.{put_sqs, sq_changed, shown_picked, put_sq-regions, kept_there, none_picked_of}
+use Rattle.nvme_ctrl.proofs.PendingDeletions.{deletions_kept}
+use Rattle.nvme_ctrl_content.proofs.DeletingRegions.{put-same, put-other}
 use Rattle.nvme_ctrl.proofs.SlotItems.{All-both, All-parts, at_put}
 use Rattle.nvme_ctrl_content.proofs.Standing.{holds-io}
 use Rattle.nvme_arbiter.specs.Settings.{ArbitrationFields}
 use Rattle.nvme_arbiter.specs.History.{History, Picked}
 use Rattle.nvme_arbiter.specs.Lawful.{lawful_pick, IsLimitedPick, IsCutOf}
-use Rattle.nvme_arbiter.specs.Queues.{seen_of}
+use Rattle.nvme_arbiter.specs.Queues.{seen_of, queue_at}
 use Rattle.nvme_arbiter.specs.Layout.{is_arbiter, board_of}
 use Rattle.nvme_arbiter.specs.Board.{BoardView, BoardStandsAt, queues_after}
 use Rattle.nvme_arbiter.specs.Standing.{pick_of}
 use Rattle.nvme_arbiter.specs.declared.settings.Mechanism.{Mechanism}
 use Rattle.nvme_arbiter.specs.declared.pick.Pick.{Pick}
+use Rattle.nvme_arbiter.specs.declared.pick.OpenQueue.{OpenQueue}
 use Rattle.nvme_arbiter.specs.declared.pick.Seen.{Seen}
 use Rattle.nvme_log.specs.Rules.{FrontRules, Past}
 use Rattle.nvme_ctrl_log.specs.Observation.{observed_of}
@@ -184,7 +187,7 @@ module _ (rules : FrontRules) (late : Bool) (notes : Notes) (c : Controller) (sl
   -- the counts are within the pool
   unposted_is : (picked_state c q pick.n).unposted ≡ (k.sq r).unposted + pick.n
   unposted_is =
-      let was = (s.numbers.sqs q r due_life).unposted in
+      let was = (s.numbers.sqs.each q r due_life).unposted in
       let held = unposted_held rules late now k s.holds r there_in in
       capped ((sq_at c.sqs q).unposted + pick.n) (omega (arith, was, held, due.enough, s.tags.free_count, s.has.few)) ∙ ap (λ (n : ℕ). n + pick.n) was
 
@@ -200,20 +203,9 @@ module _ (rules : FrontRules) (late : Bool) (notes : Notes) (c : Controller) (sl
   new = after_pick_io c board q pick.n
 
   -- ---- numbers
-  picked_with : IsSqWith k.table k.cq_life q r (picked_state c q pick.n) (picked_sq (k.sq r) pick.n) (k.held r)
-  picked_with = let h = s.numbers.sqs q r due_life in record {
-    entry = h.entry;
-    in_table = h.in_table;
-    on = h.on;
-    to = h.to;
-    cq_region = h.cq_region;
-    cq_open = h.cq_open;
-    opened = h.opened;
-    held_is = h.held;
-    unposted = unposted_is;
-    slots = h.slots;
-    some = h.some;
-  }
+  -- the same queues are shown
+  still_shown : (p : ℕ) → shown_in after.board p ≡ shown_in k.board p
+  still_shown p = ap (λ (qs : List (Option OpenQueue)). is_some (queue_at qs p)) queues ∙ shown_picked (board_of c.board).queues pick p ∙ ap (λ (v : BoardView). shown_in v p) s.numbers.board_is
 
   pub pick-numbers : HasNumbers new after
   pick-numbers = let n = s.numbers in record {
@@ -221,25 +213,17 @@ module _ (rules : FrontRules) (late : Bool) (notes : Notes) (c : Controller) (sl
     board_is = refl;
     is_arbiter = is_arbiter_still;
     outstanding_is = outstanding_is;
-    sq_ids = n.sq_ids;
-    cq_ids = n.cq_ids;
-    sqs = λ p x is. sq_of_with new after p x
-        (put_sq-lives (λ p x state u its. IsSqWith k.table k.cq_life p x state u (k.held x)) k.sq_life k.sq_id n.sq_ids c.sqs k.sq g.windows q r (picked_state c q pick.n)
-        (picked_sq (k.sq r) pick.n) (g.windows r) due_life there picked_with (λ p x other apart is. sq_with c k p x (n.sqs p x is)) p x is);
-    cqs = λ p x is. (let h = n.cqs p x is in record { slots = h.slots; some = h.some });
-    few_sqs = n.few_sqs;
-    few_cqs = n.few_cqs;
-    no_sqs = put_sq-none c k n q r due_life (picked_state c q pick.n);
-    no_cqs = n.no_cqs;
-    sq_size = length-set c.sqs q (picked_state c q pick.n) ∙ n.sq_size;
-    cq_size = n.cq_size;
-    rung = rung-kept c.rung q c.sqs (picked_state c q pick.n) there n.rung (λ same. same);
-    readied = n.readied;
+    sqs = (let h = n.sqs.each q r due_life in let state : SqState = picked_state c q pick.n in let u : SqContent = picked_sq (k.sq r) pick.n in
+        put_sqs c k n q r due_life state c.rung after.sq k.held (shown_in after.board)
+        (subst (λ (x : SqContent). IsSq k.table k.cq_life q r state x (k.held r) (shown_in after.board q)) (sym (put-same k.sq r u))
+        (sq_changed k.table k.cq_life q r (sq_at c.sqs q) state (k.sq r) u (k.held r) (k.held r) (shown_in k.board q) (shown_in after.board q) h refl refl unposted_is refl refl h.held (h.shown ∙ sym (still_shown q))))
+        (λ x other. put-other k.sq r u x other) (λ x other. refl) (λ p other. still_shown p) (rung-kept c.rung q c.sqs state there n.sqs.rung (λ same. same)));
+    cqs = n.cqs;
   }
 
   -- ---- items
   window_was : (x : ℕ) → (k.sq x).window ≡ map candidate_of (g.windows x)
-  window_was x = s.has.window_is x ∙ ap (λ (n : ℕ). map candidate_of (drop n (g.windows x))) (none_picked_of c (k.sq_id x) none)
+  window_was x = s.has.windows.are x ∙ ap (λ (n : ℕ). map candidate_of (drop n (g.windows x))) (none_picked_of c (k.sq_id x) none)
 
   enough : pick.n ≤ length (g.windows r)
   enough = omega (arith, due.enough, ap (λ (cs : List Candidate). length cs) (window_was r), length-map (g.windows r) candidate_of)
@@ -263,54 +247,53 @@ module _ (rules : FrontRules) (late : Bool) (notes : Notes) (c : Controller) (sl
     by : (o : Option ℕ) → k.sq_id x ≡ o → picked_of new o ≡ 0
     by None is = refl
     by (Some p) is = ap (λ (b : Bool). if b then pick.n else 0)
-        (ne_eqb p q (λ same. other (one_life k.sq_life q x r (subst (λ (n : ℕ). k.sq_life n ≡ Some x) same (s.numbers.sq_ids.lives_are x p is)) due_life)))
+        (ne_eqb p q (λ same. other (one_life k.sq_life q x r (subst (λ (n : ℕ). k.sq_life n ≡ Some x) same (s.numbers.sqs.ids.lives_are x p is)) due_life)))
 
   taken_window : take pick.n (k.sq r).window ≡ map candidate_of its
   taken_window = ap (take pick.n) (window_was r) ∙ take-map candidate_of pick.n (g.windows r)
 
   waits : All (IsWaitingIn slots q r) its
-  waits = All-take (IsWaitingIn slots q r) pick.n (g.windows r) (s.has.window_items q r due_life)
+  waits = All-take (IsWaitingIn slots q r) pick.n (g.windows r) (s.has.windows.items q r due_life)
 
   hand_is : after.hand ≡ places_of (g.outs ++ untaken new after g)
   hand_is =
-      let was : k.hand ≡ places_of g.outs = s.has.hand_is ∙ ap (λ (more : List Item). places_of (g.outs ++ more)) none_untaken ∙ ap places_of (append-nil g.outs) in
+      let was : k.hand ≡ places_of g.outs = s.has.outs.hand_is ∙ ap (λ (more : List Item). places_of (g.outs ++ more)) none_untaken ∙ ap places_of (append-nil g.outs) in
       let more : map (place_of r) (take pick.n (k.sq r).window) ≡ places_of its = ap (map (place_of r)) taken_window ∙ places-are slots q r its waits in
       (λ t. was t ++ more t) ∙ sym (map-append (λ (it : Item). it.place) g.outs its) ∙ sym (ap (λ (more : List Item). places_of (g.outs ++ more)) picked_items)
 
   pub pick-items : HasItems new slots after g
   pick-items = record {
-    window_chain = λ p. put_sq-states (λ y state. (x : ℕ) → k.sq_life y ≡ Some x → IsChain slots state.window (tags_of (g.windows x))) c.sqs q (picked_state c q pick.n) there
-        (s.has.window_chain q) p (λ other. s.has.window_chain p);
-    window_items = s.has.window_items;
-    window_none = s.has.window_none;
-    window_is = at_put (λ x u. u.window ≡ map candidate_of (drop (picked_of new (k.sq_id x)) (g.windows x))) k.sq r (picked_sq (k.sq r) pick.n)
-        (rw (s.numbers.sq_ids.ids_are q r due_life, eq-eqb q q refl) (ap (drop pick.n) (window_was r) ∙ drop-map candidate_of pick.n (g.windows r)))
-        (λ x other. rw (picked_other x other) (window_was x));
-    picked_there = subst (λ (x : ℕ). pick.n ≤ length (g.windows x)) (sym picked_there) enough;
-    outs_items = s.has.outs_items;
-    outs_apart = s.has.outs_apart;
-    outs_all = s.has.outs_all;
-    hand_is = hand_is;
-    ready_chain = s.has.ready_chain;
-    ready_items = s.has.ready_items;
-    ready_none = s.has.ready_none;
-    ready_is = s.has.ready_is;
-    deletions = s.has.deletions;
-    free_chain = s.has.free_chain;
-    free_items = s.has.free_items;
+    windows = record {
+      chain = λ p. put_sq-states (λ y state. (x : ℕ) → k.sq_life y ≡ Some x → IsChain slots state.window (tags_of (g.windows x))) c.sqs q (picked_state c q pick.n) there
+          (s.has.windows.chain q) p (λ other. s.has.windows.chain p);
+      items = s.has.windows.items;
+      none = s.has.windows.none;
+      are = at_put (λ x u. u.window ≡ map candidate_of (drop (picked_of new (k.sq_id x)) (g.windows x))) k.sq r (picked_sq (k.sq r) pick.n)
+          (rw (s.numbers.sqs.ids.ids_are q r due_life, eq-eqb q q refl) (ap (drop pick.n) (window_was r) ∙ drop-map candidate_of pick.n (g.windows r)))
+          (λ x other. rw (picked_other x other) (window_was x));
+      picked_there = subst (λ (x : ℕ). pick.n ≤ length (g.windows x)) (sym picked_there) enough;
+    };
+    outs = record {
+      items = s.has.outs.items;
+      apart = s.has.outs.apart;
+      all = s.has.outs.all;
+      hand_is = hand_is;
+    };
+    readies = s.has.readies;
+    deletions = deletions_kept c.sqs c.pending_deletions slots k.sq_life k.deletion g.deletes q (picked_state c q pick.n) there refl refl s.has.deletions;
+    free = s.has.free;
     few = s.has.few;
   }
 
   -- ---- doorbells
   pub pick-doorbells : HoldsDoorbells rules (picked_notes notes pick) new after
   pick-doorbells = record {
-    sqs = put_sq-regions (λ p x state. HasCounts state.ring (length (fetched now x)) (submitted rules notes x)) k.sq_life k.sq_id s.numbers.sq_ids c.sqs q r (picked_state c q pick.n)
-        due_life there (s.doorbells.sqs q r due_life) (λ p x other apart is. s.doorbells.sqs p x is);
+    sqs = record {
+      each = put_sq-regions (λ p x state. HasCounts state.ring (length (fetched now x)) (submitted rules notes x)) k.sq_life k.sq_id s.numbers.sqs.ids c.sqs q r (picked_state c q pick.n)
+          due_life there (s.doorbells.sqs.each q r due_life) (λ p x other apart is. s.doorbells.sqs.each p x is);
+      no_tails = at_put (λ x u. u.queue ≡ None → submitted rules notes x ≡ 0) k.sq r (picked_sq (k.sq r) pick.n) (s.doorbells.sqs.no_tails r) (λ x other. s.doorbells.sqs.no_tails x);
+    };
     cqs = s.doorbells.cqs;
-    phases = s.doorbells.phases;
-    no_tails = at_put (λ x u. u.queue ≡ None → submitted rules notes x ≡ 0) k.sq r (picked_sq (k.sq r) pick.n) (s.doorbells.no_tails r) (λ x other. s.doorbells.no_tails x);
-    no_heads = s.doorbells.no_heads;
-    no_posts = s.doorbells.no_posts;
   }
 
   -- ---- tags
@@ -347,15 +330,9 @@ module _ (rules : FrontRules) (late : Bool) (notes : Notes) (c : Controller) (sl
       untaken_are = dispatches ∙ ap (λ (ps : List Place). ps ++ places_of its)
           (s.tags.untaken_are ∙ ap (λ (more : List Item). taken notes ++ places_of more) none_untaken ∙ append-nil (taken notes))
           ∙ sym (ap (λ (more : List Item). taken notes ++ places_of more) picked_items);
-      outs_held = s.tags.outs_held;
-      readies_held = s.tags.readies_held;
-      none_held = s.tags.none_held;
+      held = s.tags.held;
       through = s.tags.through;
-      windows_unanswered = s.tags.windows_unanswered;
-      outs_unanswered = s.tags.outs_unanswered;
-      deletes_unanswered = s.tags.deletes_unanswered;
-      none_answered = s.tags.none_answered;
-      answered_held = s.tags.answered_held;
+      unanswered = s.tags.unanswered;
       hand_entries = subst (λ (more : List Item). All (HasEntry now) (g.outs ++ more)) (sym picked_items)
           (All-append (HasEntry now) g.outs its (All-parts (HasEntry now) g.outs (untaken c k g) s.tags.hand_entries).0
           (entries-are now slots q r its waits
@@ -364,8 +341,7 @@ module _ (rules : FrontRules) (late : Bool) (notes : Notes) (c : Controller) (sl
       free_count = s.tags.free_count;
       cookies = cookies_later notes (picked_notes notes pick) slots g (λ x i. refl) (λ x. refl) s.tags.cookies;
       passed = picked_passed;
-      none_flagged = s.tags.none_flagged;
-      flags = s.tags.flags;
+      flagged = s.tags.flagged;
     }
 
     pick-holds : Holds rules late (event.Pick (observed_of notes) pick ∷ now) after
@@ -412,7 +388,7 @@ picked_count rules late notes c slots s =
     let all : length (handed notes) ≡ length (taken notes) + length (places_of (untaken c s.content s.items)) =
     ap (λ (ps : List Place). length ps) s.tags.untaken_are ∙ length-append (taken notes) (places_of (untaken c s.content s.items)) in
     let many : length (places_of (untaken c s.content s.items)) ≡ c.picked =
-    length-map (untaken c s.content s.items) (λ (it : Item). it.place) ∙ length-take-le c.picked (s.items.windows (picked_region c s.content)) s.has.picked_there in
+    length-map (untaken c s.content s.items) (λ (it : Item). it.place) ∙ length-take-le c.picked (s.items.windows (picked_region c s.content)) s.has.windows.picked_there in
     omega (arith, all, many)
 
 -- so the controller is busy where some is, and only there

@@ -1,5 +1,5 @@
 -- Whether the places of the next pick are free, whatever is picked and not taken.
-use Rattle.std.proofs.Common.{◌≡◌, ℕ, ◌+◌, ◌<◌, ◌≤◌, Bool, true, false, List, [], ◌∷◌, length, Some, None, refl, sym, ap, ◌∙◌, ltb-true, ltb-false, lt-ltb, arith}
+use Rattle.std.proofs.Common.{◌≡◌, ℕ, ◌+◌, ◌≤◌, Bool, true, false, List, [], ◌∷◌, length, Some, None, refl, sym, ap, ◌∙◌, ltb-true, ltb-false, lt-ltb, arith}
 use Rattle.std.specs.Prelude.{option_and_then, slice_get, min, nat_lt}
 use Rattle.std.proofs.lemmas.Bool.{false_from_ne_true}
 use Rattle.std.proofs.lemmas.Option.{same_Some}
@@ -30,7 +30,7 @@ module _ (rules : FrontRules) (late : Bool) (notes : Notes) (c : Controller) (sl
   -- the admin queue is open
   pub admin_open : open_sq (logged notes) 0 ≡ Some admin_queue
   admin_open =
-      let it = s.numbers.sqs 0 0 s.numbers.sq_ids.admin in
+      let it = s.numbers.sqs.each 0 0 s.numbers.sqs.ids.admin in
       let below = s.holds.queues.sq_there 0 (record { qid = 0; cq_region = it.cq_region }) it.opened in
       admin_is_open rules late (logged notes) s.content s.holds (omega (arith, below))
 

@@ -117,14 +117,14 @@ items_after p = record p.stands.items { readies = put_readies p.stands.items.rea
 pub ready_in : (p : PostCall) → IsReadyIn (content p).sq_id p.slots p.item
 ready_in p =
     let P = IsReadyIn (content p).sq_id p.slots in
-    All-head P p.item p.rest (All-same P (p.item ∷ p.rest) (p.stands.items.readies p.x) (sym p.are) (p.stands.has.ready_items p.x))
+    All-head P p.item p.rest (All-same P (p.item ∷ p.rest) (p.stands.items.readies p.x) (sym p.are) (p.stands.has.readies.items p.x))
 
 -- its queue is open or closing, and on its region
 pub life_is : (p : PostCall) → (content p).sq_life (command p).sqid ≡ Some (region p)
-life_is p = p.stands.numbers.sq_ids.lives_are (region p) (command p).sqid (ready_in p).queue
+life_is p = p.stands.numbers.sqs.ids.lives_are (region p) (command p).sqid (ready_in p).queue
 
 pub oldest_is : (p : PostCall) → ((content p).cq p.x).ready ≡ p.item.ready ∷ readies_of p.rest
-oldest_is p = p.stands.has.ready_is p.x ∙ ap readies_of p.are
+oldest_is p = p.stands.has.readies.are p.x ∙ ap readies_of p.are
 
 pub is_ready : (p : PostCall) → IsReady (past_of p) (content p).deletion p.x p.item.ready
 is_ready p =
@@ -150,10 +150,10 @@ pub posts_there : (p : PostCall) → p.x < (content p).ncq
 posts_there p = p.stands.holds.queues.posts_there (region p) (record { qid = p.item.ready.sqid; cq_region = p.x }) (attached_is p)
 
 pub sqs_have : (p : PostCall) → (command p).sqid < length p.c.sqs
-sqs_have p = omega (arith, p.stands.numbers.few_sqs (command p).sqid (region p) (life_is p), p.stands.numbers.sq_size)
+sqs_have p = omega (arith, p.stands.numbers.sqs.few (command p).sqid (region p) (life_is p), p.stands.numbers.sqs.size)
 
 pub cqs_have : (p : PostCall) → p.cqid < length p.c.cqs
-cqs_have p = omega (arith, p.stands.numbers.few_cqs p.cqid p.x p.life, p.stands.numbers.cq_size)
+cqs_have p = omega (arith, p.stands.numbers.cqs.few p.cqid p.x p.life, p.stands.numbers.cqs.size)
 
 -- ---- its completion
 small_mod : (n : ℕ) → n < 8 → n % 8 ≡ n
@@ -175,8 +175,8 @@ can_post p =
       cid = i.cid;
       status = λ j. record { sct = types j; sc = i.sc j };
       dw0 = i.dw0;
-      sqhd = (s.doorbells.sqs (command p).sqid r (life_is p)).head_is ∙ (λ j. fetches j % (s.numbers.sqs (command p).sqid r (life_is p)).slots j);
-      phase = s.doorbells.phases p.cqid p.x p.life ∙ (λ j. phase_after (posts j) ((s.numbers.cqs p.cqid p.x p.life).slots j));
+      sqhd = (s.doorbells.sqs.each (command p).sqid r (life_is p)).head_is ∙ (λ j. fetches j % (s.numbers.sqs.each (command p).sqid r (life_is p)).slots j);
+      phase = s.doorbells.cqs.phases p.cqid p.x p.life ∙ (λ j. phase_after (posts j) ((s.numbers.cqs.each p.cqid p.x p.life).slots j));
     }
 
 -- what the controller keeps holds afterwards

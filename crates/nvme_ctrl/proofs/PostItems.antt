@@ -17,8 +17,8 @@ use Rattle.nvme_ctrl.proofs.PostNumbers.{sq_left}
 use Rattle.nvme_ctrl.specs.declared.state.Controller.{Controller}
 use Rattle.nvme_slots.proofs.Pools.{length-put_item, item_at-put_item_same, item_at-put_item_other, IsNew-by, AreApart-push, chain-put_item, chain-other, length-apart}
 use Rattle.nvme_ctrl.proofs.SlotItems.{All-both, at_put, ready_state-range, waiting_stays, out_stays, ready_stays}
-use Rattle.nvme_ctrl.proofs.PendingDeletions.{deletions_stay}
-use Rattle.nvme_ctrl.proofs.PostCall.{freed, PostCall, content, past_of, command, region, content_after, controller_after, put_readies, items_after, ready_in, life_is, is_ready, cqs_have}
+use Rattle.nvme_ctrl.proofs.PendingDeletions.{deletions_stay, deletions_kept}
+use Rattle.nvme_ctrl.proofs.PostCall.{freed, PostCall, content, past_of, command, region, content_after, controller_after, put_readies, items_after, ready_in, life_is, is_ready, sq_after, sqs_have, cqs_have}
 
 -- what is picked of a queue and not taken is left, where the picked commands are
 pub picked_left : (c before : Controller) → c.picked ≡ before.picked → c.picked_qid ≡ before.picked_qid → (o : Option ℕ) → picked_of c o ≡ picked_of before o
@@ -33,7 +33,7 @@ module _ (p : PostCall) where
   pub tag_inside : tag < length p.slots
   tag_inside =
       let P : ℕ → Type 0 = λ z. z < length p.slots in
-      All-head P tag (ready_tags p.rest) (All-same P (tag ∷ ready_tags p.rest) (ready_tags (p.stands.items.readies p.x)) (sym (ap ready_tags p.are)) (p.stands.has.ready_chain p.cqid p.x p.life).inside)
+      All-head P tag (ready_tags p.rest) (All-same P (tag ∷ ready_tags p.rest) (ready_tags (p.stands.items.readies p.x)) (sym (ap ready_tags p.are)) (p.stands.has.readies.chain p.cqid p.x p.life).inside)
 
   pub size_is : length p.new ≡ length p.slots
   size_is = p.did.items.size ∙ length-put_item p.slots tag (record (slot_at p.slots tag) { state = 0 })
@@ -58,7 +58,7 @@ module _ (p : PostCall) where
   -- ---- chains
   -- what isn't free is new to the free slots
   unfree : (y n : ℕ) → (slot_at p.slots y).state ≡ n → 0 < n → IsNew y p.stands.items.free
-  unfree y n e more = IsNew-by (is_free p.slots) y p.stands.items.free p.stands.has.free_items (λ z. omega (arith, e, z, more))
+  unfree y n e more = IsNew-by (is_free p.slots) y p.stands.items.free p.stands.has.free.items (λ z. omega (arith, e, z, more))
 
   freed_chain : (c : Chain) (xs : List ℕ) → IsChain p.slots c xs → IsChain (freed p.slots tag) c xs
   freed_chain c xs h = chain-put_item p.slots c xs tag (record (slot_at p.slots tag) { state = 0 }) h
@@ -66,12 +66,12 @@ module _ (p : PostCall) where
   chain_kept : (c : Chain) (xs : List ℕ) → IsChain p.slots c xs → All (λ (y : ℕ). IsNew y p.stands.items.free) xs → IsChain p.new c xs
   chain_kept c xs h new_to =
       chain-other (freed p.slots tag) p.new c xs p.stands.items.free (freed_chain c xs h)
-      (p.did.links p.stands.items.free (freed_chain p.c.free p.stands.items.free p.stands.has.free_chain)) p.did.items.size new_to
+      (p.did.links p.stands.items.free (freed_chain p.c.free p.stands.items.free p.stands.has.free.chain)) p.did.items.size new_to
 
   window_unfree : (q r : ℕ) → (content p).sq_life q ≡ Some r → All (λ (y : ℕ). IsNew y p.stands.items.free) (tags_of (p.stands.items.windows r))
   window_unfree q r life =
       All-map (λ (y : ℕ). IsNew y p.stands.items.free) (λ (it : Item). it.tag) (p.stands.items.windows r)
-      (All-weaker (IsWaitingIn p.slots q r) (λ (it : Item). IsNew it.tag p.stands.items.free) (λ it h. unfree it.tag 1 h.state (omega arith)) (p.stands.items.windows r) (p.stands.has.window_items q r life))
+      (All-weaker (IsWaitingIn p.slots q r) (λ (it : Item). IsNew it.tag p.stands.items.free) (λ it h. unfree it.tag 1 h.state (omega arith)) (p.stands.items.windows r) (p.stands.has.windows.items q r life))
 
   ready_unfree : (items : List ReadyItem) → All (IsReadyIn (content p).sq_id p.slots) items → All (λ (y : ℕ). IsNew y p.stands.items.free) (ready_tags items)
   ready_unfree items h =
@@ -85,7 +85,7 @@ module _ (p : PostCall) where
   -- the slot is put behind the free ones
   free_after : IsChain p.new p.free (p.stands.items.free ++ tag ∷ [])
   free_after =
-      let h = p.stands.has.free_chain in
+      let h = p.stands.has.free.chain in
       let P : ℕ → Type 0 = λ z. z < length p.slots in
       let few = length-apart (length p.slots) (p.stands.items.free ++ tag ∷ []) (AreApart-push p.stands.items.free tag h.apart tag_unfree)
       (All-push P p.stands.items.free tag h.inside tag_inside) in
@@ -110,18 +110,18 @@ module _ (p : PostCall) where
   -- in the same region the chain is apart
   rest_apart : All (λ (it : ReadyItem). it.tag ≢ tag) p.rest
   rest_apart =
-      let apart : AreApart (tag ∷ ready_tags p.rest) = subst AreApart (ap ready_tags p.are) (p.stands.has.ready_chain p.cqid p.x p.life).apart in
+      let apart : AreApart (tag ∷ ready_tags p.rest) = subst AreApart (ap ready_tags p.are) (p.stands.has.readies.chain p.cqid p.x p.life).apart in
       All-unmap (λ (y : ℕ). y ≢ tag) (λ (it : ReadyItem). it.tag) p.rest apart.0
 
   -- and what is ready in another one is of another queue
   ready_of : (y : ℕ) → All (λ (it : ReadyItem). IsReady (past_of p) (content p).deletion y it.ready) (p.stands.items.readies y)
   ready_of y =
       All-unmap (IsReady (past_of p) (content p).deletion y) (λ (it : ReadyItem). it.ready) (p.stands.items.readies y)
-      (All-same (IsReady (past_of p) (content p).deletion y) (readies_of (p.stands.items.readies y)) ((content p).cq y).ready (sym (p.stands.has.ready_is y)) (p.stands.holds.ready.each y))
+      (All-same (IsReady (past_of p) (content p).deletion y) (readies_of (p.stands.items.readies y)) ((content p).cq y).ready (sym (p.stands.has.readies.are y)) (p.stands.holds.ready.each y))
 
   elsewhere_apart : (y : ℕ) → y ≢ p.x → (it : ReadyItem) → IsReadyIn (content p).sq_id p.slots it → IsReady (past_of p) (content p).deletion y it.ready → it.tag ≢ tag
   elsewhere_apart y other it i h same =
-      let ids = p.stands.numbers.sq_ids in
+      let ids = p.stands.numbers.sqs.ids in
       let life : (content p).sq_life (command p).sqid ≡ Some it.ready.place.region =
       subst (λ (z : ℕ). (content p).sq_life (slot_at p.slots z).sqid ≡ Some it.ready.place.region) same (ids.lives_are it.ready.place.region (slot_at p.slots it.tag).sqid i.queue) in
       let regions : it.ready.place.region ≡ region p = one_life (content p).sq_life (command p).sqid it.ready.place.region (region p) life (life_is p) in
@@ -131,37 +131,37 @@ module _ (p : PostCall) where
   rest_ready : All (IsReadyIn (content p).sq_id p.slots) p.rest
   rest_ready =
       let P = IsReadyIn (content p).sq_id p.slots in
-      All-tail P p.item p.rest (All-same P (p.item ∷ p.rest) (p.stands.items.readies p.x) (sym p.are) (p.stands.has.ready_items p.x))
+      All-tail P p.item p.rest (All-same P (p.item ∷ p.rest) (p.stands.items.readies p.x) (sym p.are) (p.stands.has.readies.items p.x))
 
   pub readies_before : (y : ℕ) → All (IsReadyIn (content p).sq_id p.slots) ((items_after p).readies y)
-  readies_before = at_put (λ y items. All (IsReadyIn (content p).sq_id p.slots) items) p.stands.items.readies p.x p.rest rest_ready (λ y d. p.stands.has.ready_items y)
+  readies_before = at_put (λ y items. All (IsReadyIn (content p).sq_id p.slots) items) p.stands.items.readies p.x p.rest rest_ready (λ y d. p.stands.has.readies.items y)
 
   pub readies_apart : (y : ℕ) → All (λ (it : ReadyItem). it.tag ≢ tag) ((items_after p).readies y)
   readies_apart = at_put (λ y items. All (λ (it : ReadyItem). it.tag ≢ tag) items) p.stands.items.readies p.x p.rest rest_apart
       (λ y d. All-both (IsReadyIn (content p).sq_id p.slots) (λ (it : ReadyItem). IsReady (past_of p) (content p).deletion y it.ready) (λ (it : ReadyItem). it.tag ≢ tag)
-      (elsewhere_apart y d) (p.stands.items.readies y) (p.stands.has.ready_items y) (ready_of y))
+      (elsewhere_apart y d) (p.stands.items.readies y) (p.stands.has.readies.items y) (ready_of y))
 
   -- the chain of the ready slots, without the first one
   rest_chain : IsChain p.slots p.cq.ready (ready_tags p.rest)
-  rest_chain = p.did.rest tag (ready_tags p.rest) (subst (IsChain p.slots (cq_at p.c.cqs p.cqid).ready) (ap ready_tags p.are) (p.stands.has.ready_chain p.cqid p.x p.life))
+  rest_chain = p.did.rest tag (ready_tags p.rest) (subst (IsChain p.slots (cq_at p.c.cqs p.cqid).ready) (ap ready_tags p.are) (p.stands.has.readies.chain p.cqid p.x p.life))
 
   -- of both the states and the lists
   ready_chains : (q y : ℕ) → (content p).cq_life q ≡ Some y → IsChain p.slots (cq_at (controller_after p).cqs q).ready (ready_tags ((items_after p).readies y))
   ready_chains =
-      put_cq-lives (λ q y state s (items : List ReadyItem). IsChain p.slots state.ready (ready_tags items)) (content p).cq_life (content p).cq_id p.stands.numbers.cq_ids p.c.cqs (content p).cq
-      p.stands.items.readies p.cqid p.x p.cq ((content p).cq p.x) p.rest p.life (cqs_have p) rest_chain (λ q y other apart life. p.stands.has.ready_chain q y life)
+      put_cq-lives (λ q y state s (items : List ReadyItem). IsChain p.slots state.ready (ready_tags items)) (content p).cq_life (content p).cq_id p.stands.numbers.cqs.ids p.c.cqs (content p).cq
+      p.stands.items.readies p.cqid p.x p.cq ((content p).cq p.x) p.rest p.life (cqs_have p) rest_chain (λ q y other apart life. p.stands.has.readies.chain q y life)
 
   -- nothing is ready where no queue is open
   ready_none_after : (y : ℕ) → (content p).cq_id y ≡ None → (items_after p).readies y ≡ []
   ready_none_after y none = elim (cases_eq y p.x) [
-    | inl same ↦ absurd (let id = subst (λ (z : ℕ). (content p).cq_id z ≡ Some p.cqid) (sym same) (p.stands.numbers.cq_ids.ids_are p.cqid p.x p.life) in cc (id, none))
-    | inr other ↦ rw (ne_eqb y p.x other, put_readies) (p.stands.has.ready_none y none)
+    | inl same ↦ absurd (let id = subst (λ (z : ℕ). (content p).cq_id z ≡ Some p.cqid) (sym same) (p.stands.numbers.cqs.ids.ids_are p.cqid p.x p.life) in cc (id, none))
+    | inr other ↦ rw (ne_eqb y p.x other, put_readies) (p.stands.has.readies.none y none)
   ]
 
   pub ready_contents : (y : ℕ) → ((content_after p).cq y).ready ≡ readies_of ((items_after p).readies y)
   ready_contents y = elim (cases_eq y p.x) [
     | inl same ↦ subst (λ (n : ℕ). ((content_after p).cq n).ready ≡ readies_of ((items_after p).readies n)) (sym same) (rw (eq-eqb p.x p.x refl) refl)
-    | inr other ↦ rw (ne_eqb y p.x other) (p.stands.has.ready_is y)
+    | inr other ↦ rw (ne_eqb y p.x other) (p.stands.has.readies.are y)
   ]
 
   -- it has the cookie that it had
@@ -172,7 +172,7 @@ module _ (p : PostCall) where
   window_after : (q r : ℕ) → (content p).sq_life q ≡ Some r → IsChain p.new (sq_at (controller_after p).sqs q).window (tags_of (p.stands.items.windows r))
   window_after q r life =
       subst (λ (window : Chain). IsChain p.new window (tags_of (p.stands.items.windows r))) (sym (sq_left p q r life).window)
-      (chain_kept (sq_at p.c.sqs q).window (tags_of (p.stands.items.windows r)) (p.stands.has.window_chain q r life) (window_unfree q r life))
+      (chain_kept (sq_at p.c.sqs q).window (tags_of (p.stands.items.windows r)) (p.stands.has.windows.chain q r life) (window_unfree q r life))
 
   windows_are : (r : ℕ) → ((content_after p).sq r).window ≡ ((content p).sq r).window
   windows_are r = by (r == region p) refl where
@@ -183,32 +183,41 @@ module _ (p : PostCall) where
   outs_among : (y : ℕ) → (slot_at p.new y).state ≡ 2 → IsAmongOuts p.stands.items.outs y
   outs_among y e = elim (cases_eq y tag) [
     | inl same ↦ absurd (let at : (slot_at p.new y).state ≡ (slot_at p.new tag).state = ap (λ (z : ℕ). (slot_at p.new z).state) same in omega (arith, e, at, tag_freed))
-    | inr other ↦ p.stands.has.outs_all y (sym (ap (λ (s : Slot). s.state) (other_kept y other)) ∙ e)
+    | inr other ↦ p.stands.has.outs.all y (sym (ap (λ (s : Slot). s.state) (other_kept y other)) ∙ e)
   ]
 
   pub has_after : HasItems (controller_after p) p.new (content_after p) (items_after p)
   has_after =
       let h = p.stands.has in
       record {
-        window_chain = window_after;
-        window_items = λ q r life. All-weaker (IsWaitingIn p.slots q r) (IsWaitingIn p.new q r) (waiting_kept q r) (p.stands.items.windows r) (h.window_items q r life);
-        window_none = h.window_none;
-        window_is = λ r. windows_are r ∙ h.window_is r
-            ∙ ap (λ (n : ℕ). map candidate_of (drop n (p.stands.items.windows r))) (sym (picked_left (controller_after p) p.c refl refl ((content p).sq_id r)));
-        picked_there = h.picked_there;
-        outs_items = All-weaker (IsOutIn (content p).sq_id p.slots) (IsOutIn (content p).sq_id p.new) out_kept p.stands.items.outs h.outs_items;
-        outs_apart = h.outs_apart;
-        outs_all = outs_among;
-        hand_is = h.hand_is;
-        ready_chain = λ q y life. chain_kept (cq_at (controller_after p).cqs q).ready (ready_tags ((items_after p).readies y)) (ready_chains q y life)
-            (ready_unfree ((items_after p).readies y) (readies_before y));
-        ready_items = λ y. All-both (IsReadyIn (content p).sq_id p.slots) (λ (it : ReadyItem). it.tag ≢ tag) (IsReadyIn (content p).sq_id p.new) ready_kept ((items_after p).readies y)
-            (readies_before y) (readies_apart y);
-        ready_none = ready_none_after;
-        ready_is = ready_contents;
-        deletions = deletions_stay p.c.deletions p.c.pending_deletions p.slots p.new (content p).sq_life (content p).deletion p.stands.items.deletes tag size_is other_kept
-            (λ r it is. higher it.tag 6 (h.deletions.items r it is).state (omega arith)) h.deletions;
-        free_chain = free_after;
-        free_items = All-push (is_free p.new) p.stands.items.free tag (All-weaker (is_free p.slots) (is_free p.new) free_kept p.stands.items.free h.free_items) tag_freed;
+        windows = record {
+          chain = window_after;
+          items = λ q r life. All-weaker (IsWaitingIn p.slots q r) (IsWaitingIn p.new q r) (waiting_kept q r) (p.stands.items.windows r) (h.windows.items q r life);
+          none = h.windows.none;
+          are = λ r. windows_are r ∙ h.windows.are r
+              ∙ ap (λ (n : ℕ). map candidate_of (drop n (p.stands.items.windows r))) (sym (picked_left (controller_after p) p.c refl refl ((content p).sq_id r)));
+          picked_there = h.windows.picked_there;
+        };
+        outs = record {
+          items = All-weaker (IsOutIn (content p).sq_id p.slots) (IsOutIn (content p).sq_id p.new) out_kept p.stands.items.outs h.outs.items;
+          apart = h.outs.apart;
+          all = outs_among;
+          hand_is = h.outs.hand_is;
+        };
+        readies = record {
+          chain = λ q y life. chain_kept (cq_at (controller_after p).cqs q).ready (ready_tags ((items_after p).readies y)) (ready_chains q y life)
+              (ready_unfree ((items_after p).readies y) (readies_before y));
+          items = λ y. All-both (IsReadyIn (content p).sq_id p.slots) (λ (it : ReadyItem). it.tag ≢ tag) (IsReadyIn (content p).sq_id p.new) ready_kept ((items_after p).readies y)
+              (readies_before y) (readies_apart y);
+          none = ready_none_after;
+          are = ready_contents;
+        };
+        deletions = deletions_kept p.c.sqs p.c.pending_deletions p.new (content p).sq_life (content p).deletion p.stands.items.deletes (command p).sqid (sq_after p.c (command p).sqid) (sqs_have p) refl refl
+            (deletions_stay p.c.sqs p.c.pending_deletions p.slots p.new (content p).sq_life (content p).deletion p.stands.items.deletes tag size_is other_kept
+            (λ r it is. higher it.tag 6 (h.deletions.items r it is).state (omega arith)) h.deletions);
+        free = record {
+          chain = free_after;
+          items = All-push (is_free p.new) p.stands.items.free tag (All-weaker (is_free p.slots) (is_free p.new) free_kept p.stands.items.free h.free.items) tag_freed;
+        };
         few = subst (λ (n : ℕ). n < 2 ^ 16) (sym size_is) h.few;
       }

@@ -141,7 +141,7 @@ module _ (p : PostCall) where
       let held : List Item = p.stands.items.outs ++ untaken p.c (content p) p.stands.items in
       (All-parts (λ (it : Item). IsOther it.place) p.stands.items.outs (untaken p.c (content p) p.stands.items)
       (All-unmap IsOther (λ (it : Item). it.place) held
-      (All-same IsOther (places_of held) (content p).hand (sym p.stands.has.hand_is) (none_held_there (region p) (index p) (content p).hand none_in_hand)))).0
+      (All-same IsOther (places_of held) (content p).hand (sym p.stands.has.outs.hand_is) (none_held_there (region p) (index p) (content p).hand none_in_hand)))).0
 
   -- ---- tags
   -- nobody has the tag of the command afterwards
@@ -149,11 +149,11 @@ module _ (p : PostCall) where
   tag_left = by p.item.was_out refl where
     by : (b : Bool) → p.item.was_out ≡ b → holder (notes_after p) (tag p) ≡ None
     by true e = leaves_tag (holder p.notes (tag p)) p.item.ready.place
-        (of_item (λ (it : ReadyItem). it.was_out ≡ true → holder p.notes it.tag ≡ Some it.ready.place) (p.stands.tags.readies_held p.x) e)
+        (of_item (λ (it : ReadyItem). it.was_out ≡ true → holder p.notes it.tag ≡ Some it.ready.place) (p.stands.tags.held.readies p.x) e)
     by false e =
         let state : (slot_at p.slots (tag p)).state ≡ ready_state false p.item.ready.with_queue = (ready_in p).state ∙ ap (λ (b : Bool). ready_state b p.item.ready.with_queue) e in
         let more : 4 ≤ ready_state false p.item.ready.with_queue = ended p.item.ready.with_queue in
-        stays_free (region p) (index p) (holder p.notes (tag p)) (p.stands.tags.none_held (tag p) (λ z. omega (arith, z, state, more)) (λ z. omega (arith, z, state, more)))
+        stays_free (region p) (index p) (holder p.notes (tag p)) (p.stands.tags.held.none (tag p) (λ z. omega (arith, z, state, more)) (λ z. omega (arith, z, state, more)))
       where
         ended : (b : Bool) → 4 ≤ ready_state false b
         ended true = omega arith
@@ -164,7 +164,7 @@ module _ (p : PostCall) where
     | inl same ↦ subst (λ (z : ℕ). holder (notes_after p) z ≡ None) (sym same) tag_left
     | inr other ↦ (
         let state : (slot_at p.new t).state ≡ (slot_at p.slots t).state = ap (λ (s : Slot). s.state) (other_kept p t other) in
-        stays_free (region p) (index p) (holder p.notes t) (p.stands.tags.none_held t (λ e. not_out (state ∙ e)) (λ e. not_answered (state ∙ e))))
+        stays_free (region p) (index p) (holder p.notes t) (p.stands.tags.held.none t (λ e. not_out (state ∙ e)) (λ e. not_answered (state ∙ e))))
   ]
 
   -- what was answered before isn't out
@@ -173,7 +173,7 @@ module _ (p : PostCall) where
     | inl same ↦ (
         let state : (slot_at p.new t).state ≡ (slot_at p.new (tag p)).state = ap (λ (z : ℕ). (slot_at p.new z).state) same in
         absurd (omega (arith, e, state, tag_freed p)))
-    | inr other ↦ still_not_out-logged (event_of p) p.notes t (p.stands.tags.answered_held t (sym (ap (λ (s : Slot). s.state) (other_kept p t other)) ∙ e))
+    | inr other ↦ still_not_out-logged (event_of p) p.notes t (p.stands.tags.held.answered t (sym (ap (λ (s : Slot). s.state) (other_kept p t other)) ∙ e))
   ]
 
   -- a slot more is free, and a completion more is posted
@@ -182,8 +182,8 @@ module _ (p : PostCall) where
       omega (
         arith,
         p.stands.tags.free_count,
-        (has_after p).free_chain.len_is,
-        p.stands.has.free_chain.len_is,
+        (has_after p).free.chain.len_is,
+        p.stands.has.free.chain.len_is,
         length-append p.stands.items.free (tag p ∷ []),
         size_is p,
       )
@@ -193,28 +193,21 @@ module _ (p : PostCall) where
       let h = p.stands.tags in
       record {
         untaken_are = h.untaken_are;
-        outs_held = All-both (λ (it : Item). holder p.notes it.tag ≡ Some it.place) (λ (it : Item). IsOther it.place) (λ (it : Item). holder (notes_after p) it.tag ≡ Some it.place)
-            (λ it held other. keeps_tag (region p) (index p) (holder p.notes it.tag) it.place held other) p.stands.items.outs h.outs_held outs_other;
-        readies_held = λ y.
-            All-both (λ (it : ReadyItem). it.was_out ≡ true → holder p.notes it.tag ≡ Some it.ready.place) (λ (it : ReadyItem). IsOther it.ready.place)
-            (λ (it : ReadyItem). it.was_out ≡ true → holder (notes_after p) it.tag ≡ Some it.ready.place)
-            (λ it held other out. keeps_tag (region p) (index p) (holder p.notes it.tag) it.ready.place (held out) other) ((items_after p).readies y)
-            (of_readies (λ (it : ReadyItem). it.was_out ≡ true → holder p.notes it.tag ≡ Some it.ready.place) h.readies_held y) (readies_other y);
-        none_held = none_held_after;
+        held = record {
+          outs = All-both (λ (it : Item). holder p.notes it.tag ≡ Some it.place) (λ (it : Item). IsOther it.place) (λ (it : Item). holder (notes_after p) it.tag ≡ Some it.place)
+              (λ it held other. keeps_tag (region p) (index p) (holder p.notes it.tag) it.place held other) p.stands.items.outs h.held.outs outs_other;
+          readies = λ y.
+              All-both (λ (it : ReadyItem). it.was_out ≡ true → holder p.notes it.tag ≡ Some it.ready.place) (λ (it : ReadyItem). IsOther it.ready.place)
+              (λ (it : ReadyItem). it.was_out ≡ true → holder (notes_after p) it.tag ≡ Some it.ready.place)
+              (λ it held other out. keeps_tag (region p) (index p) (holder p.notes it.tag) it.ready.place (held out) other) ((items_after p).readies y)
+              (of_readies (λ (it : ReadyItem). it.was_out ≡ true → holder p.notes it.tag ≡ Some it.ready.place) h.held.readies y) (readies_other y);
+          none = none_held_after;
+          answered = answered_after;
+        };
         through = of_readies (λ (it : ReadyItem). IsThrough p.notes it.ready) h.through;
-        windows_unanswered = h.windows_unanswered;
-        outs_unanswered = h.outs_unanswered;
-        deletes_unanswered = h.deletes_unanswered;
-        none_answered = h.none_answered;
-        answered_held = answered_after;
+        unanswered = h.unanswered;
         hand_entries = h.hand_entries;
         free_count = count_after;
-        passed = record {
-          all_handed = h.passed.all_handed;
-          served = h.passed.served;
-          readies = of_readies (IsReadyOf p.notes) h.passed.readies;
-          deletes = h.passed.deletes;
-        };
         cookies = record {
           windows = λ r. items_left p.notes p.slots p.new same (p.stands.items.windows r) (h.cookies.windows r);
           outs = items_left p.notes p.slots p.new same p.stands.items.outs h.cookies.outs;
@@ -222,8 +215,16 @@ module _ (p : PostCall) where
           deletes = λ r it is. cookie_left p.notes p.slots p.new same it.tag (place_at 0 it.index) (h.cookies.deletes r it is);
           none = h.cookies.none;
         };
-        none_flagged = h.none_flagged;
-        flags = of_readies (HasFlags p.notes) h.flags;
+        passed = record {
+          all_handed = h.passed.all_handed;
+          served = h.passed.served;
+          readies = of_readies (IsReadyOf p.notes) h.passed.readies;
+          deletes = h.passed.deletes;
+        };
+        flagged = record {
+          none = h.flagged.none;
+          readies = of_readies (HasFlags p.notes) h.flagged.readies;
+        };
       } where
         same : SameCookies p.slots p.new
         same = same_cookies-but p.slots p.new (tag p) (other_kept p) (tag_cookie p)
@@ -297,7 +298,7 @@ module _ (p : PostCall) where
         deletes = next.deletes;
         posts_own = posts_own on_time first.no_post first.was_served;
         fetches_submitted = tt;
-        posts_on_free_slot = omega (arith, has_room p, p.stands.holds.tabled.cq_slots p.x, (p.stands.numbers.cqs p.cqid p.x p.life).slots);
+        posts_on_free_slot = omega (arith, has_room p, p.stands.holds.tabled.cq_slots p.x, (p.stands.numbers.cqs.each p.cqid p.x p.life).slots);
         posts_what_is_through = is_done;
       }
 
@@ -314,7 +315,7 @@ kept p = of_item p (HasReadyCookie p.notes p.slots) (p.stands.tags.cookies.readi
 
 -- its flags are those of its place
 flagged : (p : PostCall) → flags_in (command p) ≡ flags_or (cqe_of p).status (flags_of p.notes (region p) (index p))
-flagged p = (ready_in p).flags ∙ of_item p (HasFlags p.notes) (p.stands.tags.flags p.x) ∙ ap (λ (s : StatusCode). flags_or s (flags_of p.notes (region p) (index p))) (sym (can_post p).status)
+flagged p = (ready_in p).flags ∙ of_item p (HasFlags p.notes) (p.stands.tags.flagged.readies p.x) ∙ ap (λ (s : StatusCode). flags_or s (flags_of p.notes (region p) (index p))) (sym (can_post p).status)
 
 pub stands_after : (p : PostCall) → StandsAt p.rules p.late (notes_after p) (controller_after p) p.new
 stands_after p = record {
@@ -338,7 +339,7 @@ posted_call p = record {
   region = region p;
   index = index p;
   queue = (is_ready p).queue ∙ ap (λ (q : ℕ). Some q) (sym (ready_in p).sqid);
-  slot_is = (counts_before p).tail_is ∙ ap (λ (n : ℕ). length (posted_to (past_of p) p.x) % n) ((p.stands.numbers.cqs p.cqid p.x p.life).slots ∙ sym (p.stands.holds.tabled.cq_slots p.x));
+  slot_is = (counts_before p).tail_is ∙ ap (λ (n : ℕ). length (posted_to (past_of p) p.x) % n) ((p.stands.numbers.cqs.each p.cqid p.x p.life).slots ∙ sym (p.stands.holds.tabled.cq_slots p.x));
   kept = kept p;
   flagged = flagged p;
   through = is_done p;
@@ -359,9 +360,9 @@ pub call_posts : (rules : FrontRules) (late : Bool) (notes : Notes) (c : Control
 call_posts rules late notes c slots cqid tag cq free new stands did = by (stands.content.cq_life cqid) refl where
   on : (x : ℕ) → stands.content.cq_life cqid ≡ Some x → (items : List ReadyItem) → stands.items.readies x ≡ items
       → HasPosted rules late notes cqid (cq_at c.cqs cqid).ring.tail (completion_of c (slot_at slots tag) ((cq_at c.cqs cqid).phase == 1)) (slot_at slots tag).cookie (flags_in (slot_at slots tag)) (left_by c slots cqid tag cq free) new
-  on x life [] e = absurd (did.some (subst (λ (items : List ReadyItem). IsChain slots (cq_at c.cqs cqid).ready (ready_tags items)) e (stands.has.ready_chain cqid x life)))
+  on x life [] e = absurd (did.some (subst (λ (items : List ReadyItem). IsChain slots (cq_at c.cqs cqid).ready (ready_tags items)) e (stands.has.readies.chain cqid x life)))
   on x life (item ∷ rest) e =
-      let same : item.tag ≡ tag = did.first item.tag (ready_tags rest) (subst (λ (items : List ReadyItem). IsChain slots (cq_at c.cqs cqid).ready (ready_tags items)) e (stands.has.ready_chain cqid x life)) in
+      let same : item.tag ≡ tag = did.first item.tag (ready_tags rest) (subst (λ (items : List ReadyItem). IsChain slots (cq_at c.cqs cqid).ready (ready_tags items)) e (stands.has.readies.chain cqid x life)) in
       subst (λ (z : ℕ). HasPosted rules late notes cqid (cq_at c.cqs cqid).ring.tail (completion_of c (slot_at slots z) ((cq_at c.cqs cqid).phase == 1)) (slot_at slots z).cookie (flags_in (slot_at slots z)) (left_by c slots cqid z cq free) new) same
       (posted_call (record {
         rules = rules;
@@ -384,7 +385,7 @@ call_posts rules late notes c slots cqid tag cq free new stands did = by (stands
 
   by : (o : Option ℕ) → stands.content.cq_life cqid ≡ o
       → HasPosted rules late notes cqid (cq_at c.cqs cqid).ring.tail (completion_of c (slot_at slots tag) ((cq_at c.cqs cqid).phase == 1)) (slot_at slots tag).cookie (flags_in (slot_at slots tag)) (left_by c slots cqid tag cq free) new
-  by None closed = absurd (did.some (none_open c slots cqid (stands.numbers.no_cqs cqid closed)))
+  by None closed = absurd (did.some (none_open c slots cqid (stands.numbers.cqs.none cqid closed)))
   by (Some x) life = on x life (stands.items.readies x) refl
 
 -- so do the steps of the function, one after another

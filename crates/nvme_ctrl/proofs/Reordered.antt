@@ -88,14 +88,7 @@ module _ (rules : FrontRules) (regions : TableHistory) (sizes : List ℕ) (same 
     holds = holds-other s.content s.holds;
     numbers = s.numbers;
     has = s.has;
-    doorbells = record {
-      sqs = s.doorbells.sqs;
-      cqs = s.doorbells.cqs;
-      phases = s.doorbells.phases;
-      no_tails = s.doorbells.no_tails;
-      no_heads = s.doorbells.no_heads;
-      no_posts = s.doorbells.no_posts;
-    };
+    doorbells = record { sqs = s.doorbells.sqs; cqs = s.doorbells.cqs };
     tags = s.tags;
     shown = s.shown;
     regions = s.regions;

@@ -20,7 +20,7 @@ drained ring same = rw (le-leb ring.head ring.tail (omega (arith, same))) (omega
 pub unrung : (rules : FrontRules) (late : Bool) (notes : Notes) (c : Controller) (slots : List Slot) → StandsAt rules late notes c slots
     → (p : ℕ) → p ≤ 64 → has_queue c.rung p ≡ false → HasFetch rules notes c slots p → ⊥
 unrung rules late notes c slots s p few out has =
-    (is_fetchable rules late notes c slots s p has.0 has.1).some_submitted (drained (sq_at c.sqs p).ring (s.numbers.rung p few out))
+    (is_fetchable rules late notes c slots s p has.0 has.1).some_submitted (drained (sq_at c.sqs p).ring (s.numbers.sqs.rung p few out))
 
 -- where no queue has work whose turn comes before one, none has before the next of the set from there on
 pub none_between : (rules : FrontRules) (late : Bool) (notes : Notes) (c : Controller) (slots : List Slot) → StandsAt rules late notes c slots

@@ -24,10 +24,10 @@ module _ (rules : FrontRules) (late : Bool) (notes : Notes) (c : Controller) (sl
   kept_region = by (s.content.sq_life q) refl where
     by : (o : Option ℕ) → s.content.sq_life q ≡ o → region_in (sq_at c.sqs q).ring.slots (s.content.table.sq q) ≡ o
     by None none =
-        let empty : (sq_at c.sqs q).ring.slots ≡ 0 = ap (λ (x : SqState). x.ring.slots) (s.numbers.no_sqs q none) in
+        let empty : (sq_at c.sqs q).ring.slots ≡ 0 = ap (λ (x : SqState). x.ring.slots) (s.numbers.sqs.none q none) in
         ap (λ (b : Bool). if b then None else option_map (λ (e : SqEntry). e.region) (s.content.table.sq q)) (eq-eqb (sq_at c.sqs q).ring.slots 0 empty)
     by (Some r) is =
-        let it = s.numbers.sqs q r is in
+        let it = s.numbers.sqs.each q r is in
         ap (λ (b : Bool). if b then None else option_map (λ (e : SqEntry). e.region) (s.content.table.sq q))
         (ne_eqb (sq_at c.sqs q).ring.slots 0 (λ empty. omega (arith, empty, it.slots, it.some)))
         ∙ ap (option_map (λ (e : SqEntry). e.region)) it.in_table ∙ ap (λ (x : ℕ). Some x) it.on

@@ -26,10 +26,10 @@ module _ (rules : FrontRules) (late : Bool) (notes : Notes) (c : Controller) (sl
   in_region x =
       All-both (IsReadyIn s.content.sq_id slots) (λ (it : ReadyItem). IsReady (logged notes) s.content.deletion x it.ready) (λ (it : ReadyItem). cq_region_of (logged notes) (region_at it.tag) ≡ Some x)
       (λ it r is.
-      ap (λ (o : Option ℕ). cq_region_of (logged notes) (unwrap_or o 0)) (s.numbers.sq_ids.lives_are it.ready.place.region (slot_at slots it.tag).sqid r.queue) ∙ is.region)
-      (s.items.readies x) (s.has.ready_items x)
+      ap (λ (o : Option ℕ). cq_region_of (logged notes) (unwrap_or o 0)) (s.numbers.sqs.ids.lives_are it.ready.place.region (slot_at slots it.tag).sqid r.queue) ∙ is.region)
+      (s.items.readies x) (s.has.readies.items x)
       (All-unmap (IsReady (logged notes) s.content.deletion x) (λ (it : ReadyItem). it.ready) (s.items.readies x)
-      (All-same (IsReady (logged notes) s.content.deletion x) (readies_of (s.items.readies x)) (s.content.cq x).ready (sym (s.has.ready_is x)) (s.holds.ready.each x)))
+      (All-same (IsReady (logged notes) s.content.deletion x) (readies_of (s.items.readies x)) (s.content.cq x).ready (sym (s.has.readies.are x)) (s.holds.ready.each x)))
 
   -- no slot is ready in two of them
   pub readies_are_apart : AreReadiesApart s.items

@@ -88,8 +88,8 @@ waiting_await rules late notes c slots depth q queue s still is_open waits =
 pub unfetched_await : UnfetchedAwait
 unfetched_await rules late notes c slots depth q queue s still is_open more free =
     let life = s.holds.lives.sqs q queue is_open in
-    let counts = s.doorbells.sqs q queue.region life in
-    let ring = (s.numbers.sqs q queue.region life).slots in
+    let counts = s.doorbells.sqs.each q queue.region life in
+    let ring = (s.numbers.sqs.each q queue.region life).slots in
     let slots_are = s.holds.tabled.sq_slots queue.region in
     let some : 0 < window_at rules queue.region = omega (arith, more, counts.fits, ring, slots_are) in
     elim (cases_lt (held_in (logged notes) queue.region) (depth queue.region)) [
@@ -181,7 +181,7 @@ module _ (rules : FrontRules) (late : Bool) (notes : Notes) (c : Controller) (sl
     by (Some a) is =
         let named : qid_of_region past r ≡ Some a.qid = s.holds.queues.qid_is r ∙ ap (option_map (λ (x : Attachment). x.qid)) is in
         let life = s.holds.lives.there r a.qid named alive in
-        let sq = s.numbers.sqs a.qid r life in
+        let sq = s.numbers.sqs.each a.qid r life in
         let goes_to : cq_region_of past r ≡ Some sq.cq_region = s.holds.queues.cq_region_is r ∙ ap (option_map (λ (x : Attachment). x.cq_region)) sq.opened in
         let is_open : open_cq past (sq_at c.sqs a.qid).cqid ≡ Some sq.cq_region = sym (s.holds.lives.cqs (sq_at c.sqs a.qid).cqid) ∙ sq.cq_open in
         elim (still.posts (sq_at c.sqs a.qid).cqid sq.cq_region is_open) [
@@ -198,7 +198,7 @@ module _ (rules : FrontRules) (late : Bool) (notes : Notes) (c : Controller) (sl
 
   hand_is_out : k.hand ≡ places_of s.items.outs
   hand_is_out =
-      s.has.hand_is ∙ ap (λ (its : List Item). places_of (s.items.outs ++ its)) none_untaken ∙ ap places_of (append-nil s.items.outs)
+      s.has.outs.hand_is ∙ ap (λ (its : List Item). places_of (s.items.outs ++ its)) none_untaken ∙ ap places_of (append-nil s.items.outs)
 
   -- a command that isn't through is ready nowhere
   not_ready : is_through notes r i ≡ false → times_ready k r i ≡ 0
@@ -207,7 +207,7 @@ module _ (rules : FrontRules) (late : Bool) (notes : Notes) (c : Controller) (sl
         arith,
         sum_by-le (λ (t : Ready). one_if (t.place.region == r && t.place.index == i)) 0 (k.cq x).ready (λ j d m.
             let t : Ready = slice_index_or (k.cq x).ready j d in
-            let all : All (IsThrough notes) (k.cq x).ready = All-same (IsThrough notes) (k.cq x).ready (readies_of (s.items.readies x)) (s.has.ready_is x)
+            let all : All (IsThrough notes) (k.cq x).ready = All-same (IsThrough notes) (k.cq x).ready (readies_of (s.items.readies x)) (s.has.readies.are x)
             (All-map (IsThrough notes) (λ (y : ReadyItem). y.ready) (s.items.readies x) (s.tags.through x)) in
             counts_none (t.place.region == r && t.place.index == i) (λ e.
             let parts = and_parts (t.place.region == r) (t.place.index == i) e in
@@ -225,7 +225,7 @@ module _ (rules : FrontRules) (late : Bool) (notes : Notes) (c : Controller) (sl
       elim (cases_lt 0 (times_held r i k.hand)) [
         | inl here ↦
             let out : 1 ≤ times_held r i (places_of s.items.outs) = subst (λ (ps : List Place). 1 ≤ times_held r i ps) hand_is_out here in
-            inl (record { has = out_tagged notes r i s.items.outs s.tags.outs_held out; unanswered = none_from (answer_of notes r i) (is_aborted past r i) undone })
+            inl (record { has = out_tagged notes r i s.items.outs s.tags.held.outs out; unanswered = none_from (answer_of notes r i) (is_aborted past r i) undone })
         | inr none ↦
             let d = delete_found r i k.deletion k.nsq (omega (arith, held, parts, none)) in
             let pending = s.holds.deletion.stands d.region d.delete d.is in

@@ -94,7 +94,7 @@ module _ (rules : FrontRules) (late : Bool) (notes : Notes) (c : Controller) (sl
   -- what is ready is through
   readies_through : (x : ℕ) → All (λ (t : Ready). is_through notes t.place.region t.place.index ≡ true) (s.content.cq x).ready
   readies_through x =
-      All-same (λ (t : Ready). is_through notes t.place.region t.place.index ≡ true) (s.content.cq x).ready _ (s.has.ready_is x)
+      All-same (λ (t : Ready). is_through notes t.place.region t.place.index ≡ true) (s.content.cq x).ready _ (s.has.readies.are x)
       (All-map (λ (t : Ready). is_through notes t.place.region t.place.index ≡ true) (λ (y : ReadyItem). y.ready) (s.items.readies x)
       (All-weaker (λ (y : ReadyItem). IsThrough notes y.ready) (λ (y : ReadyItem). is_through notes y.ready.place.region y.ready.place.index ≡ true)
       (λ y h. through_is notes y.ready h) (s.items.readies x) (s.tags.through x)))
@@ -106,12 +106,12 @@ module _ (rules : FrontRules) (late : Bool) (notes : Notes) (c : Controller) (sl
       let lengths : length (taken notes ++ places_of items) ≡ length (taken notes) = ap (λ (ps : List Place). length ps) (sym s.tags.untaken_are ∙ all) in
       let none : items ≡ [] =
       none_in items (omega (arith, lengths, length-append (taken notes) (places_of items), length-map items (λ (y : Item). y.place))) in
-      All-same (λ (p : Place). IsHeldAt p.region p.index) s.content.hand (places_of (s.items.outs ++ items)) s.has.hand_is
+      All-same (λ (p : Place). IsHeldAt p.region p.index) s.content.hand (places_of (s.items.outs ++ items)) s.has.outs.hand_is
       (All-map (λ (p : Place). IsHeldAt p.region p.index) (λ (y : Item). y.place) (s.items.outs ++ items)
       (All-append (λ (y : Item). IsHeldAt y.place.region y.place.index) s.items.outs items
       (All-both (IsOutIn s.content.sq_id slots) (λ (y : Item). holder notes y.tag ≡ Some y.place) (λ (y : Item). IsHeldAt y.place.region y.place.index)
       (λ y out held. inl (record { tag = y.tag; held = held; out = out_is_out rules late notes c slots s y.tag out.state }))
-      s.items.outs s.has.outs_items s.tags.outs_held)
+      s.items.outs s.has.outs.items s.tags.held.outs)
       (All-same (λ (y : Item). IsHeldAt y.place.region y.place.index) items [] none (All-nil (λ (y : Item). IsHeldAt y.place.region y.place.index)))))
 
   -- the others in hand delete queues

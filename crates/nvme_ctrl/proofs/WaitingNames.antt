@@ -118,12 +118,12 @@ module _ (rules : FrontRules) (late : Bool) (notes : Notes) (c : Controller) (sl
   life = s.holds.lives.sqs sqid queue opened
 
   window_all : (s.content.sq r).window ≡ map candidate_of its
-  window_all = s.has.window_is r ∙ ap (λ (o : Option ℕ). map candidate_of (drop (picked_of c o) its)) (s.numbers.sq_ids.ids_are sqid r life)
+  window_all = s.has.windows.are r ∙ ap (λ (o : Option ℕ). map candidate_of (drop (picked_of c o) its)) (s.numbers.sqs.ids.ids_are sqid r life)
       ∙ ap (λ (n : ℕ). map candidate_of (drop n its)) (none_picked_in c sqid none)
 
   -- the slots of its window are in a chain
   pub window_linked : IsChain slots (sq_at c.sqs sqid).window (tags_of its)
-  window_linked = s.has.window_chain sqid r life
+  window_linked = s.has.windows.chain sqid r life
 
   made : abort_of now sqid cid ≡ abort_in now cid (Some queue)
   made = ap (λ (o : Option Queue). abort_in now cid o) (target_is now sqid io ∙ opened)
@@ -134,7 +134,7 @@ module _ (rules : FrontRules) (late : Bool) (notes : Notes) (c : Controller) (sl
       without_before o
       ∙ ap (λ (x : Option (ℕ × ℕ)). is_some (option_map (λ (y : ℕ × ℕ). y.1) x)) found
       ∙ ap (λ (x : Option ℕ). is_some x) (sym (named-found slots cid (sq_at c.sqs sqid).window.first (tags_of its)))
-      ∙ found_both slots sqid r cid its (s.has.window_items sqid r life)
+      ∙ found_both slots sqid r cid its (s.has.windows.items sqid r life)
       ∙ ap (λ (w : List Candidate). is_some (oldest_named cid w)) (sym window_all)
       ∙ made_where r (oldest_named cid (s.content.sq r).window)
       ∙ ap (λ (is : List ℕ). not (length (map (λ (i : ℕ). event.Abort r i) is) == 0)) (sym (first_named now r cid (s.content.sq r) (s.holds.regions r)))

@@ -61,11 +61,11 @@ module _ (rules : FrontRules) (late : Bool) (notes : Notes) (c : Controller) (sl
 
   -- its window's slots are in a chain
   pub waiting_chain : IsChain slots (sq_at c.sqs q).window (tags_of its)
-  waiting_chain = s.has.window_chain q r life
+  waiting_chain = s.has.windows.chain q r life
 
   -- behind those that are picked come those that wait
   window_is : (s.content.sq r).window ≡ map candidate_of (drop p its)
-  window_is = s.has.window_is r ∙ ap (λ (n : ℕ). map candidate_of (drop n its)) (picked_are rules late notes c slots s q r life)
+  window_is = s.has.windows.are r ∙ ap (λ (n : ℕ). map candidate_of (drop n its)) (picked_are rules late notes c slots s q r life)
 
   candidate-at : (n : ℕ) → slice_get (s.content.sq r).window n ≡ option_map candidate_of (slice_get its (p + n))
   candidate-at n =
@@ -78,7 +78,7 @@ module _ (rules : FrontRules) (late : Bool) (notes : Notes) (c : Controller) (sl
       let at = item-at its (p + n) tag h in
       let it = at.it in
       let candidate : slice_get (s.content.sq r).window n ≡ Some (candidate_of it) = candidate-at n ∙ ap (option_map candidate_of) at.there in
-      let waiting_in_slot : IsWaitingIn slots q r it = all-at (IsWaitingIn slots q r) its (p + n) it (s.has.window_items q r life) at.there in
+      let waiting_in_slot : IsWaitingIn slots q r it = all-at (IsWaitingIn slots q r) its (p + n) it (s.has.windows.items q r life) at.there in
       let entry = all-at (λ (x : Candidate). entry_at past r x.index ≡ Some x.entry) (s.content.sq r).window n (candidate_of it) (s.holds.regions r).entries candidate in
       let cookie = all-at (HasCookie notes slots) its (p + n) it (s.tags.cookies.windows r) at.there in
       record {

@@ -4,7 +4,7 @@ use Rattle.std.specs.Prelude.{slice_set, option_map, IsTrue}
 use Rattle.std.specs.List.{All}
 use Rattle.std.proofs.lemmas.Bool.{cases_eq, ne_eqb}
 use Rattle.std.proofs.lemmas.Option.{none-some, same_Some}
-use Rattle.std.proofs.lemmas.List.{get_or-set_same, get_or-set_other, length-set}
+use Rattle.std.proofs.lemmas.List.{get_or-set_same, get_or-set_other}
 use Rattle.std.proofs.lemmas.List.Elements.{All-weaker, All-map}
 use Rattle.nvme_arbiter.specs.Board.{BoardView}
 use Rattle.nvme_arbiter.specs.Layout.{is_arbiter, board_of}
@@ -25,10 +25,9 @@ use Rattle.nvme_slots.specs.declared.slot.Slot.{Slot}
 use Rattle.nvme_slots.specs.declared.chain.Chain.{Chain}
 use Rattle.nvme_slots.specs.declared.ring.Ring.{Ring}
 use Rattle.nvme_ctrl.specs.declared.state.SqState.{SqState}
-use Rattle.nvme_ctrl.specs.declared.state.Deletion.{Deletion}
 use Rattle.nvme_ctrl.specs.declared.state.Controller.{Controller}
 use Rattle.nvme_ctrl_content.specs.Content.{PendingDelete, SqContent, Content, with_sq}
-use Rattle.nvme_ctrl.specs.kept.Kept.{Item, ReadyItem, DeleteItem, Items, HasDeletions, IsSqOf, deletion_in, picked_of, picked_region, IsWaitingIn, IsOutIn, IsReadyIn, IsUnanswered, HasEntry, HasCookie, HoldsCookies, HasNumbers, HasItems, HoldsDoorbells, HoldsTags, tags_of, places_of, ready_tags, candidate_of, untaken, is_free}
+use Rattle.nvme_ctrl.specs.kept.Kept.{Item, ReadyItem, DeleteItem, Items, HasDeletions, deletion_in, picked_of, picked_region, IsWaitingIn, IsOutIn, IsReadyIn, IsUnanswered, HasEntry, HasCookie, HoldsCookies, HasNumbers, HasItems, HoldsDoorbells, HoldsTags, tags_of, places_of, ready_tags, candidate_of, untaken, is_free, IsSq, shown_in}
 use Rattle.nvme_ctrl.specs.inside.Loose.{Keeps}
 use Rattle.nvme_slots.specs.Pool.{slot_at, flags_in, IsChain, IsNew, SameItems, SameLinks}
 use Rattle.nvme_ctrl.specs.kept.State.{no_sq_state, sq_at}
@@ -37,6 +36,9 @@ use Rattle.nvme_ctrl.proofs.Passed.{passed_left}
 use Rattle.nvme_ctrl.proofs.Cookies.{SameCookies, same_cookies, cookie_left, items_left, readies_left}
 use Rattle.nvme_slots.proofs.Pools.{chain-other}
 use Rattle.nvme_ctrl.proofs.SlotItems.{ready_state-range}
+use Rattle.nvme_ctrl.proofs.PendingDeletions.{deletions_kept}
+use Rattle.nvme_ctrl_content.proofs.DeletingRegions.{put-same, put-other}
+use Rattle.nvme_ctrl.proofs.QueueStates.{sq_changed, put_sqs, each_sqs}
 use Rattle.nvme_ctrl.proofs.QueueSets.{rung-kept}
 
 -- other items in the window of a region
@@ -67,9 +69,9 @@ none_untaken c k g none = ap (λ (n : ℕ). take n (g.windows (picked_region c k
 
 -- ---- pending deletions
 -- they stay where what is in each slot is left
-deletions_same : (deletions : List Deletion) (deleting : ℕ) (slots pool : List Slot) (lives : ℕ → Option ℕ) (kept : ℕ → Option PendingDelete) (deletes : ℕ → Option DeleteItem)
-    → SameItems slots pool → HasDeletions deletions deleting slots lives kept deletes → HasDeletions deletions deleting pool lives kept deletes
-deletions_same deletions deleting slots pool lives kept deletes same h = record {
+deletions_same : (states : List SqState) (deleting : ℕ) (slots pool : List Slot) (lives : ℕ → Option ℕ) (kept : ℕ → Option PendingDelete) (deletes : ℕ → Option DeleteItem)
+    → SameItems slots pool → HasDeletions states deleting slots lives kept deletes → HasDeletions states deleting pool lives kept deletes
+deletions_same states deleting slots pool lives kept deletes same h = record {
   are = λ r. h.are r ∙ each r (deletes r);
   tags = h.tags;
   queues = h.queues;
@@ -80,32 +82,17 @@ deletions_same deletions deleting slots pool lives kept deletes same h = record 
   };
   apart = h.apart;
   counted = h.counted;
-  size = h.size;
 } where
   each : (r : ℕ) (o : Option DeleteItem) → option_map (deletion_in slots r) o ≡ option_map (deletion_in pool r) o
   each r None = refl
   each r (Some it) = ap (λ (x : Slot). Some (record { place = place_at 0 it.index; cid = x.entry.cid; qid = it.qid; region = r })) (sym (same.items it.tag))
 
 -- ---- another state of a queue
--- a state is that of a content, as it is of a controller
-pub record IsSqWith (k : Content) (hs : ℕ → Bool) (q r : ℕ) (x : SqState) (y : SqContent) : Type 0 where
-  pub entry : SqEntry
-  pub in_table : k.table.sq q ≡ Some entry
-  pub on : entry.region ≡ r
-  pub to : entry.cqid ≡ x.cqid
-  pub cq_region : ℕ
-  pub cq_open : k.cq_life x.cqid ≡ Some cq_region
-  pub opened : y.queue ≡ Some (record { qid = q; cq_region = cq_region })
-  pub held : (x.held == 1) ≡ hs r
-  pub unposted : x.unposted ≡ y.unposted
-  pub slots : x.ring.slots ≡ y.slots
-  pub some : 0 < y.slots
-
 module _ (rules : FrontRules) (notes : Notes) (a : Controller) (slots : List Slot) (k : Content) (g : Items) (h : Keeps rules notes a slots k g) (none_picked : a.picked ≡ 0)
     (qid region : ℕ) (live : k.sq_life qid ≡ Some region) (s : SqState) (c : SqContent) (items : List Item) (pool : List Slot)
     (hs : ℕ → Bool) (cs : ℕ → Option Class) (held : (s.held == 1) ≡ hs region) (held_left : (r : ℕ) → r ≢ region → k.held r ≡ hs r)
     (same : SameItems slots pool) (links : SameLinks (tags_of (g.windows region)) slots pool)
-    (ring : s.ring ≡ (sq_at a.sqs qid).ring) (to : s.cqid ≡ (sq_at a.sqs qid).cqid) (queue : c.queue ≡ (k.sq region).queue) (unposted : s.unposted ≡ c.unposted)
+    (ring : s.ring ≡ (sq_at a.sqs qid).ring) (to : s.cqid ≡ (sq_at a.sqs qid).cqid) (closing : s.closing ≡ (sq_at a.sqs qid).closing) (deleted : s.tag ≡ (sq_at a.sqs qid).tag) (queue : c.queue ≡ (k.sq region).queue) (unposted : s.unposted ≡ c.unposted)
     (slots_are : c.slots ≡ (k.sq region).slots)
     (linked : IsChain pool s.window (tags_of items)) (waiting : All (IsWaitingIn slots qid region) items) (window : c.window ≡ map candidate_of items)
     (unanswered : All (λ (it : Item). IsUnanswered notes it.place) items) (cookies : All (HasCookie notes slots) items) where
@@ -119,13 +106,13 @@ module _ (rules : FrontRules) (notes : Notes) (a : Controller) (slots : List Slo
   later = with_window g region items
 
   there : qid < length a.sqs
-  there = omega (arith, h.numbers.sq_size, h.numbers.few_sqs qid region live)
+  there = omega (arith, h.numbers.sqs.size, h.numbers.sqs.few qid region live)
 
   -- another queue is on another region
   apart : (q r : ℕ) → k.sq_life q ≡ Some r → q ≢ qid → r ≢ region
   apart q r is other e =
-      let one = h.numbers.sq_ids.ids_are q r is in
-      let two = h.numbers.sq_ids.ids_are qid region live in
+      let one = h.numbers.sqs.ids.ids_are q r is in
+      let two = h.numbers.sqs.ids.ids_are qid region live in
       other (same_Some q qid (sym one ∙ ap k.sq_id e ∙ two))
 
   -- what is so of each submission region
@@ -195,75 +182,33 @@ module _ (rules : FrontRules) (notes : Notes) (a : Controller) (slots : List Slo
   state_apart x n is not =
       All-map (λ (y : ℕ). y ≢ x) (λ (it : Item). it.tag) (g.windows region)
       (All-weaker (IsWaitingIn slots qid region) (λ (it : Item). it.tag ≢ x) (λ it w e. not (sym is ∙ ap (λ (y : ℕ). (slot_at slots y).state) (sym e) ∙ w.state)) (g.windows region)
-      (h.has.window_items qid region live))
+      (h.has.windows.items qid region live))
 
   queue_apart : (x q : ℕ) → (slot_at slots x).sqid ≡ q → q ≢ qid → IsNew x (tags_of (g.windows region))
   queue_apart x q is not =
       All-map (λ (y : ℕ). y ≢ x) (λ (it : Item). it.tag) (g.windows region)
       (All-weaker (IsWaitingIn slots qid region) (λ (it : Item). it.tag ≢ x) (λ it w e. not (sym is ∙ ap (λ (y : ℕ). (slot_at slots y).sqid) (sym e) ∙ w.queue)) (g.windows region)
-      (h.has.window_items qid region live))
+      (h.has.windows.items qid region live))
 
   windows_apart : (q r : ℕ) → k.sq_life q ≡ Some r → q ≢ qid → All (λ (x : ℕ). IsNew x (tags_of (g.windows region))) (tags_of (g.windows r))
   windows_apart q r is other =
       All-map (λ (x : ℕ). IsNew x (tags_of (g.windows region))) (λ (it : Item). it.tag) (g.windows r)
-      (All-weaker (IsWaitingIn slots q r) (λ (it : Item). IsNew it.tag (tags_of (g.windows region))) (λ it w. queue_apart it.tag q w.queue other) (g.windows r) (h.has.window_items q r is))
+      (All-weaker (IsWaitingIn slots q r) (λ (it : Item). IsNew it.tag (tags_of (g.windows region))) (λ it w. queue_apart it.tag q w.queue other) (g.windows r) (h.has.windows.items q r is))
 
   readies_apart : (y : ℕ) → All (λ (x : ℕ). IsNew x (tags_of (g.windows region))) (ready_tags (g.readies y))
   readies_apart y =
       All-map (λ (x : ℕ). IsNew x (tags_of (g.windows region))) (λ (it : ReadyItem). it.tag) (g.readies y)
       (All-weaker (IsReadyIn k.sq_id slots) (λ (it : ReadyItem). IsNew it.tag (tags_of (g.windows region)))
-      (λ it w. state_apart it.tag _ w.state (λ e. absurd (let low = (ready_state-range it.was_out it.ready.with_queue).0 in omega (arith, e, low)))) (g.readies y) (h.has.ready_items y))
+      (λ it w. state_apart it.tag _ w.state (λ e. absurd (let low = (ready_state-range it.was_out it.ready.with_queue).0 in omega (arith, e, low)))) (g.readies y) (h.has.readies.items y))
 
   left : (ch : Chain) (xs : List ℕ) → IsChain slots ch xs → All (λ (x : ℕ). IsNew x (tags_of (g.windows region))) xs → IsChain pool ch xs
   left ch xs is apart = chain-other slots pool ch xs (tags_of (g.windows region)) is links same.size apart
 
-  -- the state of each queue is that of its content
-  queues_after : (q r : ℕ) → k.sq_life q ≡ Some r → IsSqOf after kept q r
-  queues_after q r is =
-      let w : IsSqWith k hs q r (sq_at after.sqs q) (kept.sq r) =
-      each_but (λ q r x y its. IsSqWith k hs q r x y) here other q r is in
-      record {
-        entry = w.entry;
-        in_table = w.in_table;
-        on = w.on;
-        to = w.to;
-        cq_region = w.cq_region;
-        cq_open = w.cq_open;
-        opened = w.opened;
-        held = w.held;
-        unposted = w.unposted;
-        slots = w.slots;
-        some = w.some;
-      } where
-        here : IsSqWith k hs qid region s c
-        here = let w = h.numbers.sqs qid region live in record {
-          entry = w.entry;
-          in_table = w.in_table;
-          on = w.on;
-          to = w.to ∙ sym to;
-          cq_region = w.cq_region;
-          cq_open = ap k.cq_life to ∙ w.cq_open;
-          opened = queue ∙ w.opened;
-          held = held;
-          unposted = unposted;
-          slots = ap (λ (z : Ring). z.slots) ring ∙ w.slots ∙ sym slots_are;
-          some = subst (λ (z : ℕ). 0 < z) (sym slots_are) w.some;
-        }
-
-        other : (q r : ℕ) → k.sq_life q ≡ Some r → q ≢ qid → IsSqWith k hs q r (sq_at a.sqs q) (k.sq r)
-        other q r is differs = let w = h.numbers.sqs q r is in record {
-          entry = w.entry;
-          in_table = w.in_table;
-          on = w.on;
-          to = w.to;
-          cq_region = w.cq_region;
-          cq_open = w.cq_open;
-          opened = w.opened;
-          held = w.held ∙ held_left r (apart q r is differs);
-          unposted = w.unposted;
-          slots = w.slots;
-          some = w.some;
-        }
+  here : IsSq k.table k.cq_life qid region s c (hs region) (shown_in k.board qid)
+  here =
+      let w = h.numbers.sqs.each qid region live in
+      sq_changed k.table k.cq_life qid region (sq_at a.sqs qid) s (k.sq region) c (k.held region) (hs region) (shown_in k.board qid) (shown_in k.board qid) w to (ap (λ (z : Ring). z.slots) ring) unposted queue
+      slots_are held (ap (λ (n : ℕ). n == 0) closing ∙ w.shown)
 
   numbers_after : HasNumbers after kept
   numbers_after = let n = h.numbers in record {
@@ -271,72 +216,75 @@ module _ (rules : FrontRules) (notes : Notes) (a : Controller) (slots : List Slo
     board_is = n.board_is;
     is_arbiter = n.is_arbiter;
     outstanding_is = n.outstanding_is;
-    sq_ids = n.sq_ids;
-    cq_ids = n.cq_ids;
-    sqs = queues_after;
-    cqs = λ q x is. let w = n.cqs q x is in record { slots = w.slots; some = w.some };
-    few_sqs = n.few_sqs;
-    few_cqs = n.few_cqs;
-    no_sqs = λ q none. get_or-set_other a.sqs qid q s no_sq_state (λ e. none-some region (sym none ∙ ap k.sq_life e ∙ live)) ∙ n.no_sqs q none;
-    no_cqs = n.no_cqs;
-    sq_size = length-set a.sqs qid s ∙ n.sq_size;
-    cq_size = n.cq_size;
-    rung = rung-kept a.rung qid a.sqs s there n.rung (λ same. ap (λ (z : Ring). z.head) ring ∙ same ∙ sym (ap (λ (z : Ring). z.tail) ring));
-    readied = n.readied;
+    sqs = put_sqs a k n qid region live s a.rung kept.sq hs (shown_in k.board)
+        (subst (λ (y : SqContent). IsSq k.table k.cq_life qid region s y (hs region) (shown_in k.board qid)) (sym (put-same k.sq region c)) here)
+        (λ r other. put-other k.sq region c r other) (λ r other. sym (held_left r other)) (λ q other. refl)
+        (rung-kept a.rung qid a.sqs s there n.sqs.rung (λ same. ap (λ (z : Ring). z.head) ring ∙ same ∙ sym (ap (λ (z : Ring). z.tail) ring)));
+    cqs = n.cqs;
   }
 
   items_after : HasItems after pool kept later
   items_after = let m = h.has in record {
-    window_chain = each_but (λ q r x y its. IsChain pool x.window (tags_of its)) linked (λ q r is other. left _ _ (m.window_chain q r is) (windows_apart q r is other));
-    window_items = each (λ q r x y its. All (IsWaitingIn pool q r) its) (All-weaker (IsWaitingIn slots qid region) (IsWaitingIn pool qid region) (still_waits qid region) items waiting)
-        (λ q r is. All-weaker (IsWaitingIn slots q r) (IsWaitingIn pool q r) (still_waits q r) (g.windows r) (m.window_items q r is));
-    window_none = each_region (λ r y its. k.sq_id r ≡ None → its ≡ []) (λ none. absurd (none-some qid (sym none ∙ h.numbers.sq_ids.ids_are qid region live))) (λ r other. m.window_none r);
-    window_is = each_region (λ r y its. y.window ≡ map candidate_of (drop (picked_of after (k.sq_id r)) its))
-        (window ∙ ap (λ (n : ℕ). map candidate_of (drop n items)) (sym (none_picked_of after (k.sq_id region) none_picked))) (λ r other. m.window_is r);
-    picked_there = subst (λ (n : ℕ). n ≤ length (later.windows (picked_region after kept))) (sym none_picked) (omega arith);
-    outs_items = All-weaker (IsOutIn k.sq_id slots) (IsOutIn k.sq_id pool) still_out g.outs m.outs_items;
-    outs_apart = m.outs_apart;
-    outs_all = λ x is. m.outs_all x (had_state x 2 is);
-    hand_is = m.hand_is ∙ ap (λ (its : List Item). places_of (g.outs ++ its)) (none_untaken a k g none_picked ∙ sym (none_untaken after kept later none_picked));
-    ready_chain = λ q x is. left _ _ (m.ready_chain q x is) (readies_apart x);
-    ready_items = λ x. All-weaker (IsReadyIn k.sq_id slots) (IsReadyIn k.sq_id pool) still_ready (g.readies x) (m.ready_items x);
-    ready_none = m.ready_none;
-    ready_is = m.ready_is;
-    deletions = deletions_same a.deletions a.pending_deletions slots pool k.sq_life k.deletion g.deletes same m.deletions;
-    free_chain = left _ _ m.free_chain (All-weaker (is_free slots) (λ (x : ℕ). IsNew x (tags_of (g.windows region))) (λ x f. state_apart x 0 f (λ e. absurd (cc e))) g.free m.free_items);
-    free_items = All-weaker (is_free slots) (is_free pool) (λ x f. ap (λ (y : Slot). y.state) (same.items x) ∙ f) g.free m.free_items;
+    windows = record {
+      chain = each_but (λ q r x y its. IsChain pool x.window (tags_of its)) linked (λ q r is other. left _ _ (m.windows.chain q r is) (windows_apart q r is other));
+      items = each (λ q r x y its. All (IsWaitingIn pool q r) its) (All-weaker (IsWaitingIn slots qid region) (IsWaitingIn pool qid region) (still_waits qid region) items waiting)
+          (λ q r is. All-weaker (IsWaitingIn slots q r) (IsWaitingIn pool q r) (still_waits q r) (g.windows r) (m.windows.items q r is));
+      none = each_region (λ r y its. k.sq_id r ≡ None → its ≡ []) (λ none. absurd (none-some qid (sym none ∙ h.numbers.sqs.ids.ids_are qid region live))) (λ r other. m.windows.none r);
+      are = each_region (λ r y its. y.window ≡ map candidate_of (drop (picked_of after (k.sq_id r)) its))
+          (window ∙ ap (λ (n : ℕ). map candidate_of (drop n items)) (sym (none_picked_of after (k.sq_id region) none_picked))) (λ r other. m.windows.are r);
+      picked_there = subst (λ (n : ℕ). n ≤ length (later.windows (picked_region after kept))) (sym none_picked) (omega arith);
+    };
+    outs = record {
+      items = All-weaker (IsOutIn k.sq_id slots) (IsOutIn k.sq_id pool) still_out g.outs m.outs.items;
+      apart = m.outs.apart;
+      all = λ x is. m.outs.all x (had_state x 2 is);
+      hand_is = m.outs.hand_is ∙ ap (λ (its : List Item). places_of (g.outs ++ its)) (none_untaken a k g none_picked ∙ sym (none_untaken after kept later none_picked));
+    };
+    readies = record {
+      chain = λ q x is. left _ _ (m.readies.chain q x is) (readies_apart x);
+      items = λ x. All-weaker (IsReadyIn k.sq_id slots) (IsReadyIn k.sq_id pool) still_ready (g.readies x) (m.readies.items x);
+      none = m.readies.none;
+      are = m.readies.are;
+    };
+    deletions = deletions_kept a.sqs a.pending_deletions pool k.sq_life k.deletion g.deletes qid s there closing deleted (deletions_same a.sqs a.pending_deletions slots pool k.sq_life k.deletion g.deletes same m.deletions);
+    free = record {
+      chain = left _ _ m.free.chain (All-weaker (is_free slots) (λ (x : ℕ). IsNew x (tags_of (g.windows region))) (λ x f. state_apart x 0 f (λ e. absurd (cc e))) g.free m.free.items);
+      items = All-weaker (is_free slots) (is_free pool) (λ x f. ap (λ (y : Slot). y.state) (same.items x) ∙ f) g.free m.free.items;
+    };
     few = subst (λ (n : ℕ). n < 2 ^ 16) (sym same.size) m.few;
   }
 
   doorbells_after : HoldsDoorbells rules notes after kept
   doorbells_after = let d = h.doorbells in record {
-    sqs = each (λ q r x y its. HasCounts x.ring (length (fetched (logged notes) r)) (submitted rules notes r))
-        (subst (λ (z : Ring). HasCounts z (length (fetched (logged notes) region)) (submitted rules notes region)) (sym ring) (d.sqs qid region live)) (λ q r is. d.sqs q r is);
+    sqs = record {
+      each = each (λ q r x y its. HasCounts x.ring (length (fetched (logged notes) r)) (submitted rules notes r))
+          (subst (λ (z : Ring). HasCounts z (length (fetched (logged notes) region)) (submitted rules notes region)) (sym ring) (d.sqs.each qid region live)) (λ q r is. d.sqs.each q r is);
+      no_tails = each_region (λ r y its. y.queue ≡ None → submitted rules notes r ≡ 0) (λ none. d.sqs.no_tails region (sym queue ∙ none)) (λ r other. d.sqs.no_tails r);
+    };
     cqs = d.cqs;
-    phases = d.phases;
-    no_tails = each_region (λ r y its. y.queue ≡ None → submitted rules notes r ≡ 0) (λ none. d.no_tails region (sym queue ∙ none)) (λ r other. d.no_tails r);
-    no_heads = d.no_heads;
-    no_posts = d.no_posts;
   }
 
   tags_after : HoldsTags notes after pool kept later
   tags_after = let m = h.tags in record {
     untaken_are = m.untaken_are ∙ ap (λ (its : List Item). taken notes ++ places_of its) (none_untaken a k g none_picked ∙ sym (none_untaken after kept later none_picked));
-    outs_held = m.outs_held;
-    readies_held = m.readies_held;
-    none_held = λ x not_out not_answered. let e = ap (λ (y : Slot). y.state) (same.items x) in m.none_held x (λ is. not_out (e ∙ is)) (λ is. not_answered (e ∙ is));
+    held = record {
+      outs = m.held.outs;
+      readies = m.held.readies;
+      none = λ x not_out not_answered. let e = ap (λ (y : Slot). y.state) (same.items x) in m.held.none x (λ is. not_out (e ∙ is)) (λ is. not_answered (e ∙ is));
+      answered = λ x is. m.held.answered x (had_state x 3 is);
+    };
     through = m.through;
-    windows_unanswered = each_region (λ r y its. All (λ (it : Item). IsUnanswered notes it.place) its) unanswered (λ r other. m.windows_unanswered r);
-    outs_unanswered = m.outs_unanswered;
-    deletes_unanswered = m.deletes_unanswered;
-    none_answered = m.none_answered;
-    answered_held = λ x is. m.answered_held x (had_state x 3 is);
+    unanswered = record {
+      windows = each_region (λ r y its. All (λ (it : Item). IsUnanswered notes it.place) its) unanswered (λ r other. m.unanswered.windows r);
+      outs = m.unanswered.outs;
+      deletes = m.unanswered.deletes;
+      none = m.unanswered.none;
+    };
     hand_entries = subst (λ (its : List Item). All (HasEntry (logged notes)) (g.outs ++ its)) (none_untaken a k g none_picked ∙ sym (none_untaken after kept later none_picked)) m.hand_entries;
     free_count = m.free_count ∙ ap (λ (n : ℕ). n + all_posts (logged notes)) (sym same.size);
     cookies = cookies_after;
     passed = passed_left notes g later (λ x. refl) refl m.passed;
-    none_flagged = m.none_flagged;
-    flags = m.flags;
+    flagged = m.flagged;
   } where
     left : SameCookies slots pool
     left = same_cookies slots pool same
@@ -357,94 +305,38 @@ module _ (rules : FrontRules) (notes : Notes) (a : Controller) (slots : List Slo
 -- the same commands wait
 pub keeps_region : (rules : FrontRules) (notes : Notes) (a : Controller) (slots : List Slot) (k : Content) (g : Items) (qid region : ℕ) (s : SqState) (c : SqContent) (hs : ℕ → Bool) (cs : ℕ → Option Class)
     → (s.held == 1) ≡ hs region → ((r : ℕ) → r ≢ region → k.held r ≡ hs r) → Keeps rules notes a slots k g
-    → a.picked ≡ 0 → k.sq_life qid ≡ Some region → s.ring ≡ (sq_at a.sqs qid).ring → s.window ≡ (sq_at a.sqs qid).window → s.cqid ≡ (sq_at a.sqs qid).cqid
+    → a.picked ≡ 0 → k.sq_life qid ≡ Some region → s.ring ≡ (sq_at a.sqs qid).ring → s.window ≡ (sq_at a.sqs qid).window → s.cqid ≡ (sq_at a.sqs qid).cqid → s.closing ≡ (sq_at a.sqs qid).closing → s.tag ≡ (sq_at a.sqs qid).tag
     → c.queue ≡ (k.sq region).queue → s.unposted ≡ c.unposted
     → c.slots ≡ (k.sq region).slots → c.window ≡ (k.sq region).window → Keeps rules notes (record a { sqs = slice_set a.sqs qid s }) slots (record (with_sq k region c) { held = hs; classed = cs }) g
-keeps_region rules notes a slots k g qid region s c hs cs held held_left h none live ring chain to queue unposted slots_are window =
+keeps_region rules notes a slots k g qid region s c hs cs held held_left h none live ring chain to closing deleted queue unposted slots_are window =
     subst (λ (f : Items). Keeps rules notes (record a { sqs = slice_set a.sqs qid s }) slots (record (with_sq k region c) { held = hs; classed = cs }) f) (same_windows g region)
-    (keeps_windowed rules notes a slots k g h none qid region live s c (g.windows region) slots hs cs held held_left (record { size = refl; items = λ x. refl }) (λ x new. refl) ring to queue unposted slots_are
-    (subst (λ (ch : Chain). IsChain slots ch (tags_of (g.windows region))) (sym chain) (h.has.window_chain qid region live)) (h.has.window_items qid region live)
-    (window ∙ h.has.window_is region ∙ ap (λ (n : ℕ). map candidate_of (drop n (g.windows region))) (none_picked_of a (k.sq_id region) none)) (h.tags.windows_unanswered region) (h.tags.cookies.windows region))
+    (keeps_windowed rules notes a slots k g h none qid region live s c (g.windows region) slots hs cs held held_left (record { size = refl; items = λ x. refl }) (λ x new. refl) ring to closing deleted queue unposted slots_are
+    (subst (λ (ch : Chain). IsChain slots ch (tags_of (g.windows region))) (sym chain) (h.has.windows.chain qid region live)) (h.has.windows.items qid region live)
+    (window ∙ h.has.windows.are region ∙ ap (λ (n : ℕ). map candidate_of (drop n (g.windows region))) (none_picked_of a (k.sq_id region) none)) (h.tags.unanswered.windows region) (h.tags.cookies.windows region))
 
 -- ---- the board, and the number of outstanding places
 pub keeps_outstanding : (rules : FrontRules) (notes : Notes) (a : Controller) (slots : List Slot) (k : Content) (g : Items) (board : BoardFields) (v : BoardView) (n m : ℕ) → Keeps rules notes a slots k g
-    → board_of board ≡ v → IsTrue (is_arbiter board.arbiter) → n ≡ m → Keeps rules notes (record a { board = board; outstanding = n }) slots (record k { board = v; outstanding = m }) g
-keeps_outstanding rules notes a slots k g board v n m h is arbiter same = record {
+    → board_of board ≡ v → IsTrue (is_arbiter board.arbiter) → ((q r : ℕ) → k.sq_life q ≡ Some r → shown_in v q ≡ shown_in k.board q) → n ≡ m → Keeps rules notes (record a { board = board; outstanding = n }) slots (record k { board = v; outstanding = m }) g
+keeps_outstanding rules notes a slots k g board v n m h is arbiter shown same = record {
   numbers = (let n = h.numbers in record {
     tells = n.tells;
     board_is = is;
     is_arbiter = arbiter;
     outstanding_is = same;
-    sq_ids = n.sq_ids;
-    cq_ids = n.cq_ids;
-    sqs = λ q r is. let w = n.sqs q r is in record {
-      entry = w.entry;
-      in_table = w.in_table;
-      on = w.on;
-      to = w.to;
-      cq_region = w.cq_region;
-      cq_open = w.cq_open;
-      opened = w.opened;
-      held = w.held;
-      unposted = w.unposted;
-      slots = w.slots;
-      some = w.some;
-    };
-    cqs = λ q x is. let w = n.cqs q x is in record { slots = w.slots; some = w.some };
-    few_sqs = n.few_sqs;
-    few_cqs = n.few_cqs;
-    no_sqs = n.no_sqs;
-    no_cqs = n.no_cqs;
-    sq_size = n.sq_size;
-    cq_size = n.cq_size;
-    rung = n.rung;
-    readied = n.readied;
+    sqs = each_sqs a.sqs a.rung k.table k.table k.cq_life k.cq_life k.sq_life k.sq_id k.sq k.sq k.held k.held (shown_in k.board) (shown_in v)
+        (λ q r is. subst (IsSq k.table k.cq_life q r (sq_at a.sqs q) (k.sq r) (k.held r)) (sym (shown q r is))) n.sqs;
+    cqs = n.cqs;
   });
-  has = (let m = h.has in record {
-    window_chain = m.window_chain;
-    window_items = m.window_items;
-    window_none = m.window_none;
-    window_is = m.window_is;
-    picked_there = m.picked_there;
-    outs_items = m.outs_items;
-    outs_apart = m.outs_apart;
-    outs_all = m.outs_all;
-    hand_is = m.hand_is;
-    ready_chain = m.ready_chain;
-    ready_items = m.ready_items;
-    ready_none = m.ready_none;
-    ready_is = m.ready_is;
-    deletions = m.deletions;
-    free_chain = m.free_chain;
-    free_items = m.free_items;
-    few = m.few;
-  });
-  doorbells = (let d = h.doorbells in record { sqs = d.sqs; cqs = d.cqs; phases = d.phases; no_tails = d.no_tails; no_heads = d.no_heads; no_posts = d.no_posts });
-  tags = (let m = h.tags in record {
-    untaken_are = m.untaken_are;
-    outs_held = m.outs_held;
-    readies_held = m.readies_held;
-    none_held = m.none_held;
-    through = m.through;
-    windows_unanswered = m.windows_unanswered;
-    outs_unanswered = m.outs_unanswered;
-    deletes_unanswered = m.deletes_unanswered;
-    none_answered = m.none_answered;
-    answered_held = m.answered_held;
-    hand_entries = m.hand_entries;
-    free_count = m.free_count;
-    cookies = m.cookies;
-    passed = m.passed;
-    none_flagged = m.none_flagged;
-    flags = m.flags;
-  });
+  has = (let m = h.has in record { windows = m.windows; outs = m.outs; readies = m.readies; deletions = m.deletions; free = m.free; few = m.few });
+  doorbells = (let d = h.doorbells in record { sqs = d.sqs; cqs = d.cqs });
+  tags = h.tags;
   apart = h.apart;
 }
 
 -- the board alone
 pub keeps_board : (rules : FrontRules) (notes : Notes) (a : Controller) (slots : List Slot) (k : Content) (g : Items) (board : BoardFields) (v : BoardView) → Keeps rules notes a slots k g
-    → board_of board ≡ v → IsTrue (is_arbiter board.arbiter) → Keeps rules notes (record a { board = board }) slots (record k { board = v }) g
-keeps_board rules notes a slots k g board v h is arbiter = keeps_outstanding rules notes a slots k g board v a.outstanding k.outstanding h is arbiter h.numbers.outstanding_is
+    → board_of board ≡ v → IsTrue (is_arbiter board.arbiter) → ((q r : ℕ) → k.sq_life q ≡ Some r → shown_in v q ≡ shown_in k.board q) → Keeps rules notes (record a { board = board }) slots (record k { board = v }) g
+keeps_board rules notes a slots k g board v h is arbiter shown = keeps_outstanding rules notes a slots k g board v a.outstanding k.outstanding h is arbiter shown h.numbers.outstanding_is
 
 -- ---- the table
 pub keeps_table : (rules : FrontRules) (notes : Notes) (a : Controller) (slots : List Slot) (k : Content) (g : Items) (table : PlacedTable) (t : QueueTable) → Keeps rules notes a slots k g
@@ -456,71 +348,24 @@ keeps_table rules notes a slots k g table t h tells stays = record {
     board_is = n.board_is;
     is_arbiter = n.is_arbiter;
     outstanding_is = n.outstanding_is;
-    sq_ids = n.sq_ids;
-    cq_ids = n.cq_ids;
-    sqs = λ q r is.
-        let w = n.sqs q r is in
-        let st = stays q r w.entry is w.in_table in
-        record {
-          entry = st.now;
-          in_table = st.in_table;
-          on = st.region ∙ w.on;
-          to = st.cqid ∙ w.to;
-          cq_region = w.cq_region;
-          cq_open = w.cq_open;
-          opened = w.opened;
-          held = w.held;
-          unposted = w.unposted;
-          slots = w.slots;
-          some = w.some;
-        };
-    cqs = λ q x is. let w = n.cqs q x is in record { slots = w.slots; some = w.some };
-    few_sqs = n.few_sqs;
-    few_cqs = n.few_cqs;
-    no_sqs = n.no_sqs;
-    no_cqs = n.no_cqs;
-    sq_size = n.sq_size;
-    cq_size = n.cq_size;
-    rung = n.rung;
-    readied = n.readied;
+    sqs = each_sqs a.sqs a.rung k.table t k.cq_life k.cq_life k.sq_life k.sq_id k.sq k.sq k.held k.held (shown_in k.board) (shown_in k.board) (λ q r is w. let st = stays q r w.entry is w.in_table in record {
+      entry = st.now;
+      in_table = st.in_table;
+      on = st.region ∙ w.on;
+      to = st.cqid ∙ w.to;
+      cq_region = w.cq_region;
+      cq_open = w.cq_open;
+      opened = w.opened;
+      held = w.held;
+      shown = w.shown;
+      unposted = w.unposted;
+      slots = w.slots;
+      some = w.some;
+    }) n.sqs;
+    cqs = n.cqs;
   });
-  has = (let m = h.has in record {
-    window_chain = m.window_chain;
-    window_items = m.window_items;
-    window_none = m.window_none;
-    window_is = m.window_is;
-    picked_there = m.picked_there;
-    outs_items = m.outs_items;
-    outs_apart = m.outs_apart;
-    outs_all = m.outs_all;
-    hand_is = m.hand_is;
-    ready_chain = m.ready_chain;
-    ready_items = m.ready_items;
-    ready_none = m.ready_none;
-    ready_is = m.ready_is;
-    deletions = m.deletions;
-    free_chain = m.free_chain;
-    free_items = m.free_items;
-    few = m.few;
-  });
-  doorbells = (let d = h.doorbells in record { sqs = d.sqs; cqs = d.cqs; phases = d.phases; no_tails = d.no_tails; no_heads = d.no_heads; no_posts = d.no_posts });
-  tags = (let m = h.tags in record {
-    untaken_are = m.untaken_are;
-    outs_held = m.outs_held;
-    readies_held = m.readies_held;
-    none_held = m.none_held;
-    through = m.through;
-    windows_unanswered = m.windows_unanswered;
-    outs_unanswered = m.outs_unanswered;
-    deletes_unanswered = m.deletes_unanswered;
-    none_answered = m.none_answered;
-    answered_held = m.answered_held;
-    hand_entries = m.hand_entries;
-    free_count = m.free_count;
-    cookies = m.cookies;
-    passed = m.passed;
-    none_flagged = m.none_flagged;
-    flags = m.flags;
-  });
+  has = (let m = h.has in record { windows = m.windows; outs = m.outs; readies = m.readies; deletions = m.deletions; free = m.free; few = m.few });
+  doorbells = (let d = h.doorbells in record { sqs = d.sqs; cqs = d.cqs });
+  tags = h.tags;
   apart = h.apart;
 }

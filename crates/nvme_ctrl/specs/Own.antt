@@ -1,6 +1,6 @@
 -- The admin commands that are the device's.
 -- (Base Specification, Opcodes for Admin Commands, Set Features and Get Features; which are the device's: profile)
-use Rattle.std.specs.Prelude.{ℕ, ◌==◌, ◌&&◌, Bool, false, not, List, [], replicate, slice_set, get_or, Option, option_map}
+use Rattle.std.specs.Prelude.{ℕ, ◌==◌, ◌&&◌, Bool, false, not, List, replicate, slice_set, get_or, Option, option_map}
 use Rattle.nvme_entry.specs.AdminCommand.{admin_command_of}
 use Rattle.nvme_entry.specs.declared.submission.Sqe.{Sqe}
 use Rattle.nvme_entry.specs.declared.admin.AdminCommand.{AdminCommand}

@@ -8,7 +8,6 @@ use Rattle.nvme_slots.specs.declared.chain.Chain.{Chain}
 use Rattle.nvme_slots.specs.declared.slot.Slot.{Slot}
 use Rattle.nvme_ctrl.specs.declared.state.SqState.{SqState}
 use Rattle.nvme_ctrl.specs.declared.state.CqState.{CqState}
-use Rattle.nvme_ctrl.specs.declared.state.Deletion.{Deletion}
 use Rattle.nvme_ctrl.specs.declared.state.Controller.{Controller}
 use Rattle.nvme_slots.specs.Pool.{slot_at, next_at}
 use Rattle.nvme_ctrl.specs.kept.State.{sq_at}
@@ -50,25 +49,25 @@ is_ring r = if r.slots == 0 then true else nat_lt r.head r.slots && nat_lt r.tai
 abbrev pub is_attached : SqState → Bool
 is_attached s = if s.ring.slots == 0 then true else nat_lt s.cqid MAX_REGIONS
 
+-- the slot of the Delete of a queue that is closing is one of the pool, and its command is a Delete
+abbrev pub is_deletion : List Slot → SqState → Bool
+is_deletion slots s = if s.closing == 0 then true else nat_lt s.tag (length slots) && ((slot_at slots s.tag).state == 6)
+
 -- the commands of a submission queue wait, and those of a completion queue ended
 abbrev pub is_sq : List Slot → SqState → Bool
-is_sq slots s = is_ring s.ring && (is_attached s && is_chain 1 1 slots s.window)
+is_sq slots s = is_ring s.ring && (is_attached s && (is_deletion slots s && is_chain 1 1 slots s.window))
 
 abbrev pub is_cq : List Slot → CqState → Bool
 is_cq slots s = is_ring s.ring && is_chain 3 5 slots s.ready
 
 -- ---- a controller
--- the slot of a pending deletion is one of the pool, and its command is a Delete
-abbrev pub is_deletion : List Slot → Deletion → Bool
-is_deletion slots d = if d.pending == 0 then true else nat_lt d.tag (length slots) && ((slot_at slots d.tag).state == 6)
-
 -- no more commands are outstanding than there are slots, nor more of a queue picked than are in its window
 abbrev pub has_counts : Controller → List Slot → Bool
 has_counts c slots = nat_le c.outstanding (length slots) && nat_le c.picked (sq_at c.sqs c.picked_qid).window.len
 
 -- its own numbers
 abbrev pub has_numbers : Controller → List Slot → Bool
-has_numbers c slots = is_arbiter c.board.arbiter && (has_counts c slots && (list_all (is_deletion slots) c.deletions && is_chain 0 0 slots c.free))
+has_numbers c slots = is_arbiter c.board.arbiter && (has_counts c slots && is_chain 0 0 slots c.free)
 
 -- those of its queues
 abbrev pub has_queues : Controller → List Slot → Bool

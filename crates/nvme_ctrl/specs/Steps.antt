@@ -1,11 +1,10 @@
 -- The steps of arbitration of a controller, and the end of a deletion. (Base Specification, Command Arbitration, Admin Command Set)
-use Rattle.std.specs.Prelude.{◌≡◌, ℕ, Bool, List, [], ◌∷◌, Option, Some, None, IsSomeAnd, slice_get}
+use Rattle.std.specs.Prelude.{◌≡◌, ℕ, Bool, List, ◌∷◌, Option, Some, None, IsSomeAnd, slice_get}
 use Rattle.nvme_arbiter.specs.declared.pick.Pick.{Pick}
 use Rattle.nvme_admin.specs.declared.verdict.Verdict.{Verdict}
 use Rattle.nvme_admin.specs.declared.verdict.Verdict.TheVariants as verdict
 use Rattle.nvme_admin.specs.Effects.{verdict_in}
 use Rattle.nvme_admin.specs.declared.effect.Effect.{Effect}
-use Rattle.nvme_admin.specs.declared.effect.Effect.TheVariants.{BeginDelete}
 use Rattle.nvme_placing.specs.Telling.{IsToldBy}
 use Rattle.nvme_entry.specs.declared.submission.Sqe.{Sqe}
 use Rattle.nvme_entry.specs.Status.{success}

@@ -45,6 +45,7 @@ pub(crate) fn went(board: &mut BoardFields, qid: u16, held: bool)
 // Shows a queue that wasn't open, in a class of its identifier, in which no command waits.
 pub(crate) fn show_empty(board: &mut BoardFields, qid: u16, class: Class)
     ensures opened { qid ≤ highest_qid → queue_at (board_of board.old).queues qid ≡ None → ((class ≡ Admin) ↔ (qid ≡ 0)) → board_of board.new ≡ record (board_of board.old) { queues = slice_set (board_of board.old).queues qid (Some (record { class = class; count = 0 })) } }
+    ensures there { qid ≤ highest_qid → queue_at (board_of board.old).queues qid ≡ None → ((class ≡ Admin) ↔ (qid ≡ 0)) → queue_at (board_of board.new).queues qid ≡ Some (record { class = class; count = 0 }) }
     ensures stands { (mechanism : Mechanism) (first : ArbitrationFields) (past : History) → BoardStandsAt mechanism first past (board_of board.old) → BoardStandsAt mechanism first past (board_of board.new) }
     ensures arbiter { board.new.arbiter ≡ board.old.arbiter }
 {

@@ -1,5 +1,5 @@
 // The end of deletions. (Base Specification, Delete I/O Submission Queue)
-use crate::state::{Controller, Deletion, SqState};
+use crate::state::{Controller, SqState};
 use nvme_admin::MAX_REGIONS;
 use nvme_entry::Status;
 use nvme_slots::slot::{ENDED, Slot};
@@ -16,16 +16,17 @@ impl Controller {
     ghost use Rattle.nvme_ctrl.specs.Calls.{depths_of};
     ghost use Rattle.nvme_ctrl.specs.Steps.{HasFinished};
     ghost use Rattle.nvme_ctrl_log.specs.Steps.{IsFinishableAt, NoneFinishable};
-    ghost use Rattle.nvme_ctrl.specs.kept.State.{sq_at, deletion_at, IsFinishable};
+    ghost use Rattle.nvme_ctrl.specs.kept.State.{sq_at, IsFinishable};
     ghost use Rattle.nvme_slots.specs.declared.slot.Slot.{Slot};
 
     // Whether the deletion of a queue is pending, and all completions of the queue are posted.
     fn is_finishable(&self, qid: u16) -> bool
-        ensures pending { result ≡ true → (deletion_at self.now.deletions qid).pending ≢ 0 }
+        ensures closing { result ≡ true → (sq_at self.now.sqs qid).closing ≢ 0 }
         ensures posted { result ≡ true → (sq_at self.now.sqs qid).unposted ≡ 0 }
-        ensures none { result ≡ false → ((deletion_at self.now.deletions qid).pending ≡ 0) ⊎ ((sq_at self.now.sqs qid).unposted ≢ 0) }
+        ensures none { result ≡ false → ((sq_at self.now.sqs qid).closing ≡ 0) ⊎ ((sq_at self.now.sqs qid).unposted ≢ 0) }
     {
-        self.deletion(qid).pending != 0 && self.sq(qid).unposted == 0
+        let sq = self.sq(qid);
+        sq.closing != 0 && sq.unposted == 0
     }
 
     // Whether a submission queue is closing in the table.
@@ -77,10 +78,9 @@ impl Controller {
         if !self.is_closing(qid) {
             return None;
         }
-        let tag = self.deletion(qid).tag;
+        let tag = self.sq(qid).tag;
         self.table.finish_delete(qid);
         self.put_sq(qid, SqState::none());
-        self.put_deletion(qid, Deletion::none());
         self.pending_deletions = self.pending_deletions.saturating_sub(1);
         self.end(slots, tag, ENDED, Status::SUCCESS, 0, 0);
         Some(qid)

@@ -23,13 +23,10 @@ impl Controller {
         ensures answer { (rules : FrontRules) (late : Bool) (notes : Notes) (slots : List Slot) → Stands rules late notes self.old slots → IsTrue result ↔ IsTailOf rules notes qid slot }
         ensures stands { (rules : FrontRules) (late : Bool) (notes : Notes) (slots : List Slot) → Stands rules late notes self.old slots → result ≡ true → TailRung rules late notes qid slot self.new slots }
     {
-        let Some(queue) = self.table.sq(qid) else {
-            return false;
-        };
-        if queue.closing {
+        let mut sq = self.sq(qid);
+        if sq.closing != 0 {
             return false;
         }
-        let mut sq = self.sq(qid);
         if !sq.ring.write_to(slot) {
             return false;
         }
@@ -48,9 +45,6 @@ impl Controller {
         ensures answer { (rules : FrontRules) (late : Bool) (notes : Notes) (slots : List Slot) → Stands rules late notes self.old slots → IsTrue result ↔ IsHeadOf rules notes cqid slot }
         ensures stands { (rules : FrontRules) (late : Bool) (notes : Notes) (slots : List Slot) → Stands rules late notes self.old slots → result ≡ true → HeadRung rules late notes cqid slot self.new slots }
     {
-        if self.table.cq(cqid).is_none() {
-            return false;
-        }
         let mut cq = self.cq(cqid);
         let rung = cq.ring.read_to(slot);
         self.put_cq(cqid, cq);

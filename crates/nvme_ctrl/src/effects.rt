@@ -5,7 +5,7 @@ ghost use Rattle.nvme_ctrl_log.specs.Making.{slots_asked};
 
 use crate::board_counts::{hide, show_empty, went};
 use crate::queue_set::with_queue;
-use crate::state::{Controller, CqState, Deletion, SqState};
+use crate::state::{Controller, CqState, SqState};
 use nvme_admin::Effect;
 use nvme_arbiter::{Class, Settings};
 use nvme_ctrl_log::StatusFlags;
@@ -132,7 +132,7 @@ impl Controller {
         self.drop_window(slots, qid);
         hide(&mut self.board, qid);
         put_state(slots, tag, DELETING);
-        self.put_deletion(qid, Deletion { pending: 1, tag });
+        self.put_closing(qid, tag);
         self.pending_deletions = self.pending_deletions.saturating_add(1);
     }
 

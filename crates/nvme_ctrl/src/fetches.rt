@@ -2,7 +2,7 @@
 use crate::board_counts::came;
 use crate::queue_set::with_queue;
 use crate::state::Controller;
-use nvme_admin::{MAX_REGIONS, SqEntry};
+use nvme_admin::MAX_REGIONS;
 use nvme_entry::Sqe;
 use nvme_log::window_of;
 use nvme_slots::slot::{Slot, WAITING, put_item, slot_at};
@@ -18,7 +18,6 @@ impl Controller {
     ghost use Rattle.nvme_ctrl_log.specs.Calls.{MayFetch};
     ghost use Rattle.nvme_ctrl.specs.inside.Fetching.{IsFetchable};
     ghost use Rattle.nvme_slots.specs.declared.slot.Slot.{Slot};
-    ghost use Rattle.nvme_admin.specs.declared.verdict.SqEntry as entry;
 
     /// From now on at most `depth` commands of a submission queue hold a slot of the pool, each from its fetch to the posting
     /// of its completion: those that wait, and those that are picked, at the device, ready or aborted. Of an identifier above
@@ -38,22 +37,18 @@ impl Controller {
         }
     }
 
-    // The open submission queue of an identifier, where one of its commands may be fetched.
-    fn fetchable(&self, qid: u16) -> Option<SqEntry>
-        ensures some { IfSome result (λ entry. IsFetchable self.now qid entry) }
-        ensures none { (e : entry.SqEntry) → IsFetchable self.now qid e → result ≢ None }
+    // Whether a command of a submission queue may be fetched.
+    fn is_fetchable(&self, qid: u16) -> bool
+        ensures yes { result ≡ true → IsFetchable self.now qid }
+        ensures no { IsFetchable self.now qid → result ≡ true }
     {
         let sq = self.sq(qid);
-        if sq.ring.filled() == 0 || self.free.len == 0 {
-            return None;
+        if sq.closing != 0 || sq.ring.filled() == 0 || self.free.len == 0 {
+            return false;
         }
-        let queue = self.table.sq(qid)?;
         let waiting = sq.window.len.saturating_sub(self.picked_in(qid));
         let held = waiting.saturating_add(sq.unposted);
-        if queue.closing || held >= self.depth(qid) || waiting >= window_of(sq.ring.slots) {
-            return None;
-        }
-        Some(queue)
+        held < self.depth(qid) && waiting < window_of(sq.ring.slots)
     }
 
     /// The slot of the ring of an open submission queue whose entry is to be read next. None where the queue isn't open,
@@ -64,8 +59,11 @@ impl Controller {
         ensures may { (rules : FrontRules) (late : Bool) (notes : Notes) (slots : List Slot) → Stands rules late notes self.now slots → IfSome result (λ slot. MayFetch rules notes (depth_of self.now qid) (length slots) qid slot) }
         ensures told { (rules : FrontRules) (late : Bool) (notes : Notes) (slots : List Slot) → Stands rules late notes self.now slots → (slot : ℕ) → MayFetch rules notes (depth_of self.now qid) (length slots) qid slot → result ≡ Some slot }
     {
-        self.fetchable(qid)?;
-        Some(self.sq(qid).ring.head)
+        if self.is_fetchable(qid) {
+            Some(self.sq(qid).ring.head)
+        } else {
+            None
+        }
     }
 
     /// The entry was read that `fetch` told. Its command waits then. The cookie is kept with it. False, which changes
@@ -80,7 +78,7 @@ impl Controller {
         ensures refused { result ≡ false → (self.new ≡ self.old) × (slots.new ≡ slots.old) }
         ensures stands { (rules : FrontRules) (late : Bool) (notes : Notes) → Stands rules late notes self.old slots.old → result ≡ true → HasFetched rules late notes qid entry.now cookie self.new slots.new }
     {
-        if self.fetchable(qid).is_none() {
+        if !self.is_fetchable(qid) {
             return false;
         }
         let Some(tag) = self.free.pop(slots) else {

@@ -16,10 +16,10 @@ ghost use Rattle.nvme_ctrl_log.specs.First.{IsFirst};
 ghost use Rattle.nvme_ctrl_log.specs.Making.{first_regions, admin_fault};
 ghost use Rattle.nvme_slots.specs.Pool.{IsChain, slot_at};
 ghost use Rattle.nvme_slots.specs.Rings.{first_ring};
-ghost use Rattle.nvme_ctrl.specs.kept.State.{no_sq_state, no_cq_state, no_deletion};
+ghost use Rattle.nvme_ctrl.specs.kept.State.{no_sq_state, no_cq_state};
 
 use crate::own::OwnCommands;
-use crate::state::{Controller, CqState, Deletion, SqState};
+use crate::state::{Controller, CqState, SqState};
 use nvme_admin::{AdminError, Limits, MAX_REGIONS, Region};
 use nvme_arbiter::{BoardFields, Class, Mechanism, Settings};
 use nvme_placing::{PlacedTable, Placement};
@@ -219,7 +219,6 @@ fn first_controller(
         outstanding: 0,
         picked: 0,
         picked_qid: 0,
-        deletions: no_deletions(),
         pending_deletions: 0,
         own: OwnCommands::none(),
         rung: 0,
@@ -273,13 +272,6 @@ fn first_cqs(slots: u16) -> [CqState; MAX_REGIONS]
     let mut cqs = [CqState::none(); MAX_REGIONS];
     cqs[0].ring = Ring::new(slots);
     cqs
-}
-
-// No deletion is pending.
-fn no_deletions() -> [Deletion; MAX_REGIONS]
-    ensures { result ≡ replicate 65 no_deletion }
-{
-    [Deletion::none(); MAX_REGIONS]
 }
 
 // Makes all slots free, and a chain of them. Their generations go on.

@@ -1,9 +1,9 @@
 // The ranges of the numbers of a controller and its slots, as they lie in memory.
 ghost use Rattle.std.specs.Prelude.{◌≡◌};
 ghost use Rattle.std.specs.List.{list_all};
-ghost use Rattle.nvme_ctrl.specs.Ranges.{is_item, is_placed, is_link, is_chain, is_ring, is_attached, is_sq, is_cq, is_deletion};
+ghost use Rattle.nvme_ctrl.specs.Ranges.{is_item, is_placed, is_link, is_chain, is_ring, is_attached, is_deletion, is_sq, is_cq};
 
-use crate::state::{Controller, CqState, Deletion, SqState};
+use crate::state::{Controller, CqState, SqState};
 use nvme_admin::MAX_REGIONS;
 use nvme_slots::chain::Chain;
 use nvme_slots::ring::Ring;
@@ -38,7 +38,6 @@ impl Controller {
     {
         self.board.arbiter.is_arbiter()
             && self.has_counts(slots)
-            && are_deletions(&self.deletions, slots)
             && is_chain(&self.free, slots, FREE, FREE)
     }
 
@@ -126,11 +125,22 @@ fn is_attached(sq: &SqState) -> bool
     sq.ring.slots == 0 || usize::from(sq.cqid) < MAX_REGIONS
 }
 
+// Whether a submission queue that is closing has the slot of a Delete.
+fn is_deletion(sq: &SqState, slots: &[Slot]) -> bool
+    ensures { result ≡ is_deletion slots.now sq.now }
+{
+    sq.closing == 0
+        || (usize::from(sq.tag) < slots.len() && slot_at(slots, sq.tag).state == DELETING)
+}
+
 // Whether a submission queue is within its ranges, with commands that wait.
 fn is_sq(sq: &SqState, slots: &[Slot]) -> bool
     ensures { result ≡ is_sq slots.now sq.now }
 {
-    is_ring(&sq.ring) && is_attached(sq) && is_chain(&sq.window, slots, WAITING, WAITING)
+    is_ring(&sq.ring)
+        && is_attached(sq)
+        && is_deletion(sq, slots)
+        && is_chain(&sq.window, slots, WAITING, WAITING)
 }
 
 // Whether a completion queue is within its ranges, with commands that ended.
@@ -152,22 +162,4 @@ fn are_cqs(cqs: &[CqState], slots: &[Slot]) -> bool
     ensures { result ≡ list_all (is_cq slots.now) cqs.now }
 {
     cqs.iter().all(|cq| is_cq(cq, slots))
-}
-
-// Whether a deletion that is pending has the slot of a Delete.
-fn is_deletion(deletion: &Deletion, slots: &[Slot]) -> bool
-    ensures { result ≡ is_deletion slots.now deletion.now }
-{
-    deletion.pending == 0
-        || (usize::from(deletion.tag) < slots.len()
-            && slot_at(slots, deletion.tag).state == DELETING)
-}
-
-// Whether all deletions that are pending have.
-fn are_deletions(deletions: &[Deletion], slots: &[Slot]) -> bool
-    ensures { result ≡ list_all (is_deletion slots.now) deletions.now }
-{
-    deletions
-        .iter()
-        .all(|deletion| is_deletion(deletion, slots))
 }

@@ -1,6 +1,6 @@
 // What a controller keeps.
 ghost use Rattle.std.specs.Prelude.{◌≡◌, slice_set};
-ghost use Rattle.nvme_ctrl.specs.kept.State.{sq_at, cq_at, deletion_at};
+ghost use Rattle.nvme_ctrl.specs.kept.State.{sq_at, cq_at};
 
 use crate::own::OwnCommands;
 use nvme_admin::MAX_REGIONS;
@@ -12,7 +12,7 @@ use nvme_slots::slot::Slot;
 
 /// A submission queue, open or closing: its ring, of which the controller reads, the chain of its commands that are
 /// picked and not taken, and then of those that wait, the number of picked or aborted commands with no completion
-/// posted, the completion queue that it posts to, and whether it is held.
+/// posted, the completion queue that it posts to, whether it is held, and its deletion.
 #[repr(C)]
 #[derive(Clone, Copy, Drop)]
 pub struct SqState {
@@ -20,8 +20,12 @@ pub struct SqState {
     pub window: Chain,
     pub unposted: u16,
     pub cqid: u16,
+    /// The slot of the Delete command, where it is closing.
+    pub tag: u16,
     /// 1 where it is held, else 0.
     pub held: u8,
+    /// 1 where its deletion began and isn't finished, else 0.
+    pub closing: u8,
 }
 
 /// An open completion queue: its ring, of which the host reads, the chain of its commands whose completions are ready,
@@ -33,16 +37,6 @@ pub struct CqState {
     pub ready: Chain,
     /// 1 or 0. (Base Specification, Phase Tag)
     pub phase: u8,
-}
-
-/// The deletion of a submission queue.
-#[repr(C)]
-#[derive(Clone, Copy, Drop)]
-pub struct Deletion {
-    /// 1 where it began and isn't finished, else 0.
-    pub pending: u8,
-    /// The slot of the Delete command, where it is pending.
-    pub tag: u16,
 }
 
 /// The core of a controller, of numbers alone: its queue table, the board of its arbiter, and the state of each queue, by
@@ -64,8 +58,7 @@ pub struct Controller {
     pub(crate) picked: u16,
     /// Their submission queue. The admin queue has one where it is the device's.
     pub(crate) picked_qid: u16,
-    /// The deletion of each submission queue, and how many of them are pending.
-    pub(crate) deletions: [Deletion; MAX_REGIONS],
+    /// How many submission queues are closing.
     pub(crate) pending_deletions: u16,
     /// The admin commands that are the device's.
     pub(crate) own: OwnCommands,
@@ -96,7 +89,9 @@ impl SqState {
             },
             unposted: 0,
             cqid: 0,
+            tag: 0,
             held: 0,
+            closing: 0,
         }
     }
 }
@@ -125,23 +120,11 @@ impl CqState {
     }
 }
 
-impl Deletion {
-    ghost use Rattle.std.specs.Prelude.{◌≡◌};
-    ghost use Rattle.nvme_ctrl.specs.kept.State.{no_deletion};
-
-    /// None is pending.
-    pub fn none() -> Deletion
-        ensures { result ≡ no_deletion }
-    {
-        Deletion { pending: 0, tag: 0 }
-    }
-}
-
 impl Controller {
     ghost use Rattle.std.specs.Prelude.{◌≡◌, None, slice_set};
     ghost use Rattle.nvme_ctrl.specs.Calls.{depth_of};
     ghost use Rattle.nvme_slots.specs.Pool.{SameItems, pushed, longer, first_of, shorter};
-    ghost use Rattle.nvme_ctrl.specs.kept.State.{sq_at, cq_at, deletion_at, picked_in};
+    ghost use Rattle.nvme_ctrl.specs.kept.State.{sq_at, cq_at, picked_in};
 
     /// The state of a submission queue.
     pub(crate) fn sq(&self, qid: u16) -> SqState
@@ -187,6 +170,18 @@ impl Controller {
         }
     }
 
+    /// A submission queue is closing from now on, by the Delete in this slot.
+    pub(crate) fn put_closing(&mut self, qid: u16, tag: u16)
+        ensures { self.new ≡ record self.old { sqs = slice_set self.old.sqs qid (record (sq_at self.old.sqs qid) { tag = tag; closing = 1 }) } }
+    {
+        let qid = usize::from(qid);
+        if qid < MAX_REGIONS {
+            let sq = &mut self.sqs[qid];
+            sq.tag = tag;
+            sq.closing = 1;
+        }
+    }
+
     /// Takes the first slot out of the window of a submission queue.
     pub(crate) fn pop_window(&mut self, slots: &[Slot], qid: u16) -> Option<u16>
         ensures first { result ≡ first_of (sq_at self.old.sqs qid).window }
@@ -210,28 +205,6 @@ impl Controller {
         let cqid = usize::from(cqid);
         if cqid < MAX_REGIONS {
             self.cqs[cqid].ready.push(slots, tag);
-        }
-    }
-
-    /// The deletion of a submission queue.
-    pub(crate) fn deletion(&self, qid: u16) -> Deletion
-        ensures { result ≡ deletion_at self.now.deletions qid }
-    {
-        let qid = usize::from(qid);
-        if qid < MAX_REGIONS {
-            self.deletions[qid]
-        } else {
-            Deletion::none()
-        }
-    }
-
-    /// Puts the deletion of a submission queue in its place.
-    pub(crate) fn put_deletion(&mut self, qid: u16, deletion: Deletion)
-        ensures { self.new ≡ record self.old { deletions = slice_set self.old.deletions qid deletion } }
-    {
-        let qid = usize::from(qid);
-        if qid < MAX_REGIONS {
-            self.deletions[qid] = deletion;
         }
     }
 

@@ -116,7 +116,7 @@ module _ (a n : ℕ) (rules : FrontRules) (late : Bool) (notes : Notes) (c : Con
   submitted_with Submission r = by (s.content.sq r).queue refl where
     by : (o : Option Attachment) → (s.content.sq r).queue ≡ o → submitted (with_region Submission a n rules) notes r ≡ submitted rules notes r
     by None none =
-        let before = s.doorbells.no_tails r none in
+        let before = s.doorbells.sqs.no_tails r none in
         submitted_none rules (with_region Submission a n rules) notes r before ∙ sym before
     by (Some at) opened =
         let there = s.holds.queues.sq_there r at opened in
@@ -132,7 +132,7 @@ module _ (a n : ℕ) (rules : FrontRules) (late : Bool) (notes : Notes) (c : Con
         consumed_same rules (with_region Completion a n rules) notes x (ap (λ (rs : List Region). slots_at rs x) (cq-more a n rules)
         ∙ slots_other (cq_regions_of rules) (record { address = a; slots = n }) x (λ last. omega (arith, there, last)))
     | inr none ↦
-        let before = s.doorbells.no_heads x none in
+        let before = s.doorbells.cqs.no_heads x none in
         consumed_none rules (with_region Completion a n rules) notes x before ∙ sym before
   ]
 

@@ -103,7 +103,7 @@ module _ (rules : FrontRules) (late : Bool) (notes : Notes) (e : Engine) (s : St
   -- that of its queue, where the depths are an engine's
   depth_is : (c : Controller) → calls.depths_of c ≡ calls.depths_of e.controller → calls.depth_of c qid ≡ queue_depth
   depth_is c same =
-      let few = s.stands.numbers.few_sqs qid m.queue.region (s.stands.holds.lives.sqs qid m.queue m.is_open) in
+      let few = s.stands.numbers.sqs.few qid m.queue.region (s.stands.holds.lives.sqs qid m.queue m.is_open) in
       ap (λ (ds : List ℕ). get_or ds qid 0) (same ∙ s.depths) ∙ get_or-replicate MAX_REGIONS qid queue_depth 0 few
 
   -- a slot of the pool is free
@@ -173,7 +173,7 @@ module _ (rules : FrontRules) (late : Bool) (notes : Notes) (e : Engine) (s : St
   answers-fetch : AnswersByOutcome rules with_fetch
   answers-fetch r i it answer io there answered = s.answers r i it answer io (before (cases_lt i (length (fetched (logged notes) r)))) answered where
     none : length (fetched (logged notes) r) ≤ i → answer_of notes r i ≡ None
-    none past = s.stands.tags.none_answered r i past
+    none past = s.stands.tags.unanswered.none r i past
 
     before : (i < length (fetched (logged notes) r)) ⊎ (length (fetched (logged notes) r) ≤ i) → entry_at (logged notes) r i ≡ Some it
     before (inr past) = (let no = none past in absurd (cc (no, answered)))

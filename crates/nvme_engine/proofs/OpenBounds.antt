@@ -85,7 +85,7 @@ module _ (rules : FrontRules) (late : Bool) (later : Notes) (c : Controller) (sl
   opened_few (effect.OpenCq qid region) made =
       let is : open_cq (logged later) qid ≡ Some region =
       ap (λ (p : Past). open_cq p qid) made ∙ ap (λ (b : Bool). if b then Some region else open_cq past qid) (eq-eqb qid qid refl) in
-      let few = s.numbers.few_cqs qid region (s.holds.lives.cqs qid ∙ is) in
+      let few = s.numbers.cqs.few qid region (s.holds.lives.cqs qid ∙ is) in
       omega (arith, few)
   opened_few did made = omega arith
 

@@ -100,7 +100,7 @@ module _ (rules : FrontRules) (late : Bool) (notes : Notes) (e : Engine) (s : St
   life_used : (q r : ℕ) → s.stands.content.sq_life q ≡ Some r → IsUsed r
   life_used q r life = record {
     qid = q;
-    few = s.stands.numbers.few_sqs q r life;
+    few = s.stands.numbers.sqs.few q r life;
     named = s.stands.holds.lives.named q r life;
     not_closed = s.stands.holds.lives.not_closed q r life;
   }

@@ -4,6 +4,7 @@ use nvme_admin::MAX_REGIONS;
 
 impl Engine {
     ghost use Rattle.std.specs.Prelude.{◌≡◌, ◌↔◌, ℕ, ◌<◌, ◌≤◌, Bool, Some, None, IsTrue, length, option_map, is_some};
+    ghost use Rattle.nvme_arbiter.specs.Limits.{queue_limit};
     ghost use Rattle.nvme_log.specs.Rules.{FrontRules, sq_regions_of};
     ghost use Rattle.nvme_log.specs.Queues.{Queue, open_sq, open_cq, is_serving, qid_of_region, is_closed_region};
     ghost use Rattle.nvme_log.specs.Places.{waiting};
@@ -25,8 +26,9 @@ impl Engine {
         self.controller.cq_region(cqid)
     }
 
-    /// A bound on the identifiers of the open queues of both kinds: each is below it.
+    /// A bound on the identifiers of the open queues of both kinds: each is below it. It is at most 65.
     pub fn queues(&self) -> u16
+        ensures few { (rules : FrontRules) (late : Bool) (notes : Notes) → StandsAt rules late notes self.now → result ≤ queue_limit }
         ensures sqs { (rules : FrontRules) (late : Bool) (notes : Notes) → StandsAt rules late notes self.now → (q : ℕ) → result ≤ q → open_sq (logged notes) q ≡ None }
         ensures cqs { (rules : FrontRules) (late : Bool) (notes : Notes) → StandsAt rules late notes self.now → (q : ℕ) → result ≤ q → open_cq (logged notes) q ≡ None }
     {

@@ -64,15 +64,15 @@ module _ (rules : FrontRules) (late : Bool) (notes : Notes) (c : Controller) (sl
 
   others_held : (t : ℕ) (at : IsAmongOuts k.items.outs t) → All (Held notes) (at.before ++ at.after)
   others_held t at =
-      (All-taken (Held notes) at.before at.item at.after (All-same (Held notes) (at.before ++ at.item ∷ at.after) k.items.outs (sym at.are) k.tags.outs_held)).1
+      (All-taken (Held notes) at.before at.item at.after (All-same (Held notes) (at.before ++ at.item ∷ at.after) k.items.outs (sym at.are) k.tags.held.outs)).1
 
   apart_places : (t u : ℕ) (p q : Place) → holder notes t ≡ Some p → is_out notes t ≡ true → holder notes u ≡ Some q → is_out notes u ≡ true → u ≢ t
       → same_place p q ≡ false
   apart_places t u p q held out u_held u_out differ =
-      let at : IsAmongOuts k.items.outs t = k.has.outs_all t (is_two rules late notes c slots k t p held out) in
-      let by : IsAmongOuts k.items.outs u = k.has.outs_all u (is_two rules late notes c slots k u q u_held u_out) in
+      let at : IsAmongOuts k.items.outs t = k.has.outs.all t (is_two rules late notes c slots k t p held out) in
+      let by : IsAmongOuts k.items.outs u = k.has.outs.all u (is_two rules late notes c slots k u q u_held u_out) in
       let left : IsAmongOuts (at.before ++ at.after) u = left_among k.items.outs t u differ at by in
-      let p_is : p ≡ at.item.place = place_is notes k.items.outs k.tags.outs_held t p held at in
+      let p_is : p ≡ at.item.place = place_is notes k.items.outs k.tags.held.outs t p held at in
       let q_is : q ≡ left.item.place = place_is notes (at.before ++ at.after) (others_held t at) u q u_held left in
       (λ i. same_place (p_is i) (q_is i)) ∙ apart_is notes (at.before ++ at.after) at.item.place.region at.item.place.index (others_apart t at) u left
 

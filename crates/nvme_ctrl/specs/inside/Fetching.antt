@@ -1,8 +1,5 @@
 -- When a controller may fetch from a queue, by what it keeps in memory (profile).
-use Rattle.std.specs.Prelude.{◌≡◌, ◌≢◌, ℕ, ◌+◌, ◌-◌, ◌<◌, false, Some}
-use Rattle.nvme_placing.specs.Telling.{content_of}
-use Rattle.nvme_admin.specs.Standing.{sq_of}
-use Rattle.nvme_admin.specs.declared.verdict.SqEntry.{SqEntry}
+use Rattle.std.specs.Prelude.{◌≡◌, ◌≢◌, ℕ, ◌+◌, ◌-◌, ◌<◌}
 use Rattle.nvme_log.specs.Limits.{window_of}
 use Rattle.nvme_ctrl.specs.Calls.{depth_of}
 use Rattle.nvme_ctrl_log.specs.Doorbells.{gap}
@@ -18,10 +15,9 @@ filled ring = gap ring.slots ring.head ring.tail
 abbrev pub waiting_in : Controller → ℕ → ℕ
 waiting_in c q = (sq_at c.sqs q).window.len - picked_in c q
 
--- the queue is open, a slot is free, the host submitted more, fewer of its commands hold a slot than its depth, and it has room for one that waits
-pub record IsFetchable (c : Controller) (qid : ℕ) (e : SqEntry) : Type 0 where
-  pub in_table : sq_of (content_of c.table) qid ≡ Some e
-  pub not_closing : e.closing ≡ false
+-- the queue isn't closing, a slot is free, the host submitted more, fewer of its commands hold a slot than its depth, and it has room for one that waits
+pub record IsFetchable (c : Controller) (qid : ℕ) : Type 0 where
+  pub not_closing : (sq_at c.sqs qid).closing ≡ 0
   pub some_free : c.free.len ≢ 0
   pub some_submitted : filled (sq_at c.sqs qid).ring ≢ 0
   pub in_depth : waiting_in c qid + (sq_at c.sqs qid).unposted < depth_of c qid

@@ -1,13 +1,18 @@
 -- When a controller keeps some content, and stands at its log (profile).
-use Rattle.std.specs.Prelude.{◌≡◌, ◌≢◌, ℕ, ◌+◌, ◌<◌, ◌≤◌, ◌^◌, ◌==◌, ◌&&◌, ◌⊎◌, Bool, true, false, if◌then◌else◌, List, [], ◌∷◌, ◌++◌, length, map, take, drop, Option, Some, None, option_map, unwrap_or, IsTrue}
+use Rattle.std.specs.Prelude.{◌≡◌, ◌≢◌, ℕ, ◌+◌, ◌<◌, ◌≤◌, ◌^◌, ◌==◌, ◌&&◌, ◌⊎◌, Bool, true, false, if◌then◌else◌, List, [], ◌∷◌, ◌++◌, length, map, take, drop, Option, Some, None, is_some, option_map, unwrap_or, IsTrue}
 use Rattle.std.specs.List.{All}
 use Rattle.nvme_entry.specs.declared.submission.Sqe.{Sqe}
+use Rattle.nvme_entry.specs.declared.completion.Cqe.{Cqe}
+use Rattle.nvme_arbiter.specs.Board.{BoardView}
 use Rattle.nvme_arbiter.specs.Layout.{is_arbiter, board_of}
+use Rattle.nvme_arbiter.specs.Queues.{queue_at}
 use Rattle.nvme_placing.specs.Telling.{Tells}
+use Rattle.nvme_admin.specs.QueueTable.{QueueTable}
 use Rattle.nvme_admin.specs.declared.verdict.SqEntry.{SqEntry}
 use Rattle.nvme_log.specs.Rules.{FrontRules, Past}
 use Rattle.nvme_log.specs.Places.{fetched, is_aborted, entry_at, fate_of, is_waiting}
 use Rattle.nvme_log.specs.Completions.{posted_to, phase_after}
+use Rattle.nvme_log.specs.Answers.{Answer}
 use Rattle.nvme_log.specs.Dispatches.{place_at}
 use Rattle.nvme_log.specs.declared.place.Place.{Place}
 use Rattle.nvme_ctrl_log.specs.Notes.{Notes, logged}
@@ -18,14 +23,16 @@ use Rattle.nvme_ctrl_log.specs.Tags.{is_passed, is_of_device, handed, taken, hol
 use Rattle.nvme_ctrl_log.specs.Account.{IsAccount}
 use Rattle.nvme_ctrl_log.specs.declared.status_flags.StatusFlags.{StatusFlags}
 use Rattle.nvme_slots.specs.declared.slot.Slot.{Slot}
+use Rattle.nvme_slots.specs.declared.chain.Chain.{Chain}
 use Rattle.nvme_ctrl.specs.declared.state.Controller.{Controller}
-use Rattle.nvme_ctrl.specs.declared.state.Deletion.{Deletion}
-use Rattle.nvme_ctrl_content.specs.Content.{Candidate, Ready, PendingDelete, Content}
+use Rattle.nvme_ctrl.specs.declared.state.SqState.{SqState}
+use Rattle.nvme_ctrl.specs.declared.state.CqState.{CqState}
+use Rattle.nvme_ctrl_content.specs.Content.{Candidate, Ready, PendingDelete, Attachment, SqContent, CqContent, Content}
 use Rattle.nvme_ctrl_content.specs.Standing.{Holds, answer_in}
 use Rattle.nvme_ctrl_log.specs.Regions.{is_opened_cq}
 use Rattle.nvme_slots.specs.Pool.{slot_at, flags_in, IsChain, AreApart}
 use Rattle.nvme_ctrl.specs.kept.QueueSets.{HoldsRung, HoldsReadied}
-use Rattle.nvme_ctrl.specs.kept.State.{no_sq_state, no_cq_state, sq_at, cq_at, deletion_at, pending_tag, count_pending, picked_in}
+use Rattle.nvme_ctrl.specs.kept.State.{no_sq_state, no_cq_state, sq_at, cq_at, delete_tag, count_closing}
 use Rattle.nvme_ctrl_content.specs.Shown.{HoldsShown, HasRegionsMade}
 
 -- ---- commands in slots
@@ -116,17 +123,23 @@ pub record IsAmongOuts (items : List Item) (x : ℕ) : Type 0 where
   pub tag : item.tag ≡ x
 
 -- the region of the queue whose commands are picked and not taken
+abbrev pub region_picked : (picked_qid : ℕ) → (ℕ → Option ℕ) → ℕ
+region_picked picked_qid lives = unwrap_or (lives picked_qid) 0
+
 abbrev pub picked_region : Controller → Content → ℕ
-picked_region c k = unwrap_or (k.sq_life c.picked_qid) 0
+picked_region c k = region_picked c.picked_qid k.sq_life
 
 -- the picked commands that the device hasn't taken
 abbrev pub untaken : Controller → Content → Items → List Item
 untaken c k g = take c.picked (g.windows (picked_region c k))
 
 -- how many commands of a region are picked and not taken, by the identifier of its queue
+abbrev pub picked_by : (picked picked_qid : ℕ) → Option ℕ → ℕ
+picked_by picked picked_qid None = 0
+picked_by picked picked_qid (Some q) = if q == picked_qid then picked else 0
+
 abbrev pub picked_of : Controller → Option ℕ → ℕ
-picked_of c None = 0
-picked_of c (Some q) = picked_in c q
+picked_of c o = picked_by c.picked c.picked_qid o
 
 -- another Delete in the place of that of a region
 abbrev pub put_delete : (ℕ → Option DeleteItem) → ℕ → Option DeleteItem → ℕ → Option DeleteItem
@@ -148,14 +161,13 @@ delete_of deletes None = None
 delete_of deletes (Some r) = deletes r
 
 -- these are the pending deletions, by queue, and the slots of their Deletes
-pub record HasDeletions (deletions : List Deletion) (deleting : ℕ) (slots : List Slot) (lives : ℕ → Option ℕ) (kept : ℕ → Option PendingDelete) (deletes : ℕ → Option DeleteItem) : Type 0 where
+pub record HasDeletions (states : List SqState) (deleting : ℕ) (slots : List Slot) (lives : ℕ → Option ℕ) (kept : ℕ → Option PendingDelete) (deletes : ℕ → Option DeleteItem) : Type 0 where
   pub are : (r : ℕ) → kept r ≡ option_map (deletion_in slots r) (deletes r)
-  pub tags : (q : ℕ) → pending_tag (deletion_at deletions q) ≡ option_map (λ (it : DeleteItem). it.tag) (delete_of deletes (lives q))
+  pub tags : (q : ℕ) → delete_tag (sq_at states q) ≡ option_map (λ (it : DeleteItem). it.tag) (delete_of deletes (lives q))
   pub queues : (r : ℕ) (it : DeleteItem) → deletes r ≡ Some it → lives it.qid ≡ Some r
   pub items : (r : ℕ) (it : DeleteItem) → deletes r ≡ Some it → IsDeletingIn slots it
   pub apart : (r x : ℕ) (it other : DeleteItem) → deletes r ≡ Some it → deletes x ≡ Some other → it.tag ≡ other.tag → r ≡ x
-  pub counted : deleting ≡ count_pending deletions
-  pub size : length deletions ≡ 65
+  pub counted : deleting ≡ count_closing states
 
 -- ---- what is kept
 -- regions by identifier, and identifiers by region, tell one another
@@ -165,24 +177,55 @@ pub record AreIds (lives ids : ℕ → Option ℕ) : Type 0 where
   -- the admin queue is that of region 0
   pub admin : lives 0 ≡ Some 0
 
+-- arbitration is shown a queue: it is on the board
+abbrev pub shown_in : BoardView → ℕ → Bool
+shown_in board q = is_some (queue_at board.queues q)
+
 -- the state of a submission queue on a region is that of its content. It is in the table, and attached to the open completion queue of an identifier
-pub record IsSqOf (c : Controller) (k : Content) (q r : ℕ) : Type 0 where
+pub record IsSq (table : QueueTable) (lives : ℕ → Option ℕ) (q r : ℕ) (state : SqState) (s : SqContent) (on_hold is_shown : Bool) : Type 0 where
   pub entry : SqEntry
-  pub in_table : k.table.sq q ≡ Some entry
+  pub in_table : table.sq q ≡ Some entry
   pub on : entry.region ≡ r
-  pub to : entry.cqid ≡ (sq_at c.sqs q).cqid
+  pub to : entry.cqid ≡ state.cqid
   pub cq_region : ℕ
-  pub cq_open : k.cq_life (sq_at c.sqs q).cqid ≡ Some cq_region
-  pub opened : (k.sq r).queue ≡ Some (record { qid = q; cq_region = cq_region })
-  pub held : ((sq_at c.sqs q).held == 1) ≡ k.held r
-  pub unposted : (sq_at c.sqs q).unposted ≡ (k.sq r).unposted
-  pub slots : (sq_at c.sqs q).ring.slots ≡ (k.sq r).slots
-  pub some : 0 < (k.sq r).slots
+  pub cq_open : lives state.cqid ≡ Some cq_region
+  pub opened : s.queue ≡ Some (record { qid = q; cq_region = cq_region })
+  pub held : (state.held == 1) ≡ on_hold
+  -- arbitration is shown a queue until it is closing
+  pub shown : (state.closing == 0) ≡ is_shown
+  pub unposted : state.unposted ≡ s.unposted
+  pub slots : state.ring.slots ≡ s.slots
+  pub some : 0 < s.slots
+
+abbrev pub IsSqOf : Controller → Content → (q r : ℕ) → Type 0
+IsSqOf c k q r = IsSq k.table k.cq_life q r (sq_at c.sqs q) (k.sq r) (k.held r) (shown_in k.board q)
 
 -- so that of a completion queue
-pub record IsCqOf (c : Controller) (k : Content) (q x : ℕ) : Type 0 where
-  pub slots : (cq_at c.cqs q).ring.slots ≡ (k.cq x).slots
-  pub some : 0 < (k.cq x).slots
+pub record IsCq (state : CqState) (s : CqContent) : Type 0 where
+  pub slots : state.ring.slots ≡ s.slots
+  pub some : 0 < s.slots
+
+abbrev pub IsCqOf : Controller → Content → (q x : ℕ) → Type 0
+IsCqOf c k q x = IsCq (cq_at c.cqs q) (k.cq x)
+
+-- the states of submission queues are those of some content. There is a place for each queue, and nothing of any other. No queue outside the set of those
+-- that may have something to fetch has it
+pub record AreSqs (states : List SqState) (set : ℕ) (table : QueueTable) (cq_lives lives regions : ℕ → Option ℕ) (content : ℕ → SqContent) (on_hold is_shown : ℕ → Bool) : Type 0 where
+  pub ids : AreIds lives regions
+  pub each : (q r : ℕ) → lives q ≡ Some r → IsSq table cq_lives q r (sq_at states q) (content r) (on_hold r) (is_shown q)
+  pub few : (q r : ℕ) → lives q ≡ Some r → q < 65
+  pub none : (q : ℕ) → lives q ≡ None → sq_at states q ≡ no_sq_state
+  pub size : length states ≡ 65
+  pub rung : HoldsRung set states
+
+-- so those of completion queues, and the set of those that may have something to post
+pub record AreCqs (states : List CqState) (set : ℕ) (lives regions : ℕ → Option ℕ) (content : ℕ → CqContent) : Type 0 where
+  pub ids : AreIds lives regions
+  pub each : (q x : ℕ) → lives q ≡ Some x → IsCq (cq_at states q) (content x)
+  pub few : (q x : ℕ) → lives q ≡ Some x → q < 65
+  pub none : (q : ℕ) → lives q ≡ None → cq_at states q ≡ no_cq_state
+  pub size : length states ≡ 65
+  pub readied : HoldsReadied set states
 
 -- the numbers of a controller are those of some content
 pub record HasNumbers (c : Controller) (k : Content) : Type 0 where
@@ -190,56 +233,62 @@ pub record HasNumbers (c : Controller) (k : Content) : Type 0 where
   pub board_is : board_of c.board ≡ k.board
   pub is_arbiter : IsTrue (is_arbiter c.board.arbiter)
   pub outstanding_is : c.outstanding ≡ k.outstanding
-  pub sq_ids : AreIds k.sq_life k.sq_id
-  pub cq_ids : AreIds k.cq_life k.cq_id
-  pub sqs : (q r : ℕ) → k.sq_life q ≡ Some r → IsSqOf c k q r
-  pub cqs : (q x : ℕ) → k.cq_life q ≡ Some x → IsCqOf c k q x
-  -- there is a place for each of them, and nothing of any other
-  pub few_sqs : (q r : ℕ) → k.sq_life q ≡ Some r → q < 65
-  pub few_cqs : (q x : ℕ) → k.cq_life q ≡ Some x → q < 65
-  pub no_sqs : (q : ℕ) → k.sq_life q ≡ None → sq_at c.sqs q ≡ no_sq_state
-  pub no_cqs : (q : ℕ) → k.cq_life q ≡ None → cq_at c.cqs q ≡ no_cq_state
-  pub sq_size : length c.sqs ≡ 65
-  pub cq_size : length c.cqs ≡ 65
-  -- no queue outside the sets of those that may have work has any
-  pub rung : HoldsRung c.rung c.sqs
-  pub readied : HoldsReadied c.readied c.cqs
+  pub sqs : AreSqs c.sqs c.rung k.table k.cq_life k.sq_life k.sq_id k.sq k.held (shown_in k.board)
+  pub cqs : AreCqs c.cqs c.readied k.cq_life k.cq_id k.cq
+
+-- the slots have the commands that wait
+pub record AreWaiting (states : List SqState) (picked picked_qid : ℕ) (slots : List Slot) (lives regions : ℕ → Option ℕ) (waiting : ℕ → List Candidate) (windows : ℕ → List Item) : Type 0 where
+  pub chain : (q r : ℕ) → lives q ≡ Some r → IsChain slots (sq_at states q).window (tags_of (windows r))
+  pub items : (q r : ℕ) → lives q ≡ Some r → All (IsWaitingIn slots q r) (windows r)
+  pub none : (r : ℕ) → regions r ≡ None → windows r ≡ []
+  pub are : (r : ℕ) → waiting r ≡ map candidate_of (drop (picked_by picked picked_qid (regions r)) (windows r))
+  pub picked_there : picked ≤ length (windows (region_picked picked_qid lives))
+
+-- those that the device has, or is to take
+pub record AreOuts (slots : List Slot) (regions : ℕ → Option ℕ) (hand : List Place) (outs left : List Item) : Type 0 where
+  pub items : All (IsOutIn regions slots) outs
+  pub apart : AreApart (tags_of outs)
+  pub all : (x : ℕ) → (slot_at slots x).state ≡ 2 → IsAmongOuts outs x
+  pub hand_is : hand ≡ places_of (outs ++ left)
+
+-- those that are ready
+pub record AreReadies (states : List CqState) (slots : List Slot) (lives regions sq_regions : ℕ → Option ℕ) (ready : ℕ → List Ready) (readies : ℕ → List ReadyItem) : Type 0 where
+  pub chain : (q x : ℕ) → lives q ≡ Some x → IsChain slots (cq_at states q).ready (ready_tags (readies x))
+  pub items : (x : ℕ) → All (IsReadyIn sq_regions slots) (readies x)
+  pub none : (x : ℕ) → regions x ≡ None → readies x ≡ []
+  pub are : (x : ℕ) → ready x ≡ readies_of (readies x)
+
+-- and these are free
+pub record AreFree (chain_of : Chain) (slots : List Slot) (free : List ℕ) : Type 0 where
+  pub chain : IsChain slots chain_of free
+  pub items : All (is_free slots) free
 
 -- the slots have its commands
 pub record HasItems (c : Controller) (slots : List Slot) (k : Content) (g : Items) : Type 0 where
-  -- those that wait
-  pub window_chain : (q r : ℕ) → k.sq_life q ≡ Some r → IsChain slots (sq_at c.sqs q).window (tags_of (g.windows r))
-  pub window_items : (q r : ℕ) → k.sq_life q ≡ Some r → All (IsWaitingIn slots q r) (g.windows r)
-  pub window_none : (r : ℕ) → k.sq_id r ≡ None → g.windows r ≡ []
-  pub window_is : (r : ℕ) → (k.sq r).window ≡ map candidate_of (drop (picked_of c (k.sq_id r)) (g.windows r))
-  pub picked_there : c.picked ≤ length (g.windows (picked_region c k))
-  -- those that the device has
-  pub outs_items : All (IsOutIn k.sq_id slots) g.outs
-  pub outs_apart : AreApart (tags_of g.outs)
-  pub outs_all : (x : ℕ) → (slot_at slots x).state ≡ 2 → IsAmongOuts g.outs x
-  pub hand_is : k.hand ≡ places_of (g.outs ++ untaken c k g)
-  -- those that are ready
-  pub ready_chain : (q x : ℕ) → k.cq_life q ≡ Some x → IsChain slots (cq_at c.cqs q).ready (ready_tags (g.readies x))
-  pub ready_items : (x : ℕ) → All (IsReadyIn k.sq_id slots) (g.readies x)
-  pub ready_none : (x : ℕ) → k.cq_id x ≡ None → g.readies x ≡ []
-  pub ready_is : (x : ℕ) → (k.cq x).ready ≡ readies_of (g.readies x)
+  pub windows : AreWaiting c.sqs c.picked c.picked_qid slots k.sq_life k.sq_id (λ (r : ℕ). (k.sq r).window) g.windows
+  pub outs : AreOuts slots k.sq_id k.hand g.outs (untaken c k g)
+  pub readies : AreReadies c.cqs slots k.cq_life k.cq_id k.sq_id (λ (x : ℕ). (k.cq x).ready) g.readies
   -- the Deletes whose deletions are pending
-  pub deletions : HasDeletions c.deletions c.pending_deletions slots k.sq_life k.deletion g.deletes
-  -- the free slots
-  pub free_chain : IsChain slots c.free g.free
-  pub free_items : All (is_free slots) g.free
+  pub deletions : HasDeletions c.sqs c.pending_deletions slots k.sq_life k.deletion g.deletes
+  pub free : AreFree c.free slots g.free
   pub few : length slots < 2 ^ 16
 
 -- ---- its log
--- the rings and the phase tags go by the doorbells and the posts
+-- the rings of submission queues go by the doorbells and the fetches. Nothing is noted of a region that no queue was opened on
+pub record AreSqRings (states : List SqState) (lives : ℕ → Option ℕ) (queues : ℕ → Option Attachment) (got : ℕ → List Sqe) (sent : ℕ → ℕ) : Type 0 where
+  pub each : (q r : ℕ) → lives q ≡ Some r → HasCounts (sq_at states q).ring (length (got r)) (sent r)
+  pub no_tails : (r : ℕ) → queues r ≡ None → sent r ≡ 0
+
+-- and those of completion queues, with the phase tags, by the doorbells and the posts
+pub record AreCqRings (states : List CqState) (lives : ℕ → Option ℕ) (is_opened : ℕ → Bool) (seen : ℕ → ℕ) (done : ℕ → List Cqe) : Type 0 where
+  pub each : (q x : ℕ) → lives q ≡ Some x → HasCounts (cq_at states q).ring (seen x) (length (done x))
+  pub phases : (q x : ℕ) → lives q ≡ Some x → ((cq_at states q).phase == 1) ≡ phase_after (length (done x)) (cq_at states q).ring.slots
+  pub no_heads : (x : ℕ) → is_opened x ≡ false → seen x ≡ 0
+  pub no_posts : (x : ℕ) → is_opened x ≡ false → done x ≡ []
+
 pub record HoldsDoorbells (rules : FrontRules) (notes : Notes) (c : Controller) (k : Content) : Type 0 where
-  pub sqs : (q r : ℕ) → k.sq_life q ≡ Some r → HasCounts (sq_at c.sqs q).ring (length (fetched (logged notes) r)) (submitted rules notes r)
-  pub cqs : (q x : ℕ) → k.cq_life q ≡ Some x → HasCounts (cq_at c.cqs q).ring (consumed rules notes x) (length (posted_to (logged notes) x))
-  pub phases : (q x : ℕ) → k.cq_life q ≡ Some x → ((cq_at c.cqs q).phase == 1) ≡ phase_after (length (posted_to (logged notes) x)) (cq_at c.cqs q).ring.slots
-  -- nothing is noted of a region that no queue was opened on
-  pub no_tails : (r : ℕ) → (k.sq r).queue ≡ None → submitted rules notes r ≡ 0
-  pub no_heads : (x : ℕ) → is_opened_cq (logged notes) x ≡ false → consumed rules notes x ≡ 0
-  pub no_posts : (x : ℕ) → is_opened_cq (logged notes) x ≡ false → posted_to (logged notes) x ≡ []
+  pub sqs : AreSqRings c.sqs k.sq_life (λ (r : ℕ). (k.sq r).queue) (fetched (logged notes)) (submitted rules notes)
+  pub cqs : AreCqRings c.cqs k.cq_life (is_opened_cq (logged notes)) (consumed rules notes) (posted_to (logged notes))
 
 -- a ready completion is through: its command was aborted, or answered so
 abbrev pub IsThrough : Notes → Ready → Type 0
@@ -296,28 +345,41 @@ IsUnflagged notes p = flags_of notes p.region p.index ≡ None
 abbrev pub HasFlags : Notes → ReadyItem → Type 0
 HasFlags notes y = y.flags ≡ flags_or y.ready.status (flags_of notes y.ready.place.region y.ready.place.index)
 
--- the tags, the answers, the cookies and the flags are those of the log
-pub record HoldsTags (notes : Notes) (c : Controller) (slots : List Slot) (k : Content) (g : Items) : Type 0 where
-  pub untaken_are : handed notes ≡ taken notes ++ places_of (untaken c k g)
-  pub outs_held : All (λ (it : Item). holder notes it.tag ≡ Some it.place) g.outs
-  pub readies_held : (x : ℕ) → All (λ (y : ReadyItem). y.was_out ≡ true → holder notes y.tag ≡ Some y.ready.place) (g.readies x)
-  pub none_held : (t : ℕ) → (slot_at slots t).state ≢ 2 → (slot_at slots t).state ≢ 3 → holder notes t ≡ None
+-- the tags that are held are those of the commands that the device had, and an answered one isn't out
+pub record AreHeld (holders : ℕ → Option Place) (outs_by : ℕ → Bool) (slots : List Slot) (outs_of : List Item) (ready : ℕ → List ReadyItem) : Type 0 where
+  pub outs : All (λ (it : Item). holders it.tag ≡ Some it.place) outs_of
+  pub readies : (x : ℕ) → All (λ (y : ReadyItem). y.was_out ≡ true → holders y.tag ≡ Some y.ready.place) (ready x)
+  pub none : (t : ℕ) → (slot_at slots t).state ≢ 2 → (slot_at slots t).state ≢ 3 → holders t ≡ None
+  pub answered : (t : ℕ) → (slot_at slots t).state ≡ 3 → outs_by t ≡ false
+
+-- nothing is answered that waits, that the device has or whose deletion is pending, nor what wasn't fetched
+pub record AreUnanswered (answers : ℕ → ℕ → Option Answer) (got : ℕ → List Sqe) (waiting : ℕ → List Item) (outs_of : List Item) (deleting : ℕ → Option DeleteItem) : Type 0 where
+  pub windows : (r : ℕ) → All (λ (it : Item). answers it.place.region it.place.index ≡ None) (waiting r)
+  pub outs : All (λ (it : Item). answers it.place.region it.place.index ≡ None) outs_of
+  pub deletes : (r : ℕ) (it : DeleteItem) → deleting r ≡ Some it → answers 0 it.index ≡ None
+  pub none : (r i : ℕ) → length (got r) ≤ i → answers r i ≡ None
+
+-- what isn't answered isn't flagged, and what is ready has its flags
+pub record AreFlagged (answers : ℕ → ℕ → Option Answer) (flags_at : ℕ → ℕ → Option StatusFlags) (ready : ℕ → List ReadyItem) : Type 0 where
+  pub none : (r i : ℕ) → answers r i ≡ None → flags_at r i ≡ None
+  pub readies : (x : ℕ) → All (λ (y : ReadyItem). y.flags ≡ flags_or y.ready.status (flags_at y.ready.place.region y.ready.place.index)) (ready x)
+
+-- the tags, the answers, the cookies and the flags are those of the log, where these commands are picked and not taken, and this many slots are free
+pub record AreTags (notes : Notes) (slots : List Slot) (g : Items) (left : List Item) (free : ℕ) : Type 0 where
+  pub untaken_are : handed notes ≡ taken notes ++ places_of left
+  pub held : AreHeld (holder notes) (is_out notes) slots g.outs g.readies
   pub through : (x : ℕ) → All (λ (y : ReadyItem). IsThrough notes y.ready) (g.readies x)
-  pub windows_unanswered : (r : ℕ) → All (λ (it : Item). IsUnanswered notes it.place) (g.windows r)
-  pub outs_unanswered : All (λ (it : Item). IsUnanswered notes it.place) g.outs
-  pub deletes_unanswered : (r : ℕ) (it : DeleteItem) → g.deletes r ≡ Some it → IsUnanswered notes (place_at 0 it.index)
-  pub none_answered : (r i : ℕ) → length (fetched (logged notes) r) ≤ i → answer_of notes r i ≡ None
-  -- a slot whose command was answered isn't out
-  pub answered_held : (t : ℕ) → (slot_at slots t).state ≡ 3 → is_out notes t ≡ false
+  pub unanswered : AreUnanswered (answer_of notes) (fetched (logged notes)) g.windows g.outs g.deletes
   -- what is picked and unanswered has the entry of its place
-  pub hand_entries : All (HasEntry (logged notes)) (g.outs ++ untaken c k g)
+  pub hand_entries : All (HasEntry (logged notes)) (g.outs ++ left)
   -- each slot that isn't free has a command that was fetched and whose completion isn't posted
-  pub free_count : c.free.len + all_fetches (logged notes) ≡ length slots + all_posts (logged notes)
+  pub free_count : free + all_fetches (logged notes) ≡ length slots + all_posts (logged notes)
   pub cookies : HoldsCookies notes slots g
   pub passed : HoldsPassed notes g
-  -- what isn't answered isn't flagged
-  pub none_flagged : (r i : ℕ) → answer_of notes r i ≡ None → flags_of notes r i ≡ None
-  pub flags : (x : ℕ) → All (HasFlags notes) (g.readies x)
+  pub flagged : AreFlagged (answer_of notes) (flags_of notes) g.readies
+
+abbrev pub HoldsTags : Notes → Controller → List Slot → Content → Items → Type 0
+HoldsTags notes c slots k g = AreTags notes slots g (untaken c k g) c.free.len
 
 -- a controller stands at its log. The log is accounted where no region was added late
 pub record StandsAt (rules : FrontRules) (late : Bool) (notes : Notes) (c : Controller) (slots : List Slot) : Type 0 where

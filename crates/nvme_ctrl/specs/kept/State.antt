@@ -5,7 +5,6 @@ use Rattle.nvme_slots.specs.declared.ring.Ring.{Ring}
 use Rattle.nvme_slots.specs.declared.chain.Chain.{Chain}
 use Rattle.nvme_ctrl.specs.declared.state.SqState.{SqState}
 use Rattle.nvme_ctrl.specs.declared.state.CqState.{CqState}
-use Rattle.nvme_ctrl.specs.declared.state.Deletion.{Deletion}
 use Rattle.nvme_ctrl.specs.declared.state.Controller.{Controller}
 
 abbrev pub no_ring : Ring
@@ -15,13 +14,10 @@ abbrev pub no_chain : Chain
 no_chain = record { first = 0; last = 0; len = 0 }
 
 abbrev pub no_sq_state : SqState
-no_sq_state = record { ring = no_ring; window = no_chain; unposted = 0; cqid = 0; held = 0 }
+no_sq_state = record { ring = no_ring; window = no_chain; unposted = 0; cqid = 0; tag = 0; held = 0; closing = 0 }
 
 abbrev pub no_cq_state : CqState
 no_cq_state = record { ring = no_ring; ready = no_chain; phase = 1 }
-
-abbrev pub no_deletion : Deletion
-no_deletion = record { pending = 0; tag = 0 }
 
 -- the state of the queue of an identifier; beyond the last one, that of none
 abbrev pub sq_at : List SqState → ℕ → SqState
@@ -30,20 +26,17 @@ sq_at sqs q = get_or sqs q no_sq_state
 abbrev pub cq_at : List CqState → ℕ → CqState
 cq_at cqs q = get_or cqs q no_cq_state
 
-abbrev pub deletion_at : List Deletion → ℕ → Deletion
-deletion_at deletions q = get_or deletions q no_deletion
+-- the slot of the Delete of a queue, where it is closing
+abbrev pub delete_tag : SqState → Option ℕ
+delete_tag state = if state.closing == 0 then None else Some state.tag
 
--- the slot of a deletion's command, where it is pending
-abbrev pub pending_tag : Deletion → Option ℕ
-pending_tag d = if d.pending == 0 then None else Some d.tag
+-- how many queues are closing
+abbrev pub count_closing : List SqState → ℕ
+count_closing sqs = sum_by (λ (state : SqState). one_if (not (state.closing == 0))) sqs
 
--- how many deletions are pending
-abbrev pub count_pending : List Deletion → ℕ
-count_pending deletions = sum_by (λ (d : Deletion). one_if (not (d.pending == 0))) deletions
-
--- the deletion of a queue is pending, and all its completions are posted
+-- a queue is closing, and all its completions are posted
 pub record IsFinishable (c : Controller) (q : ℕ) : Type 0 where
-  pub pending : (deletion_at c.deletions q).pending ≢ 0
+  pub closing : (sq_at c.sqs q).closing ≢ 0
   pub posted : (sq_at c.sqs q).unposted ≡ 0
 
 -- how many commands of a queue are picked and not taken

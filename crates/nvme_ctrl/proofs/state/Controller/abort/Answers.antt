@@ -9,9 +9,15 @@ use Rattle.nvme_placing.specs.Telling.{unplaced}
 use Rattle.nvme_admin.specs.declared.verdict.SqEntry.{SqEntry}
 use Rattle.nvme_ctrl.specs.declared.state.Controller.{Controller}
 use Rattle.nvme_ctrl.specs.kept.Kept.{tags_of}
+use Rattle.nvme_ctrl_log.proofs.ToldQueues.{told_none}
 use Rattle.nvme_ctrl.proofs.Aborting.{told_queue, none_left, chain_there, went_some, WentBoard, requested_one, few_unposted_more, few_outstanding_more}
 use Rattle.nvme_slots.proofs.Generations.{left_both, items_left}
 use Rattle.nvme_ctrl.proofs.state.Controller.abort.Goals as goal
+
+pub returns-in_default-clause-none_named : goal.returns-in_default-clause-none_named
+returns-in_default-clause-none_named c = λ rules notes k g _ h none may entry io is not_closing.
+    let gone = told_none c.sq.result (k.table.sq c.args.sqid) (c.sq.ensures.told k.table h.numbers.tells) c.in_default.is in
+    absurd (cc (gone, is))
 
 pub returns-in_default-take_named-clause-none_named : goal.returns-in_default-take_named-clause-none_named
 returns-in_default-take_named-clause-none_named c = λ rules notes k g _ h none may entry io is not_closing.

@@ -12,8 +12,8 @@ use Rattle.nvme_ctrl.proofs.state.Controller.begin_delete.Goals as goal
 
 pub returns : goal.returns
 returns c = record {
-  own = ap (λ (z : Controller). z.own) c.put_deletion.ensures ∙ ap (λ (z : Controller). z.own) c.drop_window.ensures.left ∙ ap (λ (z : Controller). z.own) c.put_sq.ensures;
-  depths = ap (λ (z : Controller). z.depths) c.put_deletion.ensures ∙ ap (λ (z : Controller). z.depths) c.drop_window.ensures.left ∙ ap (λ (z : Controller). z.depths) c.put_sq.ensures;
+  own = ap (λ (z : Controller). z.own) c.put_closing.ensures ∙ ap (λ (z : Controller). z.own) c.drop_window.ensures.left ∙ ap (λ (z : Controller). z.own) c.put_sq.ensures;
+  depths = ap (λ (z : Controller). z.depths) c.put_closing.ensures ∙ ap (λ (z : Controller). z.depths) c.drop_window.ensures.left ∙ ap (λ (z : Controller). z.depths) c.put_sq.ensures;
   size = ap (λ (s : List Slot). length s) c.put_state.ensures ∙ length-put_item c.drop_window.new.slots c.args.tag (record (slot_at c.drop_window.new.slots c.args.tag) { state = 6 }) ∙ c.drop_window.ensures.size;
   generations = left_both c.args.slots.now c.drop_window.new.slots c.put_state.new.slots c.drop_window.ensures.generations
       (put_left c.drop_window.new.slots c.put_state.new.slots c.args.tag _ c.put_state.ensures refl);
@@ -27,6 +27,6 @@ returns c = record {
       (c.drop_window.ensures.dropped rules notes _ g region to c.args.tag counted (ap (λ (x : Controller). x.picked) c.put_sq.ensures ∙ none) may loose)
       (c.hide.ensures.closed (subst (λ (x : Controller). IsSome (queue_at (board_of x.board).queues c.args.qid)) (sym c.drop_window.ensures.left)
       (subst (λ (x : Controller). IsSome (queue_at (board_of x.board).queues c.args.qid)) (sym c.put_sq.ensures) on_board))) c.hide.ensures.arbiter c.put_state.ensures
-      (c.saturating_add-self.ensures ∙ ap (λ (x : Controller). min (x.pending_deletions + 1) 65535) c.put_deletion.ensures)
-      (ap (λ (x : Controller). record x { pending_deletions = c.saturating_add-self.result }) c.put_deletion.ensures);
+      (c.saturating_add-self.ensures ∙ ap (λ (x : Controller). min (x.pending_deletions + 1) 65535) c.put_closing.ensures)
+      (ap (λ (x : Controller). record x { pending_deletions = c.saturating_add-self.result }) c.put_closing.ensures);
 }

@@ -7,7 +7,7 @@ use Rattle.nvme_ctrl.proofs.state.Controller.can_finish.Goals as goal
 pub loop-qid-preserved : goal.loop-qid-preserved
 loop-qid-preserved c =
     below_more (λ (q : ℕ). IsFinishable c.args.self.now q → ⊥) _ c.loop-qid.invariant
-    (λ is. elim (c.is_finishable.ensures.none c.if-is_finishable.false) [ inl idle ↦ is.pending idle | inr more ↦ more is.posted ])
+    (λ is. elim (c.is_finishable.ensures.none c.if-is_finishable.false) [ inl idle ↦ is.closing idle | inr more ↦ more is.posted ])
 
 pub returns-clause-none : goal.returns-clause-none
 returns-clause-none c = λ rules late notes pool s none.
@@ -19,7 +19,7 @@ returns-then-self-eq0-clause-none c = λ rules late notes pool s none. none_fini
 pub returns-then-is_finishable-clause-some : goal.returns-then-is_finishable-clause-some
 returns-then-is_finishable-clause-some c = λ rules late notes pool s.
     finishable_at rules late notes c.args.self.now pool s c.loop-qid.qid
-    (record { pending = c.is_finishable.ensures.pending c.if-is_finishable.true; posted = c.is_finishable.ensures.posted c.if-is_finishable.true })
+    (record { closing = c.is_finishable.ensures.closing c.if-is_finishable.true; posted = c.is_finishable.ensures.posted c.if-is_finishable.true })
 
 pub returns-then-is_finishable-clause-first : goal.returns-then-is_finishable-clause-first
 returns-then-is_finishable-clause-first c = λ rules late notes pool s q below is.

@@ -1,34 +1,18 @@
-use Rattle.std.proofs.Common.{ap, not, List, ◌≡◌, ◌<◌, true, sym, subst, ◌∙◌}
+use Rattle.std.proofs.Common.{ap, arith, List, ◌≡◌, ◌<◌, true, sym, subst, ◌∙◌}
 use Rattle.std.specs.Prelude.{slice_set}
 use Rattle.std.proofs.lemmas.List.{set-get_or}
-use Rattle.nvme_admin.specs.QueueTable.{QueueTable}
-use Rattle.nvme_placing.specs.Telling.{Tells}
 use Rattle.nvme_slots.specs.declared.ring.Ring.{Ring}
 use Rattle.nvme_ctrl.specs.kept.State.{no_cq_state}
-use Rattle.std.proofs.lemmas.Bool.{false≢true}
 use Rattle.nvme_ctrl.specs.Calls.{HeadRung}
 use Rattle.nvme_ctrl.specs.declared.state.Controller.{Controller}
 use Rattle.nvme_ctrl.specs.declared.state.CqState.{CqState}
-use Rattle.nvme_ctrl.proofs.DoorbellCalls.{front_either, head_answer, head_stands, HeadAnswer, HeadCounts, HasSome, has_some, has_none}
+use Rattle.nvme_ctrl.proofs.DoorbellCalls.{front_either, head_told, head_stands, ring_cq_lives, HeadAnswer, HeadCounts}
 use Rattle.nvme_ctrl.proofs.state.Controller.cq_head.Goals as goal
-
-pub returns-then-is_none-clause-answer : goal.returns-then-is_none-clause-answer
-returns-then-is_none-clause-answer c rules late notes slots s = (
-  λ rang. absurd (false≢true rang),
-  λ head. (let opened = head.is_open in
-      let none = s.holds.queues.cqs c.args.cqid ∙ has_none (s.content.table.cq c.args.cqid) (sym (c.cq.ensures.told s.content.table s.numbers.tells) ∙ c.is_none.ensures ∙ ap not c.if-is_none.true) in
-      cc),
-)
-
--- the region of the queue
-open_there : (c : goal.After-put_cq) (t : QueueTable) → Tells c.args.self.now.table t → HasSome (t.cq c.args.cqid)
-open_there c t tells = has_some (t.cq c.args.cqid) (sym (c.cq.ensures.told t tells) ∙ c.is_none.ensures ∙ ap not c.if-is_none.false)
 
 pub returns-clause-answer : goal.returns-clause-answer
 returns-clause-answer c rules late notes slots s =
     let w = c.read_to-rung.ensures in
-    let here = open_there c s.content.table s.numbers.tells in
-    head_answer rules late notes c.args.self.now slots s c.args.cqid c.args.slot here.value here.is c.read_to-rung.result
+    head_told rules late notes c.args.self.now slots s c.args.cqid c.args.slot c.read_to-rung.result
     (subst (λ (state : CqState). HeadAnswer state.ring c.args.slot c.read_to-rung.result) c.cq-cq.ensures w.answer)
     (subst (λ (state : CqState). c.read_to-rung.result ≡ true → c.args.slot < state.ring.slots) c.cq-cq.ensures w.slot)
 
@@ -37,12 +21,12 @@ returns-clause-stands c rules late notes slots s rang =
     let w = c.read_to-rung.ensures in
     let self : Controller = c.args.self.now in
     let new = c.read_to-rung.new.self in
-    let here = open_there c s.content.table s.numbers.tells in
+    let is_slot = subst (λ (state : CqState). c.read_to-rung.result ≡ true → c.args.slot < state.ring.slots) c.cq-cq.ensures w.slot in
+    let l = ring_cq_lives rules late notes self slots s c.args.cqid (let below = is_slot rang in omega (arith, below)) in
     subst (λ (after : Controller). HeadRung rules late notes c.args.cqid c.args.slot after slots) (sym c.put_cq.ensures)
     (subst (λ (state : CqState). HeadRung rules late notes c.args.cqid c.args.slot (record self { cqs = slice_set self.cqs c.args.cqid (record state { ring = new }) }) slots) (sym c.cq-cq.ensures)
-    (head_stands rules late notes self slots s c.args.cqid c.args.slot here.value here.is c.read_to-rung.result
-    (subst (λ (state : CqState). HeadAnswer state.ring c.args.slot c.read_to-rung.result) c.cq-cq.ensures w.answer)
-    (subst (λ (state : CqState). c.read_to-rung.result ≡ true → c.args.slot < state.ring.slots) c.cq-cq.ensures w.slot)
+    (head_stands rules late notes self slots s c.args.cqid c.args.slot l.region (sym (s.holds.queues.cqs c.args.cqid) ∙ sym (s.holds.lives.cqs c.args.cqid) ∙ l.life) c.read_to-rung.result
+    (subst (λ (state : CqState). HeadAnswer state.ring c.args.slot c.read_to-rung.result) c.cq-cq.ensures w.answer) is_slot
     new rang
     (subst (λ (state : CqState). HeadCounts state.ring c.args.slot c.read_to-rung.result new) c.cq-cq.ensures w.counts)
     (subst (λ (state : CqState). new.slots ≡ state.ring.slots) c.cq-cq.ensures w.slots)))

@@ -18,10 +18,10 @@ use Rattle.nvme_ctrl.specs.declared.state.SqState.{SqState}
 use Rattle.nvme_ctrl.specs.declared.state.Controller.{Controller}
 use Rattle.nvme_slots.specs.Pool.{IsNew, IsChain, SameItems, SameLinks}
 use Rattle.nvme_ctrl.specs.kept.State.{sq_at}
-use Rattle.nvme_ctrl.proofs.DoorbellCalls.{has_none}
+use Rattle.std.proofs.lemmas.Bool.{false≢true}
 use Rattle.nvme_ctrl.proofs.FetchCalls.{Fetches, fetched_state, has_fetched, may_come, few_queues, told_fetchable}
 use Rattle.nvme_slots.proofs.Generations.{left_both, put_left, items_left}
-use Rattle.nvme_ctrl.proofs.FetchTold.{is_fetchable, some_popped, MayBeFetched, may_be_fetched}
+use Rattle.nvme_ctrl.proofs.FetchTold.{is_fetchable, some_popped}
 use Rattle.nvme_ctrl.specs.kept.QueueSets.{with_queue}
 use Rattle.nvme_ctrl.proofs.state.Controller.fetched.Goals as goal
 
@@ -32,18 +32,14 @@ returns-in_default-clause-front c front =
 pub returns-in_default-clause-refused : goal.returns-in_default-clause-refused
 returns-in_default-clause-refused c refused = (ap (λ (free : Chain). record c.args.self.now { free = free }) (c.in_default.ensures.none refl), refl)
 
-pub returns-then-is_none-clause-told : goal.returns-then-is_none-clause-told
-returns-then-is_none-clause-told c rules late notes s slot m =
-    absurd (c.fetchable.ensures.none _ (is_fetchable rules late notes c.args.self.now c.args.slots.now s c.args.qid slot m) (has_none c.fetchable.result (c.is_none.ensures ∙ ap not c.if-is_none.true)))
+pub returns-then-not-is_fetchable-clause-told : goal.returns-then-not-is_fetchable-clause-told
+returns-then-not-is_fetchable-clause-told c rules late notes s slot m =
+    absurd (false≢true (sym c.if-not-is_fetchable.true ∙ c.is_fetchable.ensures.no (is_fetchable rules late notes c.args.self.now c.args.slots.now s c.args.qid slot m)))
 
 pub returns-in_default-clause-told : goal.returns-in_default-clause-told
 returns-in_default-clause-told c rules late notes s slot m =
-    absurd (some_popped c.args.slots.now c.args.self.now.free s.items.free c.pop.result s.has.free_chain
-    (may_be_fetched c.args.self.now c.args.qid c.fetchable.result c.fetchable.ensures.some (c.is_none.ensures ∙ ap not c.if-is_none.false)).can.some_free c.pop.ensures.some c.in_default.is)
-
--- its queue
-fetched_from : (c : goal.After-came) → MayBeFetched c.args.self.now c.args.qid
-fetched_from c = may_be_fetched c.args.self.now c.args.qid c.fetchable.result c.fetchable.ensures.some (c.is_none.ensures ∙ ap not c.if-is_none.false)
+    absurd (some_popped c.args.slots.now c.args.self.now.free s.items.free c.pop.result s.has.free.chain
+    (c.is_fetchable.ensures.yes c.if-not-is_fetchable.false).some_free c.pop.ensures.some c.in_default.is)
 
 -- the command's slot
 abbrev waiting : goal.After-came → Slot
@@ -52,8 +48,7 @@ waiting c = record c.free.result { entry = c.args.entry.now; cookie = c.args.coo
 fetches : (c : goal.After-came) (rules : FrontRules) (late : Bool) (notes : Notes) → Stands rules late notes c.args.self.now c.args.slots.now → Fetches c.args.self.now c.args.slots.now c.args.qid c.args.entry.now c.args.cookie c.in-Some.tag (waiting c) c.pop.new.self
     c.push.new.self c.read.new.self c.came.new.board c.push.new.slots
 fetches c rules late notes s =
-    let found = fetched_from c in
-    let it = told_fetchable c.args.self.now s.content.table s.numbers.tells c.args.qid found.entry found.can in
+    let it = told_fetchable rules late notes c.args.self.now c.args.slots.now s c.args.qid (c.is_fetchable.ensures.yes c.if-not-is_fetchable.false) in
     let few : c.args.qid < 65 = few_queues rules late notes c.args.self.now c.args.slots.now s c.args.qid it.entry it.can in
     let pool : List Slot = c.push.new.slots in
     let tag : ℕ = c.in-Some.tag in
@@ -88,8 +83,7 @@ fetches c rules late notes s =
 pub returns-clause-stands : goal.returns-clause-stands
 returns-clause-stands c rules late notes s told =
     let self : Controller = c.args.self.now in
-    let found = fetched_from c in
-    let it = told_fetchable self s.content.table s.numbers.tells c.args.qid found.entry found.can in
+    let it = told_fetchable rules late notes self c.args.slots.now s c.args.qid (c.is_fetchable.ensures.yes c.if-not-is_fetchable.false) in
     let rest : Bool = not (c.read.new.self.head == c.read.new.self.tail) in
     let rung : c.with_queue-self.result ≡ with_queue self.rung c.args.qid rest = c.with_queue-self.ensures ∙ ap (λ (after : Controller). with_queue after.rung c.args.qid rest) c.put_sq.ensures in
     subst (λ (after : Controller). HasFetched rules late notes c.args.qid c.args.entry.now c.args.cookie (record after { board = c.came.new.board }) c.push.new.slots) (sym (λ j. record (c.put_sq.ensures j) { rung = rung j }))

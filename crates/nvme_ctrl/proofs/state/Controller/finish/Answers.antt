@@ -4,8 +4,7 @@ use Rattle.nvme_entry.specs.Status.{success}
 use Rattle.nvme_log.specs.declared.event.Event.TheVariants as event
 use Rattle.nvme_ctrl_log.specs.Notes.{Logged, Answered}
 use Rattle.nvme_ctrl.specs.Steps.{HasFinished}
-use Rattle.nvme_ctrl.specs.declared.state.Controller.{Controller}
-use Rattle.nvme_ctrl.specs.declared.state.Deletion.{Deletion}
+use Rattle.nvme_ctrl.specs.declared.state.SqState.{SqState}
 use Rattle.nvme_ctrl.proofs.FinishCall.{closes, finish_call}
 use Rattle.nvme_ctrl.proofs.state.Controller.finish.Goals as goal
 
@@ -16,16 +15,10 @@ returns-then-not-is_closing-clause-told c = λ rules late notes s _.
 
 pub returns-clause-stands : goal.returns-clause-stands
 returns-clause-stands c = λ rules late notes s.
-    finish_call rules late notes c.args.self.now c.args.slots.now s c.in_ok-qid.qid c.in_ok-qid.ensures.kept c.deletion-tag.result.tag c.saturating_sub-self.result
-    c.finish_delete.new.self c.put_deletion.new.self (record c.put_deletion.new.self { pending_deletions = c.saturating_sub-self.result }) c.end.new.self c.end.new.slots
-    (ap (λ (x : Deletion). x.tag) c.deletion-tag.ensures) c.finish_delete.ensures.stands
-    (c.put_deletion.ensures
-    ∙ ap (λ (a : Controller). record a { deletions = slice_set a.deletions c.in_ok-qid.qid c.none-2.result }) c.put_sq.ensures
-    ∙ (λ j. record c.args.self.now {
-      table = c.finish_delete.new.self;
-      sqs = slice_set c.args.self.now.sqs c.in_ok-qid.qid (c.none.ensures j);
-      deletions = slice_set c.args.self.now.deletions c.in_ok-qid.qid (c.none-2.ensures j);
-    }))
+    finish_call rules late notes c.args.self.now c.args.slots.now s c.in_ok-qid.qid c.in_ok-qid.ensures.kept c.sq-tag.result.tag c.saturating_sub-self.result
+    c.finish_delete.new.self c.put_sq.new.self (record c.put_sq.new.self { pending_deletions = c.saturating_sub-self.result }) c.end.new.self c.end.new.slots
+    (ap (λ (x : SqState). x.tag) c.sq-tag.ensures) c.finish_delete.ensures.stands
+    (c.put_sq.ensures ∙ (λ j. record c.args.self.now { table = c.finish_delete.new.self; sqs = slice_set c.args.self.now.sqs c.in_ok-qid.qid (c.none.ensures j) }))
     c.saturating_sub-self.ensures refl c.end.ensures.kept
 
 pub returns-clause-front : goal.returns-clause-front

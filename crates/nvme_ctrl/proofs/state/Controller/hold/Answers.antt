@@ -1,11 +1,12 @@
 use Rattle.std.proofs.Common.{◌≡◌, ℕ, ◌-◌, ◌∷◌, Bool, if◌then◌else◌, refl, sym, ap, subst, ◌∙◌}
+use Rattle.std.proofs.lemmas.Bool.{false≢true}
 use Rattle.std.specs.Prelude.{slice_set, min}
 use Rattle.nvme_ctrl_log.specs.Notes.{Held}
 use Rattle.nvme_ctrl.specs.declared.state.SqState.{SqState}
 use Rattle.nvme_ctrl.specs.declared.state.Controller.{Controller}
 use Rattle.nvme_ctrl.specs.inside.Fetching.{waiting_in}
 use Rattle.nvme_ctrl.specs.kept.Kept.{StandsAt}
-use Rattle.nvme_ctrl.proofs.HoldCall.{held_state, may_be_held, hold_call}
+use Rattle.nvme_ctrl.proofs.HoldCall.{open_is_shown, held_state, may_be_held, hold_call}
 use Rattle.nvme_ctrl.proofs.state.Controller.hold.Goals.{then-on, else-on}
 use Rattle.nvme_ctrl.proofs.state.Controller.hold.Goals as goal
 
@@ -21,6 +22,12 @@ counts c =
       | then-on w ↦ w.count-is ∙ ap (λ (b : Bool). if b then 0 else most) (sym w.if-on.true)
       | else-on w ↦ w.count-is ∙ w.min-count.ensures ∙ ap (λ (n : ℕ). min n 256) (waits c) ∙ ap (λ (b : Bool). if b then 0 else most) (sym w.if-on.false)
     ]
+
+pub returns-in_default-clause-answer : goal.returns-in_default-clause-answer
+returns-in_default-clause-answer c rules late notes pool s = (
+  λ told. absurd (false≢true told),
+  λ may. absurd (open_is_shown rules late notes c.args.self.now pool s c.args.qid (sym c.queue.ensures.is_there ∙ c.in_default.is) may.queue may.is_open),
+)
 
 pub returns-clause-answer : goal.returns-clause-answer
 returns-clause-answer c rules late notes pool s = (

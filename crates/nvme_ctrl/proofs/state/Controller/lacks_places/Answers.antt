@@ -1,6 +1,5 @@
-use Rattle.std.proofs.Common.{◌≡◌, ℕ, ◌+◌, ◌∙◌, ap}
+use Rattle.std.proofs.Common.{ℕ, ◌+◌, ◌∙◌, ap}
 use Rattle.std.specs.Prelude.{nat_lt}
-use Rattle.nvme_log.specs.Aborts.{places_for}
 use Rattle.nvme_log.specs.Completions.{outstanding}
 use Rattle.nvme_log.specs.Limits.{max_outstanding}
 use Rattle.nvme_ctrl_log.specs.Notes.{logged}

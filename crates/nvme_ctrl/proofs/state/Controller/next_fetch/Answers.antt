@@ -31,7 +31,7 @@ loop-next-preserved c = record {
 
 pub returns-clause-none : goal.returns-clause-none
 returns-clause-none c rules late notes slots s told q has =
-    let it = told_fetchable c.args.self.now s.content.table s.numbers.tells q _ (is_fetchable rules late notes c.args.self.now slots s q has.0 has.1) in
+    let it = told_fetchable rules late notes c.args.self.now slots s q (is_fetchable rules late notes c.args.self.now slots s q has.0 has.1) in
     let low : q < 65 = few_queues rules late notes c.args.self.now slots s q it.entry it.can in
     let few : q ≤ 64 = omega (arith, low) in
     elim (cases_lt (turns_before c.min-last.result q) c.loop-next.turn) [

@@ -2,7 +2,7 @@ use Rattle.std.proofs.Common.{◌≢◌, ◌∷◌, refl, sym, ◌∙◌}
 use Rattle.std.proofs.lemmas.Bool.{false≢true}
 use Rattle.nvme_arbiter.specs.declared.settings.Class.TheVariants.{Admin}
 use Rattle.nvme_ctrl_log.specs.Notes.{Classed}
-use Rattle.nvme_ctrl.proofs.HoldCall.{may_be_classed, class_call}
+use Rattle.nvme_ctrl.proofs.HoldCall.{open_is_shown, may_be_classed, class_call}
 use Rattle.nvme_ctrl.proofs.state.Controller.set_class.Goals.{then-qid-eq0-via-then-qid-eq0, then-qid-eq0-via-else-qid-eq0+then-matches, in-Admin, in_default}
 use Rattle.nvme_ctrl.proofs.state.Controller.set_class.Goals as goal
 
@@ -23,6 +23,12 @@ returns-then-qid-eq0-clause-answer c rules late notes pool s = (
       | in_default x ↦ (let not = x.matches-is in let matched = w.if-matches.true in absurd (cc (not, matched)))
     ]
   ],
+)
+
+pub returns-in_default-queue-clause-answer : goal.returns-in_default-queue-clause-answer
+returns-in_default-queue-clause-answer c rules late notes pool s = (
+  λ told. absurd (false≢true told),
+  λ may. absurd (open_is_shown rules late notes c.args.self.now pool s c.args.qid (sym c.queue.ensures.is_there ∙ c.in_default-queue.is) may.queue may.is_open),
 )
 
 pub returns-clause-answer : goal.returns-clause-answer

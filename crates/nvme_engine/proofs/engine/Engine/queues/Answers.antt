@@ -1,5 +1,8 @@
 use Rattle.nvme_engine.proofs.engine.Engine.queues.Goals as goal
 
+pub returns-clause-few : goal.returns-clause-few
+returns-clause-few c rules late notes s = s.few.0
+
 pub returns-clause-sqs : goal.returns-clause-sqs
 returns-clause-sqs c rules late notes s q from = (s.few.1 q from).0
 

@@ -13,6 +13,12 @@ use Rattle.nvme_front.proofs.state.FrontState.begin.Goals as goal
 with_engines : (s t u : FrontState) → t ≡ record s { engine = t.engine } → u ≡ record t { engine = u.engine } → u ≡ record s { engine = u.engine }
 with_engines s t u first second = second ∙ ap (λ (z : FrontState). record z { engine = u.engine }) first
 
+pub give_sqs-requires-clause-roomy : goal.give_sqs-requires-clause-roomy
+give_sqs-requires-clause-roomy c = subst IsRoomy (sym c.start_engine.ensures.same) (room_with c.args.self.now c.start_engine.new.self.engine c.requires.roomy)
+
+pub give_sqs-requires-clause-admin : goal.give_sqs-requires-clause-admin
+give_sqs-requires-clause-admin c = subst HasAdmin (sym c.start_engine.ensures.same) (c.has_admin.ensures.0 c.if-has_admin.true)
+
 pub give_cqs-requires-clause-roomy : goal.give_cqs-requires-clause-roomy
 give_cqs-requires-clause-roomy c =
     let s : FrontState = c.args.self.now in

@@ -4,13 +4,16 @@ use Rattle.nvme_engine.specs.Calls.{HasAnswered}
 use Rattle.nvme_front.specs.inside.Room.{IsRunning}
 use Rattle.nvme_front.specs.inside.State.{rules_of}
 use Rattle.nvme_front.proofs.PostOne.{engine_stands}
-use Rattle.nvme_front.proofs.States.{Goes-same}
+use Rattle.nvme_front.proofs.States.{Goes-same, kept_same}
 use Rattle.nvme_front.proofs.GainOne.{same_jobs, stray-goes, stray-kept, stray-seen, gained-fewer, gained-goes, gained-kept, gained_tagged, gained_entry, gained_status}
 use Rattle.nvme_jobs.proofs.Balances.{balances-still, balances-gained}
 use Rattle.nvme_front.proofs.state.FrontState.gain_one.Goals as goal
 
 pub returns-in-Nothing-clause-goes : goal.returns-in-Nothing-clause-goes
 returns-in-Nothing-clause-goes c = Goes-same c.args.self.now _ (same_jobs c.args.self.now _ c.gain.new.self c.in-Nothing.ensures.0)
+
+pub returns-in-Nothing-clause-consistent : goal.returns-in-Nothing-clause-consistent
+returns-in-Nothing-clause-consistent c = kept_same c.args.self.now _ (same_jobs c.args.self.now _ c.gain.new.self c.in-Nothing.ensures.0) c.requires.consistent
 
 pub returns-in-Nothing-clause-still : goal.returns-in-Nothing-clause-still
 returns-in-Nothing-clause-still c = λ _. (same_jobs c.args.self.now _ c.gain.new.self c.in-Nothing.ensures.0, c.in-Nothing.ensures.1)
