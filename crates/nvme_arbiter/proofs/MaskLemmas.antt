@@ -219,20 +219,27 @@ bit-other : (mask bit i : ℕ) (on : Bool) → bit < 64 → i < 64 → (i ≡ bi
 bit-other mask bit i true h k n = bit_at_set_other w64 mask bit h i n
 bit-other mask bit i false h k n = bit_at_clear_other w64 mask bit h i k n
 
+-- in one of the four masks, where the bit of another queue stays
+bits-set : (masks : List ℕ) (k i bit other : ℕ) (on : Bool) → length masks ≡ 4 → k < 4 → bit < 64 → other < 64 → (other ≡ bit → ⊥)
+    → bit_at (slice_index_or (set masks k (with_bit (slice_index_or masks k 0) bit on)) i 0) other ≡ bit_at (slice_index_or masks i 0) other
+bits-set masks k i bit other on size few h l n =
+    elim (cases_eq i k) [
+      | inl e ↦ rw e (ap (λ m. bit_at m other) (get_or-set_same masks k (with_bit (slice_index_or masks k 0) bit on) 0 (omega (arith, size, few)))
+          ∙ bit-other (slice_index_or masks k 0) bit other on h l n)
+      | inr d ↦ ap (λ m. bit_at m other) (get_or-set_other masks k i (with_bit (slice_index_or masks k 0) bit on) 0 d)
+    ]
+
 places-stay : (b : QueuesFields) (qid : ℕ) (class : Class) (on : Bool) → (marked_with b qid class on).places ≡ b.places
 places-stay b qid class on = elim (qid == 0) as (λ z. (if z then b else with_mask b class (with_bit (mask_in b class) (qid - 1) on)).places ≡ b.places) [ true ↦ refl | false ↦ by_class class ]
   where
     by_class : (c : Class) → (with_mask b c (with_bit (mask_in b c) (qid - 1) on)).places ≡ b.places
     by_class Admin = refl
-    by_class Urgent = refl
-    by_class High = refl
-    by_class Medium = refl
-    by_class Low = refl
+    by_class class = refl
 
 -- the bit of another queue stays
-bits-other : (b : QueuesFields) (qid j : ℕ) (class c : Class) (on : Bool) → qid ≤ highest_qid → j ≤ highest_qid → (j ≡ 0 → ⊥) → (j ≡ qid → ⊥)
+bits-other : (b : QueuesFields) (qid j : ℕ) (class c : Class) (on : Bool) → length b.ready ≡ 4 → qid ≤ highest_qid → j ≤ highest_qid → (j ≡ 0 → ⊥) → (j ≡ qid → ⊥)
     → bit_at (mask_in (marked_with b qid class on) c) (j - 1) ≡ bit_at (mask_in b c) (j - 1)
-bits-other b qid j class c on l k io n =
+bits-other b qid j class c on size l k io n =
     elim (cases_eq qid 0) [
       | inl z ↦ rw (eq-eqb qid 0 z) refl
       | inr d ↦ rw (ne_eqb qid 0 d) (by_class class c (omega arith) (omega arith) (λ e. n (omega (arith, e))))
@@ -241,26 +248,8 @@ bits-other b qid j class c on l k io n =
     by_class : (class c : Class) → qid - 1 < 64 → j - 1 < 64 → (j - 1 ≡ qid - 1 → ⊥)
         → bit_at (mask_in (with_mask b class (with_bit (mask_in b class) (qid - 1) on)) c) (j - 1) ≡ bit_at (mask_in b c) (j - 1)
     by_class Admin c h k n = refl
-    by_class Urgent Admin h k n = refl
-    by_class Urgent Urgent h k n = bit-other b.urgent (qid - 1) (j - 1) on h k n
-    by_class Urgent High h k n = refl
-    by_class Urgent Medium h k n = refl
-    by_class Urgent Low h k n = refl
-    by_class High Admin h k n = refl
-    by_class High Urgent h k n = refl
-    by_class High High h k n = bit-other b.high (qid - 1) (j - 1) on h k n
-    by_class High Medium h k n = refl
-    by_class High Low h k n = refl
-    by_class Medium Admin h k n = refl
-    by_class Medium Urgent h k n = refl
-    by_class Medium High h k n = refl
-    by_class Medium Medium h k n = bit-other b.medium (qid - 1) (j - 1) on h k n
-    by_class Medium Low h k n = refl
-    by_class Low Admin h k n = refl
-    by_class Low Urgent h k n = refl
-    by_class Low High h k n = refl
-    by_class Low Medium h k n = refl
-    by_class Low Low h k n = bit-other b.low (qid - 1) (j - 1) on h k n
+    by_class class Admin h k n = refl
+    by_class class c h k n = bits-set b.ready (number_of_class class - 1) (number_of_class c - 1) (qid - 1) (j - 1) on size (omega arith) h k n
 
 -- so what waits in it stays
 waiting-other : (b d : QueuesFields) (j count : ℕ) (c : Class) → (c ≡ Admin → j ≡ 0) → (j ≡ 0 → c ≡ Admin)
@@ -273,18 +262,15 @@ waiting-other b d j count Low z io same = ap (λ n. if n == 1 then min count hig
 
 mask-of-places : (b : QueuesFields) (ps : List QueueFields) (c : Class) → mask_in (record b { places = ps }) c ≡ mask_in b c
 mask-of-places b ps Admin = refl
-mask-of-places b ps Urgent = refl
-mask-of-places b ps High = refl
-mask-of-places b ps Medium = refl
-mask-of-places b ps Low = refl
+mask-of-places b ps class = refl
 
 -- what is written into a place changes no other
 abbrev pub written : QueuesFields → ℕ → Class → QueueFields → Bool → QueuesFields
 written b qid class f on = marked_with (record b { places = set b.places qid f }) qid class on
 
-slot-other : (b : QueuesFields) (qid j : ℕ) (class : Class) (f : QueueFields) (on : Bool) → qid ≤ highest_qid → j ≤ highest_qid → (j ≡ qid → ⊥)
+slot-other : (b : QueuesFields) (qid j : ℕ) (class : Class) (f : QueueFields) (on : Bool) → length b.ready ≡ 4 → qid ≤ highest_qid → j ≤ highest_qid → (j ≡ qid → ⊥)
     → slot_at (written b qid class f on) j ≡ slot_at b j
-slot-other b qid j class f on l k n =
+slot-other b qid j class f on size l k n =
     let there : slice_index_or (written b qid class f on).places j closed ≡ slice_index_or b.places j closed =
     ap (λ ps. slice_index_or ps j closed) (places-stay (record b { places = set b.places qid f }) qid class on) ∙ get_or-set_other b.places qid j f closed n in
     ap (slot_in (written b qid class f on) j) there ∙ by_class (class_under j (slice_index_or b.places j closed).class) refl
@@ -296,11 +282,11 @@ slot-other b qid j class f on l k n =
         let under = class-fits j (slice_index_or b.places j closed).class c e in
         ap (λ w. Some (record { class = c; count = w }))
         (waiting-other b (written b qid class f on) j (slice_index_or b.places j closed).count c under.0 under.1
-        (λ io. bits-other (record b { places = set b.places qid f }) qid j class c on l k io n ∙ ap (λ m. bit_at m (j - 1)) (mask-of-places b (set b.places qid f) c)))
+        (λ io. bits-other (record b { places = set b.places qid f }) qid j class c on size l k io n ∙ ap (λ m. bit_at m (j - 1)) (mask-of-places b (set b.places qid f) c)))
 
-pub slots-written : (b : QueuesFields) (qid : ℕ) (class : Class) (f : QueueFields) (on : Bool) (o : Option OpenQueue) → qid ≤ highest_qid → length b.places ≡ queue_limit
+pub slots-written : (b : QueuesFields) (qid : ℕ) (class : Class) (f : QueueFields) (on : Bool) (o : Option OpenQueue) → qid ≤ highest_qid → length b.ready ≡ 4 → length b.places ≡ queue_limit
     → slot_in (written b qid class f on) qid f ≡ o → slots_in (written b qid class f on) ≡ set (slots_in b) qid o
-slots-written b qid class f on o l size is =
+slots-written b qid class f on o l masks size is =
     let new : QueuesFields = written b qid class f on in
     let n = slots-length b in
     let m = slots-length new in
@@ -312,7 +298,7 @@ slots-written b qid class f on o l size is =
           subst (λ k. queue_at (slots_in new) k ≡ queue_at (set (slots_in b) qid o) k) (sym e)
           (here ∙ sym (get_or-set_same (slots_in b) qid o None (omega (arith, n, l))))
       | inr d ↦
-          slot-at new i (omega (arith, lt, m)) ∙ slot-other b qid i class f on l (omega (arith, lt, m)) d ∙ sym (slot-at b i (omega (arith, lt, m)))
+          slot-at new i (omega (arith, lt, m)) ∙ slot-other b qid i class f on masks l (omega (arith, lt, m)) d ∙ sym (slot-at b i (omega (arith, lt, m)))
           ∙ sym (get_or-set_other (slots_in b) qid i o None d)
     ])
 
@@ -321,24 +307,23 @@ bit-same : (mask bit : ℕ) (on : Bool) → bit < 64 → (bit_at (with_bit mask 
 bit-same mask bit true h = ap (λ n. n == 1) (bit_at_set_same w64 mask bit h)
 bit-same mask bit false h = ap (λ n. n == 1) (bit_at_clear_same w64 mask bit h)
 
-own-bit : (b : QueuesFields) (qid : ℕ) (class : Class) (on : Bool) → qid ≤ highest_qid → (class ≡ Admin → ⊥) → (qid ≡ 0 → ⊥) → is_marked (marked_with b qid class on) qid class ≡ on
-own-bit b qid class on l io d = rw (ne_eqb qid 0 d) (by_class class io (omega arith))
+own-bit : (b : QueuesFields) (qid : ℕ) (class : Class) (on : Bool) → length b.ready ≡ 4 → qid ≤ highest_qid → (class ≡ Admin → ⊥) → (qid ≡ 0 → ⊥) → is_marked (marked_with b qid class on) qid class ≡ on
+own-bit b qid class on size l io d = rw (ne_eqb qid 0 d) (by_class class io (omega arith))
   where
     by_class : (c : Class) → (c ≡ Admin → ⊥) → qid - 1 < 64 → is_marked (with_mask b c (with_bit (mask_in b c) (qid - 1) on)) qid c ≡ on
     by_class Admin io h = absurd (io refl)
-    by_class Urgent io h = bit-same b.urgent (qid - 1) on h
-    by_class High io h = bit-same b.high (qid - 1) on h
-    by_class Medium io h = bit-same b.medium (qid - 1) on h
-    by_class Low io h = bit-same b.low (qid - 1) on h
+    by_class c io h =
+        ap (λ m. bit_at m (qid - 1) == 1) (get_or-set_same b.ready (number_of_class c - 1) (with_bit (mask_in b c) (qid - 1) on) 0 (omega (arith, size)))
+        ∙ bit-same (mask_in b c) (qid - 1) on h
 
 -- what is put waits
-put-waits : (b : QueuesFields) (qid count : ℕ) (class : Class) → IsSeen (seen_as qid (record { class = class; count = count }))
+put-waits : (b : QueuesFields) (qid count : ℕ) (class : Class) → length b.ready ≡ 4 → IsSeen (seen_as qid (record { class = class; count = count }))
     → waiting_in (marked_with b qid class (nat_lt 0 count)) qid count class ≡ count
-put-waits b qid count class seen =
+put-waits b qid count class size seen =
     elim (cases_eq qid 0) [
       | inl z ↦ rw (seen.admin.1 z) (omega (arith, seen.count))
       | inr d ↦
-          let marked = own-bit b qid class (nat_lt 0 count) seen.qid (λ e. d (seen.admin.0 e)) d in
+          let marked = own-bit b qid class (nat_lt 0 count) size seen.qid (λ e. d (seen.admin.0 e)) d in
           ap (λ m. if m then min count highest_count else 0) marked ∙ by_count count seen.count
     ]
   where
@@ -362,11 +347,11 @@ number-under qid class n admin is =
     by_class Medium io = refl
     by_class Low io = refl
 
-pub put-slot : (b : QueuesFields) (qid n count : ℕ) (class : Class) → IsSeen (seen_as qid (record { class = class; count = count })) → n ≡ number_of_class class
+pub put-slot : (b : QueuesFields) (qid n count : ℕ) (class : Class) → length b.ready ≡ 4 → IsSeen (seen_as qid (record { class = class; count = count })) → n ≡ number_of_class class
     → slot_in (marked_with b qid class (nat_lt 0 count)) qid (record { class = n + 1; count = count }) ≡ Some (record { class = class; count = count })
-put-slot b qid n count class seen is =
+put-slot b qid n count class size seen is =
     ap (open_in (marked_with b qid class (nat_lt 0 count)) qid count) (number-under qid class n seen.admin is)
-    ∙ ap (λ w. Some (record { class = class; count = w })) (put-waits b qid count class seen)
+    ∙ ap (λ w. Some (record { class = class; count = w })) (put-waits b qid count class size seen)
 
 pub closed-slot : (b : QueuesFields) (qid : ℕ) → slot_in b qid closed ≡ None
 closed-slot b qid = elim (qid == 0) as (λ z. open_in b qid 0 (if z then None else None) ≡ None) [ true ↦ refl | false ↦ refl ]
@@ -384,23 +369,20 @@ slots-closed b is =
 -- ---- what isn't ready
 waits-none : (b : QueuesFields) (j count : ℕ) (c : Class) → (c ≡ Admin → ⊥) → bit_at (mask_in b c) (j - 1) ≡ 0 → waiting_in b j count c ≡ 0
 waits-none b j count Admin io h = absurd (io refl)
-waits-none b j count Urgent io h = ap (λ n. if n == 1 then min count highest_count else 0) h
-waits-none b j count High io h = ap (λ n. if n == 1 then min count highest_count else 0) h
-waits-none b j count Medium io h = ap (λ n. if n == 1 then min count highest_count else 0) h
-waits-none b j count Low io h = ap (λ n. if n == 1 then min count highest_count else 0) h
+waits-none b j count class io h = ap (λ n. if n == 1 then min count highest_count else 0) h
 
 -- no bit of all is no bit of each
 record NoneOfEach (b : QueuesFields) (i : ℕ) : Type 0 where
-  urgent : bit_at b.urgent i ≡ 0
-  high : bit_at b.high i ≡ 0
-  medium : bit_at b.medium i ≡ 0
-  low : bit_at b.low i ≡ 0
+  urgent : bit_at (mask_in b Urgent) i ≡ 0
+  high : bit_at (mask_in b High) i ≡ 0
+  medium : bit_at (mask_in b Medium) i ≡ 0
+  low : bit_at (mask_in b Low) i ≡ 0
 
 each : (b : QueuesFields) (i : ℕ) → bit_at (mask_for b None) i ≡ 0 → NoneOfEach b i
 each b i h =
-    let low = bit_at_or (bit_or (bit_or b.urgent b.high) b.medium) b.low i in
-    let medium = bit_at_or (bit_or b.urgent b.high) b.medium i in
-    let high = bit_at_or b.urgent b.high i in
+    let low = bit_at_or (bit_or (bit_or (mask_in b Urgent) (mask_in b High)) (mask_in b Medium)) (mask_in b Low) i in
+    let medium = bit_at_or (bit_or (mask_in b Urgent) (mask_in b High)) (mask_in b Medium) i in
+    let high = bit_at_or (mask_in b Urgent) (mask_in b High) i in
     record {
       urgent = omega (arith, h, low, medium, high);
       high = omega (arith, h, low, medium, high);

@@ -3,7 +3,7 @@ use Rattle.std.specs.Prelude.{ℕ, ◌-◌, ◌==◌, ◌&&◌, ◌||◌, nat_le
 use Rattle.std.specs.List.{range_with_len}
 use Rattle.std.specs.Int.{bit_at}
 use Rattle.nvme_arbiter.specs.Limits.{highest_count, queue_limit}
-use Rattle.nvme_arbiter.specs.Settings.{settings_of}
+use Rattle.nvme_arbiter.specs.Settings.{number_of_class, settings_of}
 use Rattle.nvme_arbiter.specs.Board.{BoardView}
 use Rattle.nvme_arbiter.specs.declared.settings.Class.{Class}
 use Rattle.nvme_arbiter.specs.declared.settings.Class.TheVariants.{Admin, Urgent, High, Medium, Low}
@@ -76,10 +76,7 @@ class_under qid n =
 -- the mask of a class: bit q - 1 is for queue q. The admin queue has none
 abbrev pub mask_in : QueuesFields → Class → ℕ
 mask_in b Admin = 0
-mask_in b Urgent = b.urgent
-mask_in b High = b.high
-mask_in b Medium = b.medium
-mask_in b Low = b.low
+mask_in b class = slice_index_or b.ready (number_of_class class - 1) 0
 
 -- whether a command of an open queue may wait: an I/O queue's bit in the mask of its class says so
 abbrev pub is_marked : QueuesFields → ℕ → Class → Bool

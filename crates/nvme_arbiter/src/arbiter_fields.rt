@@ -43,6 +43,7 @@ pub struct ArbiterFields {
 }
 
 // Whether this number is that of an identifier, or 0 for none.
+#[inline(always)]
 fn is_place(place: u32) -> bool
     ensures { result ≡ is_place place }
 {
@@ -50,6 +51,7 @@ fn is_place(place: u32) -> bool
 }
 
 /// The identifier with this number, 0 for none.
+#[inline(always)]
 pub fn last_of_place(place: u32) -> Option<u16>
     requires { IsTrue (is_place place) }
     ensures { result ≡ last_of_place place }
@@ -62,6 +64,7 @@ pub fn last_of_place(place: u32) -> Option<u16>
 }
 
 // The number of an identifier, 0 for none.
+#[inline(always)]
 fn place_of_last(last: Option<u16>) -> u32
     ensures back { last_of_place result ≡ last }
     ensures is_place { IsTrue (is_place result) }
@@ -73,6 +76,7 @@ fn place_of_last(last: Option<u16>) -> u32
 }
 
 /// The mechanism of a number: 1 is round robin, any other is weighted.
+#[inline(always)]
 pub fn mechanism_of(number: u32) -> Mechanism
     ensures { result ≡ mechanism_of number }
 {
@@ -111,6 +115,7 @@ impl LastFields {
     }
 
     // Whether each is that of an identifier, or 0 for none.
+    #[inline(always)]
     fn are_places(&self) -> bool
         ensures { result ≡ are_places self.now }
     {
@@ -123,6 +128,7 @@ impl LastFields {
     }
 
     // Keeps that a queue of a class was served.
+    #[inline(always)]
     fn serve(&mut self, class: Option<Class>, qid: u16)
         requires { IsTrue (are_places self.old) }
         ensures last { last_in self.new ≡ last_with (last_in self.old) class qid }
@@ -170,6 +176,7 @@ impl UsedFields {
     }
 
     // Nothing is used in a new round.
+    #[inline(always)]
     const fn none() -> UsedFields
         ensures { used_in result ≡ nothing_used }
     {
@@ -181,6 +188,7 @@ impl UsedFields {
     }
 
     // Keeps that commands of a class were taken. Only levels have credits, and they stay within their weights.
+    #[inline(always)]
     fn take(&mut self, settings: &Settings, class: Option<Class>, n: u16)
         requires { StaysWithin settings.now (used_in self.old) class n }
         ensures { used_in self.new ≡ used_with (used_in self.old) class n }
@@ -206,6 +214,7 @@ impl UsedFields {
     }
 
     /// How many commands of a level were picked in this round.
+    #[inline(always)]
     pub fn of_level(&self, level: Class) -> u16
         ensures { result ≡ used_of (used_in self.now) level }
     {
@@ -262,6 +271,7 @@ impl ArbiterFields {
     }
 
     /// Whether an arbiter can keep this.
+    #[inline(always)]
     pub fn is_arbiter(&self) -> bool
         ensures { result ≡ is_arbiter self.now }
     {
@@ -300,6 +310,7 @@ impl ArbiterFields {
     }
 
     /// Keeps the pick that `peek` answers, or one of fewer of its commands.
+    #[inline(always)]
     pub fn keep<Q: ReadyQueues>(&mut self, queues: &Q, pick: Pick)
         requires observed { IsObservation (Q.seen queues.now) }
         requires is_arbiter { IsTrue (is_arbiter self.old) }
@@ -308,10 +319,25 @@ impl ArbiterFields {
         ensures kept { kept_of self.new ≡ kept_after (kept_of self.old).mechanism (kept_of self.old) (class_in (Q.seen queues.now) pick.qid) pick }
         ensures is_arbiter { IsTrue (is_arbiter self.new) }
     {
-        self.note(queues.class_of(pick.qid), pick);
+        self.keep_as(queues, queues.class_of(pick.qid), pick);
+    }
+
+    /// What `keep` keeps, where it is known already in which class the pick's queue is seen.
+    #[inline(always)]
+    pub fn keep_as<Q: ReadyQueues>(&mut self, queues: &Q, class: Option<Class>, pick: Pick)
+        requires observed { IsObservation (Q.seen queues.now) }
+        requires is_arbiter { IsTrue (is_arbiter self.old) }
+        requires peeked { IsSomeAnd (pick_of (kept_of self.old) (Q.seen queues.now)) (λ whole. IsCutOf whole pick) }
+        requires class { class ≡ class_in (Q.seen queues.now) pick.qid }
+        ensures stands { (mechanism : Mechanism) (first : ArbitrationFields) (past : History) → StandsAt mechanism first past (kept_of self.old) → StandsAt mechanism first (Picked (Q.seen queues.now) pick ∷ past) (kept_of self.new) }
+        ensures kept { kept_of self.new ≡ kept_after (kept_of self.old).mechanism (kept_of self.old) (class_in (Q.seen queues.now) pick.qid) pick }
+        ensures is_arbiter { IsTrue (is_arbiter self.new) }
+    {
+        self.note(class, pick);
     }
 
     // Keeps a pick of a class.
+    #[inline(always)]
     fn note(&mut self, class: Option<Class>, pick: Pick)
         requires is_arbiter { IsTrue (is_arbiter self.old) }
         requires within { IsWithinWeight (kept_of self.old).mechanism (kept_of self.old) class pick }

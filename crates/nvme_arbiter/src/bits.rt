@@ -4,6 +4,7 @@ ghost use Rattle.std.specs.Int.{bit_at};
 ghost use Rattle.nvme_arbiter.specs.inside.Masks.{HasNoBit, IsLowest, KeepsFrom, with_bit};
 
 /// Whether a bit is set.
+#[inline(always)]
 pub fn has_bit(mask: u64, bit: u16) -> bool
     requires { bit < 64 }
     ensures { result ≡ (bit_at mask bit == 1) }
@@ -12,6 +13,7 @@ pub fn has_bit(mask: u64, bit: u16) -> bool
 }
 
 /// The lowest bit that is set.
+#[inline(always)]
 pub fn lowest(mask: u64) -> Option<u16>
     ensures { MatchOption result (HasNoBit mask) (IsLowest mask) }
 {
@@ -23,6 +25,7 @@ pub fn lowest(mask: u64) -> Option<u16>
 }
 
 /// The mask without the bits below this one.
+#[inline(always)]
 pub fn from_bit(mask: u64, bit: u16) -> u64
     ensures { KeepsFrom mask bit result }
 {
@@ -30,6 +33,7 @@ pub fn from_bit(mask: u64, bit: u16) -> u64
 }
 
 /// The mask with one bit set or cleared.
+#[inline(always)]
 pub fn with_bit(mask: u64, bit: u16, on: bool) -> u64
     requires { bit < 64 }
     ensures { result ≡ with_bit mask bit on }

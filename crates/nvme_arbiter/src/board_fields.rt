@@ -2,7 +2,7 @@
 use crate::arbiter_fields::ArbiterFields;
 use crate::limits::QUEUE_LIMIT;
 use crate::pick::{OpenQueue, Pick, Seen};
-use crate::queues::QueuesFields;
+use crate::queues::{QueuesFields, class_of};
 use crate::settings::{Class, Mechanism, Settings};
 use arrayvec::ArrayVec;
 
@@ -74,6 +74,7 @@ impl BoardFields {
     }
 
     /// Counts one more waiting command in an open queue.
+    #[inline(always)]
     pub fn came(&mut self, qid: u16)
         requires { IsSomeAnd (queue_at (board_of self.old).queues qid) (λ queue. queue.count < highest_count) }
         ensures came { IfSome (queue_at (board_of self.old).queues qid) (λ queue. board_of self.new ≡ record (board_of self.old) { queues = slice_set (board_of self.old).queues qid (Some (record queue { count = queue.count + 1 })) }) }
@@ -85,6 +86,7 @@ impl BoardFields {
     }
 
     /// Counts `n` more waiting commands in an open queue.
+    #[inline(always)]
     pub fn came_n(&mut self, qid: u16, n: u16)
         requires { IsSomeAnd (queue_at (board_of self.old).queues qid) (λ queue. queue.count + n ≤ highest_count) }
         ensures came { IfSome (queue_at (board_of self.old).queues qid) (λ queue. board_of self.new ≡ record (board_of self.old) { queues = slice_set (board_of self.old).queues qid (Some (record queue { count = queue.count + n })) }) }
@@ -113,6 +115,7 @@ impl BoardFields {
     }
 
     /// The queue of an identifier, where it is open.
+    #[inline(always)]
     pub fn queue(&self, qid: u16) -> Option<OpenQueue>
         ensures is_there { result ≡ queue_at (board_of self.now).queues qid }
         ensures fits { FitsUnder qid result }
@@ -133,6 +136,7 @@ impl BoardFields {
     }
 
     /// What `pick` would answer.
+    #[inline(always)]
     pub fn peek(&self) -> Option<Pick>
         requires { IsTrue (is_arbiter self.now.arbiter) }
         ensures by_what_is_kept { result ≡ pick_of (board_of self.now).kept (seen_of (board_of self.now).queues) }
@@ -145,6 +149,7 @@ impl BoardFields {
     }
 
     /// Keeps the pick that `peek` answers, or one of fewer of its commands. As many commands of its queue wait no longer.
+    #[inline(always)]
     pub fn keep(&mut self, pick: Pick)
         requires is_arbiter { IsTrue (is_arbiter self.old.arbiter) }
         requires peeked { IsSomeAnd (pick_of (board_of self.old).kept (seen_of (board_of self.old).queues)) (λ whole. IsCutOf whole pick) }
@@ -155,8 +160,10 @@ impl BoardFields {
         ensures is_arbiter { IsTrue (is_arbiter self.new.arbiter) }
     {
         self.queues.are_observed();
-        self.arbiter.keep(&self.queues, pick);
-        self.queues.take(pick.qid, pick.n);
+        let found = self.queues.queue(pick.qid);
+        self.queues.seen_class(pick.qid, found);
+        self.arbiter.keep_as(&self.queues, class_of(found), pick);
+        self.queues.take_from(pick.qid, found, pick.n);
     }
 
     /// The lawful pick for `seen()` after the picks and settings so far. As many commands of its queue wait no longer.

@@ -36,6 +36,7 @@ impl Used {
 }
 
 /// What is left of a weight of which so much is used: in a new round all.
+#[inline(always)]
 pub fn left_of(weight: u16, used: u16, fresh: bool) -> u16
     ensures { result ≡ (if fresh then weight else weight - used) }
 {

@@ -1,5 +1,5 @@
 // The open queues as they lie in memory, with the masks in which the next ready one is found: queue q is at place q.
-ghost use Rattle.std.specs.Prelude.{◌≡◌};
+ghost use Rattle.std.specs.Prelude.{◌≡◌, option_map};
 ghost use Rattle.nvme_arbiter.specs.Layout.{class_under};
 ghost use Rattle.nvme_arbiter.specs.inside.Masks.{is_io};
 
@@ -19,20 +19,18 @@ pub struct QueueFields {
     pub count: u16,
 }
 
-/// The queues of a board, with a mask of the ready I/O queues of each class: bit q - 1 is for queue q. Any numbers are
-/// the queues of some board. No command waits in an I/O queue whose bit isn't set in the mask of its class. A number
-/// that isn't a class of the identifier means that the queue is closed.
+/// The queues of a board, with a mask of the ready I/O queues of each class, from urgent to low: bit q - 1 is for queue
+/// q. Any numbers are the queues of some board. No command waits in an I/O queue whose bit isn't set in the mask of its
+/// class. A number that isn't a class of the identifier means that the queue is closed.
 #[repr(C)]
 #[derive(Clone, Copy, Debug, Drop)]
 pub struct QueuesFields {
-    pub urgent: u64,
-    pub high: u64,
-    pub medium: u64,
-    pub low: u64,
+    pub ready: [u64; 4],
     pub places: [QueueFields; QUEUE_LIMIT],
 }
 
 // The class with this number, where the queue of this identifier can have it.
+#[inline(always)]
 fn class_under(qid: u16, number: u16) -> Option<Class>
     ensures { result ≡ class_under qid number }
 {
@@ -53,6 +51,7 @@ fn class_under(qid: u16, number: u16) -> Option<Class>
 }
 
 // Whether this is the class of I/O queues.
+#[inline(always)]
 fn is_io(class: Option<Class>) -> bool
     ensures { result ≡ is_io class }
 {
@@ -62,10 +61,21 @@ fn is_io(class: Option<Class>) -> bool
     }
 }
 
+/// The class of a queue, where it is open.
+#[inline(always)]
+pub fn class_of(found: Option<OpenQueue>) -> Option<Class>
+    ensures { result ≡ option_map (λ o. o.class) found }
+{
+    match found {
+        Some(queue) => Some(queue.class),
+        None => None,
+    }
+}
+
 impl QueuesFields {
     ghost use Rattle.std.specs.Prelude.{◌≡◌, ◌≤◌, IfNone, IfSome, MatchOption, Some, None, length, replicate, slice_set, option_map, false};
     ghost use Rattle.nvme_arbiter.specs.Limits.{highest_qid, queue_limit};
-    ghost use Rattle.nvme_arbiter.specs.Observation.{IsObservation, IsSeen, is_wanted};
+    ghost use Rattle.nvme_arbiter.specs.Observation.{IsObservation, IsSeen, class_in, is_wanted};
     ghost use Rattle.nvme_arbiter.specs.Queues.{seen_of, seen_as, queue_at, fewer, FitsUnder};
     ghost use Rattle.nvme_arbiter.specs.Layout.{mask_in, is_marked, slot_in, slots_in};
     ghost use Rattle.nvme_arbiter.specs.inside.Masks.{IsFirstFrom, IsWantedAt, NoneFrom, mask_for, marked_with, passes, with_mask};
@@ -75,10 +85,7 @@ impl QueuesFields {
         ensures { slots_in result ≡ replicate queue_limit None }
     {
         QueuesFields {
-            urgent: 0,
-            high: 0,
-            medium: 0,
-            low: 0,
+            ready: [0; 4],
             places: [QueueFields { class: 0, count: 0 }; QUEUE_LIMIT],
         }
     }
@@ -87,6 +94,12 @@ impl QueuesFields {
     pub fn are_observed(&self)
         ensures observed { IsObservation (seen_of (slots_in self.now)) }
         ensures size { length (slots_in self.now) ≡ queue_limit }
+    {}
+
+    /// Law: a queue is seen in the class in which it is open.
+    pub fn seen_class(&self, qid: u16, found: Option<OpenQueue>)
+        requires { found ≡ queue_at (slots_in self.now) qid }
+        ensures { class_in (seen_of (slots_in self.now)) qid ≡ option_map (λ o. o.class) found }
     {}
 
     /// The open queues by ascending identifier, as they are seen.
@@ -107,15 +120,15 @@ impl QueuesFields {
     }
 
     // The mask of a class.
+    #[inline(always)]
     fn mask_of(&self, class: Class) -> u64
         ensures { result ≡ mask_in self.now class }
     {
         match class {
             Class::Admin => 0,
-            Class::Urgent => self.urgent,
-            Class::High => self.high,
-            Class::Medium => self.medium,
-            Class::Low => self.low,
+            Class::Urgent | Class::High | Class::Medium | Class::Low => {
+                self.ready[usize::from(class.number()) - 1]
+            }
         }
     }
 
@@ -126,24 +139,25 @@ impl QueuesFields {
     {
         match class {
             Some(class) => self.mask_of(class),
-            None => self.urgent | self.high | self.medium | self.low,
+            None => self.ready[0] | self.ready[1] | self.ready[2] | self.ready[3],
         }
     }
 
     // Changes the mask of a class.
+    #[inline(always)]
     fn put_mask(&mut self, class: Class, mask: u64)
         ensures { self.new ≡ with_mask self.old class mask }
     {
         match class {
             Class::Admin => {}
-            Class::Urgent => self.urgent = mask,
-            Class::High => self.high = mask,
-            Class::Medium => self.medium = mask,
-            Class::Low => self.low = mask,
+            Class::Urgent | Class::High | Class::Medium | Class::Low => {
+                self.ready[usize::from(class.number()) - 1] = mask;
+            }
         }
     }
 
     // Sets or clears the bit of a queue in the mask of a class.
+    #[inline(always)]
     fn mark(&mut self, qid: u16, class: Class, on: bool)
         requires { qid ≤ highest_qid }
         ensures { self.new ≡ marked_with self.old qid class on }
@@ -184,6 +198,7 @@ impl QueuesFields {
     }
 
     /// The queue of an identifier, where it is open.
+    #[inline(always)]
     pub fn queue(&self, qid: u16) -> Option<OpenQueue>
         ensures is_there { result ≡ queue_at (slots_in self.now) qid }
         ensures fits { FitsUnder qid result }
@@ -196,6 +211,7 @@ impl QueuesFields {
     }
 
     /// Puts an open queue under an identifier.
+    #[inline(always)]
     pub fn put(&mut self, qid: u16, queue: OpenQueue)
         requires { IsSeen (seen_as qid queue) }
         ensures is_put { slots_in self.new ≡ slice_set (slots_in self.old) qid (Some queue) }
@@ -223,13 +239,27 @@ impl QueuesFields {
     }
 
     /// Takes commands from the queue of an identifier, where it is open.
+    #[inline(always)]
     pub fn take(&mut self, qid: u16, n: u16)
         ensures taken { slots_in self.new ≡ slice_set (slots_in self.old) qid (option_map (fewer n) (queue_at (slots_in self.old) qid)) }
         ensures observed { IsObservation (seen_of (slots_in self.new)) }
         ensures size { length (slots_in self.new) ≡ queue_limit }
     {
+        let found = self.queue(qid);
+        self.take_from(qid, found, n);
+    }
+
+    /// What `take` does, where the queue of the identifier is known already.
+    #[inline(always)]
+    pub fn take_from(&mut self, qid: u16, found: Option<OpenQueue>, n: u16)
+        requires is_there { found ≡ queue_at (slots_in self.old) qid }
+        requires fits { FitsUnder qid found }
+        ensures taken { slots_in self.new ≡ slice_set (slots_in self.old) qid (option_map (fewer n) (queue_at (slots_in self.old) qid)) }
+        ensures observed { IsObservation (seen_of (slots_in self.new)) }
+        ensures size { length (slots_in self.new) ≡ queue_limit }
+    {
         self.are_observed();
-        if let Some(queue) = self.queue(qid) {
+        if let Some(queue) = found {
             let queue = OpenQueue {
                 class: queue.class,
                 count: queue.count.saturating_sub(n),
@@ -239,6 +269,7 @@ impl QueuesFields {
     }
 
     // The queue of an identifier as it is seen, where it is ready and of a wanted class.
+    #[inline(always)]
     fn wanted_at(&self, qid: u16, class: Option<Class>) -> Option<Seen>
         ensures some { IfSome result (λ seen. IsWantedAt (slots_in self.now) class qid seen) }
         ensures none { IfNone result (passes (is_wanted class) qid (queue_at (slots_in self.now) qid) ≡ false) }
@@ -271,6 +302,7 @@ impl QueuesFields {
 
     // The first wanted I/O queue from an identifier on. It is the first of the mask, unless the queue of that bit isn't
     // ready, which no call leaves behind.
+    #[inline(always)]
     fn first_from(&self, class: Option<Class>, least: u16) -> Option<Seen>
         requires some { 1 ≤ least }
         requires few { least ≤ queue_limit }
@@ -292,6 +324,7 @@ impl ReadyQueues for QueuesFields {
 
     ghost seen = { λ b. seen_of (slots_in b) };
 
+    #[inline(always)]
     fn first(&self, class: Option<Class>) -> Option<Seen> {
         if is_io(class) {
             return self.first_from(class, 1);
@@ -303,6 +336,7 @@ impl ReadyQueues for QueuesFields {
     }
 
     // No class has a ready queue whose mask has no bit, nor has the admin queue's where nothing waits in it.
+    #[inline(always)]
     fn has_none(&self, class: Option<Class>) -> bool {
         if is_io(class) {
             self.mask_for(class) == 0
@@ -311,6 +345,7 @@ impl ReadyQueues for QueuesFields {
         }
     }
 
+    #[inline(always)]
     fn first_above(&self, class: Option<Class>, last: u16) -> Option<Seen> {
         if last >= HIGHEST_QID {
             None
@@ -319,10 +354,8 @@ impl ReadyQueues for QueuesFields {
         }
     }
 
+    #[inline(always)]
     fn class_of(&self, qid: u16) -> Option<Class> {
-        match self.queue(qid) {
-            Some(queue) => Some(queue.class),
-            None => None,
-        }
+        class_of(self.queue(qid))
     }
 }

@@ -1,4 +1,9 @@
 // What arbitration asks of the queues that it picks from.
+ghost use Rattle.std.specs.Prelude.{◌≡◌};
+ghost use Rattle.std.specs.List.{filter};
+ghost use Rattle.nvme_arbiter.specs.Observation.{IsObservation, is_wanted};
+ghost use Rattle.nvme_arbiter.specs.Next.{next};
+
 use crate::pick::Seen;
 use crate::settings::Class;
 
@@ -32,31 +37,37 @@ pub trait ReadyQueues {
         let _ = class;
         false
     }
+}
 
-    /// The next ready queue after the one that was served last, in a class where one is given.
-    #[inline(always)]
-    fn next_ready(&self, class: Option<Class>, last: Option<u16>) -> Option<Seen>
-        requires { IsObservation (seen self.now) }
-        ensures { result ≡ next last (filter (is_wanted class) (seen self.now)) }
-    {
-        if self.has_none(class) {
-            None
-        } else {
-            self.search(class, last)
-        }
+/// The next ready queue after the one that was served last, in a class where one is given.
+// (a mark on a body that stands in a trait is lost)
+#[inline(always)]
+pub fn next_ready<Q: ReadyQueues>(
+    queues: &Q,
+    class: Option<Class>,
+    last: Option<u16>,
+) -> Option<Seen>
+    requires { IsObservation (Q.seen queues.now) }
+    ensures { result ≡ next last (filter (is_wanted class) (Q.seen queues.now)) }
+{
+    if queues.has_none(class) {
+        None
+    } else {
+        search(queues, class, last)
     }
+}
 
-    /// What `next_ready` answers, by a search.
-    fn search(&self, class: Option<Class>, last: Option<u16>) -> Option<Seen>
-        requires { IsObservation (seen self.now) }
-        ensures { result ≡ next last (filter (is_wanted class) (seen self.now)) }
-    {
-        match last {
-            Some(last) => match self.first_above(class, last) {
-                Some(queue) => Some(queue),
-                None => self.first(class),
-            },
-            None => self.first(class),
-        }
+// What `next_ready` answers, by a search.
+#[inline(always)]
+fn search<Q: ReadyQueues>(queues: &Q, class: Option<Class>, last: Option<u16>) -> Option<Seen>
+    requires { IsObservation (Q.seen queues.now) }
+    ensures { result ≡ next last (filter (is_wanted class) (Q.seen queues.now)) }
+{
+    match last {
+        Some(last) => match queues.first_above(class, last) {
+            Some(queue) => Some(queue),
+            None => queues.first(class),
+        },
+        None => queues.first(class),
     }
 }

@@ -2,7 +2,7 @@
 use crate::arbiter_fields::{ArbiterFields, last_of_place, mechanism_of};
 use crate::kept::left_of;
 use crate::pick::Pick;
-use crate::ready::ReadyQueues;
+use crate::ready::{ReadyQueues, next_ready};
 use crate::settings::{Class, Mechanism, Settings};
 
 impl ArbiterFields {
@@ -17,6 +17,7 @@ impl ArbiterFields {
     ghost use Rattle.nvme_arbiter.specs.declared.settings.Mechanism.{Mechanism};
 
     // The identifier that was served last of a class.
+    #[inline(always)]
     fn last_of(&self, class: Class) -> Option<u16>
         requires { IsTrue (is_arbiter self.now) }
         ensures { result ≡ last_of (kept_of self.now).last class }
@@ -31,6 +32,7 @@ impl ArbiterFields {
     }
 
     // How many commands of a level may be picked, in this round or in a new one.
+    #[inline(always)]
     fn credit(&self, level: Class, fresh: bool) -> u16
         requires { IsLevel level }
         ensures { result ≡ credit (kept_of self.now).settings (used_of (kept_of self.now).used) fresh level }
@@ -40,6 +42,7 @@ impl ArbiterFields {
     }
 
     // The smaller of burst and count.
+    #[inline(always)]
     fn within_burst(&self, count: u16) -> u16
         ensures { result ≡ within_burst (burst_of (kept_of self.now).settings) count }
     {
@@ -51,6 +54,7 @@ impl ArbiterFields {
 
     /// The lawful pick of these queues after the picks and settings so far. `None` exactly where no command waits. (Base
     /// Specification, Command Arbitration)
+    #[inline(always)]
     pub fn peek<Q: ReadyQueues>(&self, queues: &Q) -> Option<Pick>
         requires observed { IsObservation (Q.seen queues.now) }
         requires is_arbiter { IsTrue (is_arbiter self.now) }
@@ -65,12 +69,13 @@ impl ArbiterFields {
     }
 
     // The pick of round robin: one command of the admin queue, or as many as burst and count allow.
+    #[inline(always)]
     fn round_robin<Q: ReadyQueues>(&self, queues: &Q) -> Option<Pick>
         requires observed { IsObservation (Q.seen queues.now) }
         requires is_arbiter { IsTrue (is_arbiter self.now) }
         ensures { result ≡ round_robin_pick (kept_of self.now).settings (kept_of self.now).last.all (Q.seen queues.now) }
     {
-        let queue = queues.next_ready(None, last_of_place(self.last.all))?;
+        let queue = next_ready(queues, None, last_of_place(self.last.all))?;
         let n = if queue.qid == 0 {
             1
         } else {
@@ -84,6 +89,7 @@ impl ArbiterFields {
     }
 
     // The pick of weighted round robin with urgent priority class.
+    #[inline(always)]
     fn weighted<Q: ReadyQueues>(&self, queues: &Q) -> Option<Pick>
         requires observed { IsObservation (Q.seen queues.now) }
         requires is_arbiter { IsTrue (is_arbiter self.now) }
@@ -102,12 +108,13 @@ impl ArbiterFields {
     }
 
     // The pick of the admin queue: one command.
+    #[inline(always)]
     fn admin<Q: ReadyQueues>(&self, queues: &Q) -> Option<Pick>
         requires observed { IsObservation (Q.seen queues.now) }
         requires is_arbiter { IsTrue (is_arbiter self.now) }
         ensures { result ≡ admin_pick (kept_of self.now).settings (last_of (kept_of self.now).last) (used_of (kept_of self.now).used) (Q.seen queues.now) }
     {
-        let queue = queues.next_ready(Some(Class::Admin), self.last_of(Class::Admin))?;
+        let queue = next_ready(queues, Some(Class::Admin), self.last_of(Class::Admin))?;
         Some(Pick {
             qid: queue.qid,
             n: 1,
@@ -116,12 +123,13 @@ impl ArbiterFields {
     }
 
     // The pick of an urgent queue: the smaller of burst and count.
+    #[inline(always)]
     fn urgent<Q: ReadyQueues>(&self, queues: &Q) -> Option<Pick>
         requires observed { IsObservation (Q.seen queues.now) }
         requires is_arbiter { IsTrue (is_arbiter self.now) }
         ensures { result ≡ urgent_pick (kept_of self.now).settings (last_of (kept_of self.now).last) (used_of (kept_of self.now).used) (Q.seen queues.now) }
     {
-        let queue = queues.next_ready(Some(Class::Urgent), self.last_of(Class::Urgent))?;
+        let queue = next_ready(queues, Some(Class::Urgent), self.last_of(Class::Urgent))?;
         Some(Pick {
             qid: queue.qid,
             n: self.within_burst(queue.count),
@@ -130,6 +138,7 @@ impl ArbiterFields {
     }
 
     // The pick of the first level that has a ready queue and credit, in this round or in a new one.
+    #[inline(always)]
     fn levels<Q: ReadyQueues>(&self, queues: &Q, fresh: bool) -> Option<Pick>
         requires observed { IsObservation (Q.seen queues.now) }
         requires is_arbiter { IsTrue (is_arbiter self.now) }
@@ -145,6 +154,7 @@ impl ArbiterFields {
     }
 
     // The pick of a level: the least of burst, credit and count, and none without credit.
+    #[inline(always)]
     fn level<Q: ReadyQueues>(&self, queues: &Q, level: Class, fresh: bool) -> Option<Pick>
         requires observed { IsObservation (Q.seen queues.now) }
         requires is_arbiter { IsTrue (is_arbiter self.now) }
@@ -155,7 +165,7 @@ impl ArbiterFields {
         if credit == 0 {
             return None;
         }
-        let queue = queues.next_ready(Some(level), self.last_of(level))?;
+        let queue = next_ready(queues, Some(level), self.last_of(level))?;
         Some(Pick {
             qid: queue.qid,
             n: self.within_burst(queue.count).min(credit),

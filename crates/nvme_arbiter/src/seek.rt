@@ -8,6 +8,7 @@ use crate::ready::ReadyQueues;
 use crate::settings::Class;
 
 /// Whether a queue is ready, in a class where one is given.
+#[inline(always)]
 pub fn is_wanted(queue: &Seen, class: Option<Class>) -> bool
     ensures { result ≡ is_wanted class queue.now }
 {

@@ -36,6 +36,7 @@ impl Class {
     }
 
     /// The number of the class, as `of_number` reads it.
+    #[inline(always)]
     pub fn number(self) -> u16
         ensures number { result ≡ number_of_class self }
         ensures reads_back { class_of_number result ≡ Some self }
@@ -87,6 +88,7 @@ impl Settings {
     ghost use Rattle.nvme_arbiter.specs.Settings.{settings_of, cdw11_of, burst_of, weight_of, IsLevel};
 
     /// The settings of a CDW11 of the Arbitration feature. Bits 07:03 are ignored (profile).
+    #[inline(always)]
     pub fn from_cdw11(cdw11: u32) -> Settings
         ensures { result ≡ settings_of cdw11 }
     {
@@ -110,6 +112,7 @@ impl Settings {
     }
 
     /// The most commands that one pick may take: 2 to the power of the field, `None` for no limit (111b).
+    #[inline(always)]
     pub fn burst(&self) -> Option<u16>
         ensures { result ≡ burst_of self.now }
     {
@@ -121,6 +124,7 @@ impl Settings {
     }
 
     /// The weight of a level, 1 to 256: how many of its commands may be taken in a round.
+    #[inline(always)]
     pub fn weight(&self, level: Class) -> u16
         requires { IsLevel level }
         ensures { result ≡ weight_of self.now level }

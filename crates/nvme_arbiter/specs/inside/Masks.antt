@@ -1,7 +1,8 @@
 -- The masks of a board's ready queues, and what is found by them (profile).
-use Rattle.std.specs.Prelude.{◌≡◌, ℕ, ◌-◌, ◌*◌, ◌%◌, ◌^◌, ◌<◌, ◌≤◌, ◌==◌, Bool, true, false, nat_lt, if◌then◌else◌, List, Option, Some, None, bit_and, bit_or}
+use Rattle.std.specs.Prelude.{◌≡◌, ℕ, ◌-◌, ◌*◌, ◌%◌, ◌^◌, ◌<◌, ◌≤◌, ◌==◌, Bool, true, false, nat_lt, if◌then◌else◌, List, Option, Some, None, slice_set, bit_and, bit_or}
 use Rattle.std.specs.Int.{bit_at, bit_not, w64}
 use Rattle.nvme_arbiter.specs.Observation.{is_wanted}
+use Rattle.nvme_arbiter.specs.Settings.{number_of_class}
 use Rattle.nvme_arbiter.specs.Queues.{queue_at, seen_as}
 use Rattle.nvme_arbiter.specs.declared.settings.Class.{Class}
 use Rattle.nvme_arbiter.specs.declared.settings.Class.TheVariants.{Admin, Urgent, High, Medium, Low}
@@ -32,10 +33,7 @@ KeepsFrom mask bit kept = (i : ℕ) → i < 64 → bit_at kept i ≡ (if nat_lt 
 -- the masks with that of a class changed
 abbrev pub with_mask : QueuesFields → Class → ℕ → QueuesFields
 with_mask b Admin mask = b
-with_mask b Urgent mask = record b { urgent = mask }
-with_mask b High mask = record b { high = mask }
-with_mask b Medium mask = record b { medium = mask }
-with_mask b Low mask = record b { low = mask }
+with_mask b class mask = record b { ready = slice_set b.ready (number_of_class class - 1) mask }
 
 -- the bit of a queue set or cleared in the mask of a class
 abbrev pub marked_with : QueuesFields → ℕ → Class → Bool → QueuesFields
@@ -44,7 +42,7 @@ marked_with b qid class on = if qid == 0 then b else with_mask b class (with_bit
 -- the mask of a class, or of all
 abbrev pub mask_for : QueuesFields → Option Class → ℕ
 mask_for b (Some class) = mask_in b class
-mask_for b None = bit_or (bit_or (bit_or b.urgent b.high) b.medium) b.low
+mask_for b None = bit_or (bit_or (bit_or (mask_in b Urgent) (mask_in b High)) (mask_in b Medium)) (mask_in b Low)
 
 -- whether this is the class of I/O queues
 abbrev pub is_io : Option Class → Bool

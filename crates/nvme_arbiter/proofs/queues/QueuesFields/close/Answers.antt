@@ -9,4 +9,4 @@ pub returns-clause-closed : goal.returns-clause-closed
 returns-clause-closed c =
     let b = c.args.self.now in
     ap slots_in (c.mark.ensures ∙ ap (λ k. marked_with (record b { places = set b.places k closed }) c.args.qid c.args.class false) c.from.ensures)
-    ∙ slots-written b c.args.qid c.args.class closed false None c.requires (search rules) (closed-slot (written b c.args.qid c.args.class closed false) c.args.qid)
+    ∙ slots-written b c.args.qid c.args.class closed false None c.requires (search rules) (search rules) (closed-slot (written b c.args.qid c.args.class closed false) c.args.qid)

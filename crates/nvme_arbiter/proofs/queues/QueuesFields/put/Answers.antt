@@ -12,5 +12,5 @@ returns-clause-is_put c =
     let queue = c.args.queue in
     let f : QueueFields = record { class = c.number.result + 1; count = queue.count } in
     ap slots_in (c.mark.ensures ∙ ap (λ k. marked_with (record b { places = set b.places k f }) c.args.qid queue.class (nat_lt 0 queue.count)) c.from.ensures)
-    ∙ slots-written b c.args.qid queue.class f (nat_lt 0 queue.count) (Some queue) c.requires.qid (search rules)
-    (put-slot (record b { places = set b.places c.args.qid f }) c.args.qid c.number.result queue.count queue.class c.requires c.number.ensures.number)
+    ∙ slots-written b c.args.qid queue.class f (nat_lt 0 queue.count) (Some queue) c.requires.qid (search rules) (search rules)
+    (put-slot (record b { places = set b.places c.args.qid f }) c.args.qid c.number.result queue.count queue.class (search rules) c.requires c.number.ensures.number)
