@@ -30,7 +30,7 @@ impl Controller {
         if !sq.ring.write_to(slot) {
             return false;
         }
-        self.put_sq(qid, sq);
+        self.put_ring(qid, sq.ring);
         self.rung = with_queue(self.rung, qid, true);
         true
     }

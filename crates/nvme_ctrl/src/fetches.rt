@@ -42,13 +42,16 @@ impl Controller {
         ensures yes { result ≡ true → IsFetchable self.now qid }
         ensures no { IsFetchable self.now qid → result ≡ true }
     {
+        if usize::from(qid) >= MAX_REGIONS {
+            return false;
+        }
         let sq = self.sq(qid);
         if sq.closing != 0 || sq.ring.filled() == 0 || self.free.len == 0 {
             return false;
         }
-        let waiting = sq.window.len.saturating_sub(self.picked_in(qid));
-        let held = waiting.saturating_add(sq.unposted);
-        held < self.depth(qid) && waiting < window_of(sq.ring.slots)
+        let waiting = u32::from(sq.window.len.saturating_sub(self.picked_in(qid)));
+        waiting + u32::from(sq.unposted) < u32::from(self.depth(qid))
+            && waiting < u32::from(window_of(sq.ring.slots))
     }
 
     /// The slot of the ring of an open submission queue whose entry is to be read next. None where the queue isn't open,
@@ -101,7 +104,7 @@ impl Controller {
         let held = sq.held == 1;
         sq.ring.read();
         sq.window.push(slots, tag);
-        self.put_sq(qid, sq);
+        self.put_fetched(qid, sq.ring, sq.window);
         self.rung = with_queue(self.rung, qid, sq.ring.head != sq.ring.tail);
         came(&mut self.board, qid, held);
         true

@@ -75,9 +75,9 @@ impl Controller {
         ensures stands { (rules : FrontRules) (late : Bool) (notes : Notes) → Stands rules late notes self.old slots.now → Stands rules late (picked_notes notes pick) self.new slots.now }
     {
         self.board.keep(pick);
-        let mut sq = self.sq(pick.qid);
-        sq.unposted = sq.unposted.saturating_add(pick.n);
-        self.put_sq(pick.qid, sq);
+        let sq = self.sq(pick.qid);
+        let unposted = sq.unposted.saturating_add(pick.n);
+        self.put_unposted(pick.qid, unposted);
         self.outstanding = self.outstanding.saturating_add(pick.n);
         self.picked = pick.n;
         self.picked_qid = pick.qid;

@@ -76,9 +76,8 @@ impl Controller {
         ensures { self.new ≡ counted_post self.old command.now }
     {
         let sqid = u16::from(command.sqid);
-        let mut sq = self.sq(sqid);
-        sq.unposted = sq.unposted.saturating_sub(1);
-        self.put_sq(sqid, sq);
+        let sq = self.sq(sqid);
+        self.put_unposted(sqid, sq.unposted.saturating_sub(1));
         if command.state != DROPPED {
             self.outstanding = self.outstanding.saturating_sub(1);
         }

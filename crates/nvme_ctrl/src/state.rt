@@ -170,6 +170,41 @@ impl Controller {
         }
     }
 
+    /// Puts the ring and the window of a submission queue in their places.
+    #[inline(always)]
+    pub(crate) fn put_fetched(&mut self, qid: u16, ring: Ring, window: Chain)
+        ensures { self.new ≡ record self.old { sqs = slice_set self.old.sqs qid (record (sq_at self.old.sqs qid) { ring = ring; window = window }) } }
+    {
+        let qid = usize::from(qid);
+        if qid < MAX_REGIONS {
+            let sq = &mut self.sqs[qid];
+            sq.ring = ring;
+            sq.window = window;
+        }
+    }
+
+    /// Puts the number of a submission queue's commands that have no completion posted in its place.
+    #[inline(always)]
+    pub(crate) fn put_unposted(&mut self, qid: u16, unposted: u16)
+        ensures { self.new ≡ record self.old { sqs = slice_set self.old.sqs qid (record (sq_at self.old.sqs qid) { unposted = unposted }) } }
+    {
+        let qid = usize::from(qid);
+        if qid < MAX_REGIONS {
+            self.sqs[qid].unposted = unposted;
+        }
+    }
+
+    /// Puts the ring of a submission queue in its place.
+    #[inline(always)]
+    pub(crate) fn put_ring(&mut self, qid: u16, ring: Ring)
+        ensures { self.new ≡ record self.old { sqs = slice_set self.old.sqs qid (record (sq_at self.old.sqs qid) { ring = ring }) } }
+    {
+        let qid = usize::from(qid);
+        if qid < MAX_REGIONS {
+            self.sqs[qid].ring = ring;
+        }
+    }
+
     /// A submission queue is closing from now on, by the Delete in this slot.
     pub(crate) fn put_closing(&mut self, qid: u16, tag: u16)
         ensures { self.new ≡ record self.old { sqs = slice_set self.old.sqs qid (record (sq_at self.old.sqs qid) { tag = tag; closing = 1 }) } }

@@ -73,11 +73,11 @@ fetches c rules late notes s =
           (subst (λ (state : SqState). (xs : List ℕ) → IsChain c.put_item.new.slots state.window xs → SameLinks xs c.put_item.new.slots pool) c.sq-sq.ensures c.push.ensures.links);
       came = subst (λ (board : BoardFields). IfSome (queue_at (board_of board).queues c.args.qid) (λ (queue : OpenQueue). board_of c.came.new.board ≡ record (board_of board) {
         queues = slice_set (board_of board).queues c.args.qid (Some (record queue { count = if c.sq-sq.result.held == 1 then queue.count else queue.count + 1 }));
-      })) (ap (λ (self : Controller). self.board) c.put_sq.ensures)
+      })) (ap (λ (self : Controller). self.board) c.put_fetched.ensures)
           (c.came.ensures.came (subst (λ (board : BoardFields). IsSomeAnd (queue_at (board_of board).queues c.args.qid) (λ (queue : OpenQueue). queue.count < highest_count))
-          (sym (ap (λ (self : Controller). self.board) c.put_sq.ensures))
+          (sym (ap (λ (self : Controller). self.board) c.put_fetched.ensures))
           (may_come rules late notes c.args.self.now c.args.slots.now s c.args.qid it.entry it.can)));
-      arbiter = subst (λ (board : BoardFields). c.came.new.board.arbiter ≡ board.arbiter) (ap (λ (self : Controller). self.board) c.put_sq.ensures) c.came.ensures.arbiter;
+      arbiter = subst (λ (board : BoardFields). c.came.new.board.arbiter ≡ board.arbiter) (ap (λ (self : Controller). self.board) c.put_fetched.ensures) c.came.ensures.arbiter;
     }
 
 pub returns-clause-stands : goal.returns-clause-stands
@@ -85,13 +85,10 @@ returns-clause-stands c rules late notes s told =
     let self : Controller = c.args.self.now in
     let it = told_fetchable rules late notes self c.args.slots.now s c.args.qid (c.is_fetchable.ensures.yes c.if-not-is_fetchable.false) in
     let rest : Bool = not (c.read.new.self.head == c.read.new.self.tail) in
-    let rung : c.with_queue-self.result ≡ with_queue self.rung c.args.qid rest = c.with_queue-self.ensures ∙ ap (λ (after : Controller). with_queue after.rung c.args.qid rest) c.put_sq.ensures in
-    subst (λ (after : Controller). HasFetched rules late notes c.args.qid c.args.entry.now c.args.cookie (record after { board = c.came.new.board }) c.push.new.slots) (sym (λ j. record (c.put_sq.ensures j) { rung = rung j }))
-    (subst (λ (state : SqState). HasFetched rules late notes c.args.qid c.args.entry.now c.args.cookie
-    (record self { sqs = slice_set self.sqs c.args.qid (fetched_state state c.push.new.self c.read.new.self); free = c.pop.new.self; board = c.came.new.board; rung = with_queue self.rung c.args.qid rest }) c.push.new.slots)
-    (sym c.sq-sq.ensures)
+    let rung : c.with_queue-self.result ≡ with_queue self.rung c.args.qid rest = c.with_queue-self.ensures ∙ ap (λ (after : Controller). with_queue after.rung c.args.qid rest) c.put_fetched.ensures in
+    subst (λ (after : Controller). HasFetched rules late notes c.args.qid c.args.entry.now c.args.cookie (record after { board = c.came.new.board }) c.push.new.slots) (sym (λ j. record (c.put_fetched.ensures j) { rung = rung j }))
     (has_fetched rules late notes self c.args.slots.now s c.args.qid it.entry it.can c.args.entry.now c.args.cookie c.in-Some.tag (waiting c) c.pop.new.self
-    c.push.new.self c.read.new.self c.came.new.board c.push.new.slots (fetches c rules late notes s)))
+    c.push.new.self c.read.new.self c.came.new.board c.push.new.slots (fetches c rules late notes s))
 
 pub returns-clause-front : goal.returns-clause-front
 returns-clause-front c front =

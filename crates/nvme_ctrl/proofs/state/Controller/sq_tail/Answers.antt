@@ -39,14 +39,13 @@ returns-clause-stands c rules late notes slots s rang =
     let is_slot = subst (λ (state : SqState). c.write_to.result ≡ true → c.args.slot < state.ring.slots) c.sq-sq.ensures w.slot in
     let l = ring_lives rules late notes self slots s c.args.qid (let below = is_slot c.if-not-write_to.false in omega (arith, below)) in
     let here = unclosing_is_open rules late notes self slots s c.args.qid l.region l.life (ap (λ (state : SqState). state.closing) (sym c.sq-sq.ensures) ∙ c.if-sq-ne0.false) in
-    let rung : c.with_queue-self.result ≡ with_queue self.rung c.args.qid true = c.with_queue-self.ensures ∙ ap (λ (after : Controller). with_queue after.rung c.args.qid true) c.put_sq.ensures in
-    subst (λ (after : Controller). TailRung rules late notes c.args.qid c.args.slot after slots) (sym (λ j. record (c.put_sq.ensures j) { rung = rung j }))
-    (subst (λ (state : SqState). TailRung rules late notes c.args.qid c.args.slot (record self { sqs = slice_set self.sqs c.args.qid (with_ring state new); rung = with_queue self.rung c.args.qid true }) slots) (sym c.sq-sq.ensures)
+    let rung : c.with_queue-self.result ≡ with_queue self.rung c.args.qid true = c.with_queue-self.ensures ∙ ap (λ (after : Controller). with_queue after.rung c.args.qid true) c.put_ring.ensures in
+    subst (λ (after : Controller). TailRung rules late notes c.args.qid c.args.slot after slots) (sym (λ j. record (c.put_ring.ensures j) { rung = rung j }))
     (tail_stands rules late notes self slots s c.args.qid c.args.slot here.entry here.in_table here.opened c.write_to.result
     (subst (λ (state : SqState). TailAnswer state.ring c.args.slot c.write_to.result) c.sq-sq.ensures w.answer) is_slot
     new c.if-not-write_to.false
     (subst (λ (state : SqState). TailCounts state.ring c.args.slot c.write_to.result new) c.sq-sq.ensures w.counts)
-    (subst (λ (state : SqState). new.slots ≡ state.ring.slots) c.sq-sq.ensures w.slots)))
+    (subst (λ (state : SqState). new.slots ≡ state.ring.slots) c.sq-sq.ensures w.slots))
 
 pub returns-clause-front : goal.returns-clause-front
 returns-clause-front c slots front =
