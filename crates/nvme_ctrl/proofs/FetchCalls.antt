@@ -36,7 +36,7 @@ use Rattle.nvme_slots.specs.declared.slot.Slot.{Slot}
 use Rattle.nvme_ctrl.specs.declared.state.SqState.{SqState}
 use Rattle.nvme_ctrl.specs.declared.state.Controller.{Controller}
 use Rattle.nvme_ctrl_content.specs.Content.{Candidate, SqContent, Content}
-use Rattle.nvme_ctrl.specs.inside.Fetching.{IsFetchable, filled, waiting_in}
+use Rattle.nvme_ctrl.specs.inside.Fetching.{IsFetchable, waiting_in}
 use Rattle.nvme_ctrl.specs.kept.Kept.{Item, Items, HasNumbers, HasItems, HoldsDoorbells, HoldsTags, StandsAt, IsWaitingIn, IsOutIn, IsUnanswered, HasEntry, is_free, tags_of, ready_tags, places_of, candidate_of, picked_region, picked_of, untaken, ReadyItem, IsReadyIn, IsCookie, HasCookie, HasReadyCookie, HoldsCookies, ready_state, IsSq, shown_in}
 use Rattle.nvme_slots.specs.Pool.{slot_at, item_at, put_item, IsNew, AreApart, IsChain, SameItems, SameLinks}
 use Rattle.nvme_ctrl_content.specs.Standing.{Holds, counted_on, on_board}
@@ -54,7 +54,6 @@ use Rattle.nvme_ctrl.proofs.SlotItems.{out_stays, all_waiting_stay, all_ready_st
 use Rattle.nvme_ctrl.proofs.SlotStates.{window-states, window-queues, ready-states, apart-by}
 use Rattle.nvme_ctrl_log.proofs.OutTags.{still_not_out-logged}
 use Rattle.nvme_ctrl_content.proofs.Standing.{holds-fetch}
-use Rattle.nvme_slots.proofs.Turns.{filled-is}
 use Rattle.nvme_ctrl_content.proofs.DeletingRegions.{put-same, put-other}
 use Rattle.nvme_ctrl.proofs.PendingDeletions.{deletions_stay, deletions_kept}
 use Rattle.nvme_ctrl.specs.kept.QueueSets.{with_queue}
@@ -108,7 +107,7 @@ pub record CanBeFetched (c : Controller) (t : QueueTable) (qid : ℕ) (e : SqEnt
   pub in_table : t.sq qid ≡ Some e
   pub not_closing : e.closing ≡ false
   pub some_free : c.free.len ≢ 0
-  pub some_submitted : filled (sq_at c.sqs qid).ring ≢ 0
+  pub some_submitted : (sq_at c.sqs qid).ring.head ≢ (sq_at c.sqs qid).ring.tail
   pub in_depth : waiting_in c qid + (sq_at c.sqs qid).unposted < depth_of c qid
   pub room : waiting_in c qid < window_of (sq_at c.sqs qid).ring.slots
 
@@ -120,7 +119,9 @@ pub record IsToldFetchable (c : Controller) (t : QueueTable) (qid : ℕ) : Type 
 pub told_fetchable : (rules : FrontRules) (late : Bool) (notes : Notes) (c : Controller) (slots : List Slot) (s : StandsAt rules late notes c slots) (qid : ℕ) → IsFetchable c qid → IsToldFetchable c s.content.table qid
 told_fetchable rules late notes c slots s qid can = by (s.content.sq_life qid) refl where
   by : (o : Option ℕ) → s.content.sq_life qid ≡ o → IsToldFetchable c s.content.table qid
-  by None none = absurd (can.some_submitted (ap (λ (state : SqState). filled state.ring) (s.numbers.sqs.none qid none)))
+  by None none =
+      let state = s.numbers.sqs.none qid none in
+      absurd (can.some_submitted (ap (λ (state : SqState). state.ring.head) state ∙ sym (ap (λ (state : SqState). state.ring.tail) state)))
   by (Some r) life =
       let it = unclosing_is_open rules late notes c slots s qid r life can.not_closing in
       record {
@@ -159,9 +160,10 @@ module _ (rules : FrontRules) (late : Bool) (notes : Notes) (c : Controller) (sl
 
     pub more_submitted : length (fetched (logged notes) e.region) < submitted rules notes e.region
     more_submitted =
-        let filled_up = filled-is (sq_at c.sqs qid).ring (length (fetched (logged notes) e.region)) (submitted rules notes e.region) fetch_counts in
-        let more = can.some_submitted in
-        omega (arith, filled_up, more)
+        elim (cases_eq (length (fetched (logged notes) e.region)) (submitted rules notes e.region)) [
+          | inl same ↦ absurd (can.some_submitted (fetch_counts.head_is ∙ ap (λ (n : ℕ). n % (sq_at c.sqs qid).ring.slots) same ∙ sym fetch_counts.tail_is))
+          | inr other ↦ let order = fetch_counts.order in omega (arith, order, other)
+        ]
 
     pub may_fetch : MayFetch rules notes (depth_of c qid) (length slots) qid (sq_at c.sqs qid).ring.head
     may_fetch = record {

@@ -1,13 +1,15 @@
 -- What may be fetched by the log is told: the controller sees that it may.
 use Rattle.std.proofs.Common.{◌≡◌, ◌≢◌, ℕ, ◌%◌, Bool, List, [], ◌∷◌, length, Option, Some, None, sym, ap, ◌∙◌, arith}
+use Rattle.std.proofs.lemmas.Bool.{le-leb}
 use Rattle.nvme_log.specs.Rules.{FrontRules}
 use Rattle.nvme_log.specs.Places.{fetched}
 use Rattle.nvme_ctrl_log.specs.Notes.{Notes, logged}
-use Rattle.nvme_ctrl_log.specs.Doorbells.{submitted}
+use Rattle.nvme_ctrl_log.specs.Doorbells.{gap, submitted}
 use Rattle.nvme_slots.specs.Rings.{HasCounts}
 use Rattle.nvme_ctrl.specs.Calls.{depth_of}
 use Rattle.nvme_ctrl_log.specs.Calls.{MayFetch}
 use Rattle.nvme_slots.specs.declared.chain.Chain.{Chain}
+use Rattle.nvme_slots.specs.declared.ring.Ring.{Ring}
 use Rattle.nvme_slots.specs.declared.slot.Slot.{Slot}
 use Rattle.nvme_ctrl.specs.declared.state.Controller.{Controller}
 use Rattle.nvme_ctrl.specs.inside.Fetching.{IsFetchable}
@@ -17,6 +19,10 @@ use Rattle.nvme_ctrl.specs.kept.State.{sq_at}
 use Rattle.nvme_ctrl.proofs.DoorbellCalls.{open_unclosing, sq_lives, slots_are}
 use Rattle.nvme_ctrl.proofs.FetchCalls.{waits}
 use Rattle.nvme_slots.proofs.Turns.{filled-is}
+
+-- nothing is in a ring whose head is at its tail
+drained : (ring : Ring) → ring.head ≡ ring.tail → gap ring.slots ring.head ring.tail ≡ 0
+drained ring same = rw (le-leb ring.head ring.tail (omega (arith, same))) (omega (arith, same))
 
 module _ (rules : FrontRules) (late : Bool) (notes : Notes) (c : Controller) (slots : List Slot) (s : StandsAt rules late notes c slots)
     (qid slot : ℕ) (m : MayFetch rules notes (depth_of c qid) (length slots) qid slot)
@@ -34,8 +40,8 @@ module _ (rules : FrontRules) (late : Bool) (notes : Notes) (c : Controller) (sl
         record {
           not_closing = open_unclosing rules late notes c slots s qid m.queue m.is_open;
           some_free = λ zero. (let count = s.tags.free_count in let some = m.some_free in omega (arith, zero, count, some));
-          some_submitted = λ zero. (let all = filled-is (sq_at c.sqs qid).ring (length (fetched (logged notes) r)) (submitted rules notes r) counted in
-              let more = m.submitted in omega (arith, all, zero, more));
+          some_submitted = λ same. (let all = filled-is (sq_at c.sqs qid).ring (length (fetched (logged notes) r)) (submitted rules notes r) counted in
+              let none = drained (sq_at c.sqs qid).ring same in let more = m.submitted in omega (arith, all, none, more));
           in_depth = (let w = waits rules late notes c slots s qid r told_life in let u = (s.numbers.sqs.each qid r told_life).unposted in let all = s.holds.counts.unposted r in let room = m.in_depth in omega (arith, w, u, all, room));
           room = rw (← waits rules late notes c slots s qid r told_life, slots_are rules late notes c slots s qid r told_life) m.has_room;
         }

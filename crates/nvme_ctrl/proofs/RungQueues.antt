@@ -1,26 +1,20 @@
 -- No entry may be fetched of a queue outside the set of those that may have some.
-use Rattle.std.proofs.Common.{◌≡◌, ℕ, ◌<◌, ◌≤◌, inl, inr, Bool, false, List, arith}
-use Rattle.std.proofs.lemmas.Bool.{le-leb, cases_lt}
+use Rattle.std.proofs.Common.{◌≡◌, ℕ, ◌<◌, ◌≤◌, inl, inr, Bool, false, List}
+use Rattle.std.proofs.lemmas.Bool.{cases_lt}
 use Rattle.nvme_log.specs.Rules.{FrontRules}
 use Rattle.nvme_ctrl_log.specs.Notes.{Notes}
 use Rattle.nvme_ctrl.specs.NextQueue.{HasFetch, turns_before}
-use Rattle.nvme_slots.specs.declared.ring.Ring.{Ring}
 use Rattle.nvme_slots.specs.declared.slot.Slot.{Slot}
 use Rattle.nvme_ctrl.specs.declared.state.Controller.{Controller}
-use Rattle.nvme_ctrl.specs.inside.Fetching.{filled}
 use Rattle.nvme_ctrl.specs.inside.Turns.{IsNextTurn}
 use Rattle.nvme_ctrl.specs.kept.Kept.{StandsAt}
 use Rattle.nvme_ctrl.specs.kept.QueueSets.{has_queue}
-use Rattle.nvme_ctrl.specs.kept.State.{sq_at}
 use Rattle.nvme_ctrl.proofs.FetchTold.{is_fetchable}
-
-drained : (ring : Ring) → ring.head ≡ ring.tail → filled ring ≡ 0
-drained ring same = rw (le-leb ring.head ring.tail (omega (arith, same))) (omega (arith, same))
 
 pub unrung : (rules : FrontRules) (late : Bool) (notes : Notes) (c : Controller) (slots : List Slot) → StandsAt rules late notes c slots
     → (p : ℕ) → p ≤ 64 → has_queue c.rung p ≡ false → HasFetch rules notes c slots p → ⊥
 unrung rules late notes c slots s p few out has =
-    (is_fetchable rules late notes c slots s p has.0 has.1).some_submitted (drained (sq_at c.sqs p).ring (s.numbers.sqs.rung p few out))
+    (is_fetchable rules late notes c slots s p has.0 has.1).some_submitted (s.numbers.sqs.rung p few out)
 
 -- where no queue has work whose turn comes before one, none has before the next of the set from there on
 pub none_between : (rules : FrontRules) (late : Bool) (notes : Notes) (c : Controller) (slots : List Slot) → StandsAt rules late notes c slots

@@ -46,7 +46,7 @@ impl Controller {
             return false;
         }
         let sq = self.sq(qid);
-        if sq.closing != 0 || sq.ring.filled() == 0 || self.free.len == 0 {
+        if sq.closing != 0 || sq.ring.head == sq.ring.tail || self.free.len == 0 {
             return false;
         }
         let waiting = u32::from(sq.window.len.saturating_sub(self.picked_in(qid)));

@@ -2,14 +2,8 @@
 use Rattle.std.specs.Prelude.{◌≡◌, ◌≢◌, ℕ, ◌+◌, ◌-◌, ◌<◌}
 use Rattle.nvme_log.specs.Limits.{window_of}
 use Rattle.nvme_ctrl.specs.Calls.{depth_of}
-use Rattle.nvme_ctrl_log.specs.Doorbells.{gap}
-use Rattle.nvme_slots.specs.declared.ring.Ring.{Ring}
 use Rattle.nvme_ctrl.specs.declared.state.Controller.{Controller}
 use Rattle.nvme_ctrl.specs.kept.State.{sq_at, picked_in}
-
--- how many entries of a ring were submitted and not fetched
-abbrev pub filled : Ring → ℕ
-filled ring = gap ring.slots ring.head ring.tail
 
 -- how many commands of a queue wait
 abbrev pub waiting_in : Controller → ℕ → ℕ
@@ -19,6 +13,6 @@ waiting_in c q = (sq_at c.sqs q).window.len - picked_in c q
 pub record IsFetchable (c : Controller) (qid : ℕ) : Type 0 where
   pub not_closing : (sq_at c.sqs qid).closing ≡ 0
   pub some_free : c.free.len ≢ 0
-  pub some_submitted : filled (sq_at c.sqs qid).ring ≢ 0
+  pub some_submitted : (sq_at c.sqs qid).ring.head ≢ (sq_at c.sqs qid).ring.tail
   pub in_depth : waiting_in c qid + (sq_at c.sqs qid).unposted < depth_of c qid
   pub room : waiting_in c qid < window_of (sq_at c.sqs qid).ring.slots
