@@ -1,6 +1,6 @@
 -- The open queues of a board as they are seen, place by place, and what is found of them by the masks.
 use Rattle.std.proofs.Common.{◌≡◌, ◌∙◌, ℕ, zero, suc, ◌+◌, ◌-◌, ◌*◌, ◌/◌, ◌%◌, ◌^◌, ◌<◌, ◌≤◌, ◌==◌, inl, inr, ◌&&◌, min, Bool, true, false, cond, nat_lt, bit_or, List, [], ◌∷◌, ◌++◌, length, set, take, find, refl, sym, ap, subst, arith}
-use Rattle.std.specs.Prelude.{◌↔◌, if◌then◌else◌, filter, Option, Some, None, All, MatchOption, is_some, option_map, replicate, slice_index_or}
+use Rattle.std.specs.Prelude.{◌↔◌, if◌then◌else◌, filter, Option, Some, None, All, MatchOption, IsSomeAnd, is_some, option_map, replicate, slice_index_or}
 use Rattle.std.specs.Int.{bit_at, w64, trailing_zeros}
 use Rattle.std.proofs.lemmas.Bool.{lt-ltb, le-ltb, cases_eq, cases_lt, cond-true, cond-false, and_from, and_right, eq-eqb, ne_eqb}
 use Rattle.std.proofs.lemmas.List.{append-nil, take_all, get_or-set_same, get_or-set_other, get_or_past, length-set, get_or-replicate, length-replicate, ext_get_or}
@@ -158,6 +158,42 @@ pub none-past : (b : QueuesFields) (q : ℕ) → queue_limit ≤ q → queue_at 
 none-past b q g = get_or_past (slots_in b) q None (let n = slots-length b in omega arith)
 
 -- ---- each queue can be seen
+-- the number of a place with a class
+pub number-of : (q n : ℕ) (class : Class) → class_under q n ≡ Some class → n ≡ number_of_class class + 1
+number-of q n class h =
+    elim (cases_eq q 0) [
+      | inl z ↦
+          let h0 : (if n == 1 then Some Admin else None) ≡ Some class = rw (eq-eqb q 0 z) at h in
+          elim (cases_eq n 1) [
+            | inl e ↦ let is : Some Admin ≡ Some class = rw (eq-eqb n 1 e) at h0 in of-class Admin e is
+            | inr d ↦ let is : None ≡ Some class = rw (ne_eqb n 1 d) at h0 in absurd (none-some class is)
+          ]
+      | inr d ↦
+          let h1 : (if n == 2 then Some Urgent else (if n == 3 then Some High else (if n == 4 then Some Medium else (if n == 5 then Some Low else None)))) ≡ Some class = rw (ne_eqb q 0 d) at h in
+          elim (cases_eq n 2) [
+            | inl x ↦ let is : Some Urgent ≡ Some class = rw (eq-eqb n 2 x) at h1 in of-class Urgent x is
+            | inr a ↦
+                let h2 : (if n == 3 then Some High else (if n == 4 then Some Medium else (if n == 5 then Some Low else None))) ≡ Some class = rw (ne_eqb n 2 a) at h1 in
+                elim (cases_eq n 3) [
+                  | inl x ↦ let is : Some High ≡ Some class = rw (eq-eqb n 3 x) at h2 in of-class High x is
+                  | inr b ↦
+                      let h3 : (if n == 4 then Some Medium else (if n == 5 then Some Low else None)) ≡ Some class = rw (ne_eqb n 3 b) at h2 in
+                      elim (cases_eq n 4) [
+                        | inl x ↦ let is : Some Medium ≡ Some class = rw (eq-eqb n 4 x) at h3 in of-class Medium x is
+                        | inr f ↦
+                            let h4 : (if n == 5 then Some Low else None) ≡ Some class = rw (ne_eqb n 4 f) at h3 in
+                            elim (cases_eq n 5) [
+                              | inl x ↦ let is : Some Low ≡ Some class = rw (eq-eqb n 5 x) at h4 in of-class Low x is
+                              | inr g ↦ let is : None ≡ Some class = rw (ne_eqb n 5 g) at h4 in absurd (none-some class is)
+                            ]
+                      ]
+                ]
+          ]
+    ]
+  where
+    of-class : (c : Class) → n ≡ number_of_class c + 1 → Some c ≡ Some class → n ≡ number_of_class class + 1
+    of-class c e is = let same : c ≡ class = cc in subst (λ k. n ≡ number_of_class k + 1) same e
+
 class-fits : (q n : ℕ) (class : Class) → class_under q n ≡ Some class → (class ≡ Admin) ↔ (q ≡ 0)
 class-fits q n class h =
     elim (cases_eq q 0) [
@@ -167,32 +203,15 @@ class-fits q n class h =
             | inl e ↦ let is : Some Admin ≡ Some class = rw (eq-eqb n 1 e) at h0 in let same : class ≡ Admin = cc in (λ _. z, λ _. same)
             | inr d ↦ let is : None ≡ Some class = rw (ne_eqb n 1 d) at h0 in absurd (none-some class is)
           ]
-      | inr d ↦
-          let h1 : (if n == 2 then Some Urgent else (if n == 3 then Some High else (if n == 4 then Some Medium else (if n == 5 then Some Low else None)))) ≡ Some class = rw (ne_eqb q 0 d) at h in
-          (λ e. absurd (no-admin n class h1 e), λ e. absurd (d e))
+      | inr d ↦ (
+        λ e.
+            let one : n ≡ 1 = number-of q n class h ∙ ap (λ k. number_of_class k + 1) e in
+            let h1 : class_under q 1 ≡ Some class = subst (λ m. class_under q m ≡ Some class) one h in
+            let is : None ≡ Some class = rw (ne_eqb q 0 d) at h1 in
+            absurd (none-some class is),
+        λ e. absurd (d e),
+      )
     ]
-  where
-    no-admin : (n : ℕ) (class : Class) → (if n == 2 then Some Urgent else (if n == 3 then Some High else (if n == 4 then Some Medium else (if n == 5 then Some Low else None)))) ≡ Some class → class ≡ Admin → ⊥
-    no-admin n class h e =
-        elim (cases_eq n 2) [
-          | inl x ↦ let is : Some Urgent ≡ Some class = rw (eq-eqb n 2 x) at h in cc
-          | inr a ↦
-              let h2 : (if n == 3 then Some High else (if n == 4 then Some Medium else (if n == 5 then Some Low else None))) ≡ Some class = rw (ne_eqb n 2 a) at h in
-              elim (cases_eq n 3) [
-                | inl x ↦ let is : Some High ≡ Some class = rw (eq-eqb n 3 x) at h2 in cc
-                | inr b ↦
-                    let h3 : (if n == 4 then Some Medium else (if n == 5 then Some Low else None)) ≡ Some class = rw (ne_eqb n 3 b) at h2 in
-                    elim (cases_eq n 4) [
-                      | inl x ↦ let is : Some Medium ≡ Some class = rw (eq-eqb n 4 x) at h3 in cc
-                      | inr d ↦
-                          let h4 : (if n == 5 then Some Low else None) ≡ Some class = rw (ne_eqb n 4 d) at h3 in
-                          elim (cases_eq n 5) [
-                            | inl x ↦ let is : Some Low ≡ Some class = rw (eq-eqb n 5 x) at h4 in cc
-                            | inr f ↦ let is : None ≡ Some class = rw (ne_eqb n 5 f) at h4 in absurd (none-some class is)
-                          ]
-                    ]
-              ]
-        ]
 
 waiting-few : (b : QueuesFields) (q count : ℕ) (class : Class) → waiting_in b q count class ≤ highest_count
 waiting-few b q count class = elim (is_marked b q class) as (λ m. (if m then min count highest_count else 0) ≤ highest_count) [ true ↦ omega arith | false ↦ omega arith ]
@@ -213,6 +232,20 @@ fits b q = elim (cases_lt q queue_limit) [
 -- so the queues of a board are an observation, whatever its numbers are
 pub observed : (b : QueuesFields) → IsObservation (seen_of (slots_in b))
 observed b = observed_of (slots_in b) (fits b)
+
+-- the class of the place of an open queue
+open-under : (b : QueuesFields) (q count : ℕ) (o : Option Class) (there : OpenQueue) → open_in b q count o ≡ Some there → o ≡ Some there.class
+open-under b q count None there h = absurd (none-some there h)
+open-under b q count (Some c) there h = ap (option_map (λ x. x.class)) h
+
+pub class-of-place : (b : QueuesFields) (q : ℕ) (class : Class) → q < queue_limit → IsSomeAnd (queue_at (slots_in b) q) (λ there. there.class ≡ class)
+    → class_under q (slice_index_or b.places q closed).class ≡ Some class
+class-of-place b q class l h = by_open (queue_at (slots_in b) q) refl h
+  where
+    by_open : (o : Option OpenQueue) → queue_at (slots_in b) q ≡ o → IsSomeAnd o (λ there. there.class ≡ class) → class_under q (slice_index_or b.places q closed).class ≡ Some class
+    by_open None e h = absurd h
+    by_open (Some there) e h =
+        open-under b q (slice_index_or b.places q closed).count (class_under q (slice_index_or b.places q closed).class) there (sym (slot-at b q l) ∙ e) ∙ ap Some h
 
 -- ---- a place is written
 bit-other : (mask bit i : ℕ) (on : Bool) → bit < 64 → i < 64 → (i ≡ bit → ⊥) → bit_at (with_bit mask bit on) i ≡ bit_at mask i

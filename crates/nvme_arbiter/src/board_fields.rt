@@ -99,7 +99,7 @@ impl BoardFields {
                 class: queue.class,
                 count: queue.count + n,
             };
-            self.queues.put(qid, queue);
+            self.queues.put_count(qid, queue);
         }
     }
 

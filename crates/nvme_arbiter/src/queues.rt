@@ -73,11 +73,11 @@ pub fn class_of(found: Option<OpenQueue>) -> Option<Class>
 }
 
 impl QueuesFields {
-    ghost use Rattle.std.specs.Prelude.{◌≡◌, ◌≤◌, IfNone, IfSome, MatchOption, Some, None, length, replicate, slice_set, option_map, false};
+    ghost use Rattle.std.specs.Prelude.{◌≡◌, ◌≤◌, IfNone, IfSome, IsSome, IsSomeAnd, MatchOption, Some, None, length, replicate, slice_set, option_map, false};
     ghost use Rattle.nvme_arbiter.specs.Limits.{highest_qid, queue_limit};
     ghost use Rattle.nvme_arbiter.specs.Observation.{IsObservation, IsSeen, class_in, is_wanted};
     ghost use Rattle.nvme_arbiter.specs.Queues.{seen_of, seen_as, queue_at, fewer, FitsUnder};
-    ghost use Rattle.nvme_arbiter.specs.Layout.{mask_in, is_marked, slot_in, slots_in};
+    ghost use Rattle.nvme_arbiter.specs.Layout.{class_under, mask_in, is_marked, slot_in, slots_in};
     ghost use Rattle.nvme_arbiter.specs.inside.Masks.{IsFirstFrom, IsWantedAt, NoneFrom, mask_for, marked_with, passes, with_mask};
 
     /// No queue is open.
@@ -168,6 +168,19 @@ impl QueuesFields {
         }
     }
 
+    // Sets or clears the bit of a queue in the mask of the class that has this number at its place.
+    #[inline(always)]
+    fn mark_number(&mut self, qid: u16, number: u16, on: bool)
+        requires few { qid ≤ highest_qid }
+        requires class { IsSome (class_under qid number) }
+        ensures { IfSome (class_under qid number) (λ class. self.new ≡ marked_with self.old qid class on) }
+    {
+        if qid > 0 {
+            let place = usize::from(number) - 2;
+            self.ready[place] = with_bit(self.ready[place], qid - 1, on);
+        }
+    }
+
     // Whether a command may wait in an open queue.
     #[inline(always)]
     fn is_marked(&self, qid: u16, class: Class) -> bool
@@ -226,6 +239,24 @@ impl QueuesFields {
         self.are_observed();
     }
 
+    /// Puts how many commands of an open queue wait. It keeps the number of its class.
+    #[inline(always)]
+    pub fn put_count(&mut self, qid: u16, queue: OpenQueue)
+        requires there { IsSomeAnd (queue_at (slots_in self.old) qid) (λ there. there.class ≡ queue.class) }
+        requires seen { IsSeen (seen_as qid queue) }
+        ensures is_put { slots_in self.new ≡ slice_set (slots_in self.old) qid (Some queue) }
+        ensures observed { IsObservation (seen_of (slots_in self.new)) }
+        ensures size { length (slots_in self.new) ≡ queue_limit }
+    {
+        let number = self.places[usize::from(qid)].class;
+        self.places[usize::from(qid)] = QueueFields {
+            class: number,
+            count: queue.count,
+        };
+        self.mark_number(qid, number, queue.count > 0);
+        self.are_observed();
+    }
+
     /// Closes the queue of an identifier, of this class where it is open.
     pub fn close(&mut self, qid: u16, class: Class)
         requires { qid ≤ highest_qid }
@@ -264,7 +295,7 @@ impl QueuesFields {
                 class: queue.class,
                 count: queue.count.saturating_sub(n),
             };
-            self.put(qid, queue);
+            self.put_count(qid, queue);
         }
     }
 
