@@ -1,6 +1,7 @@
 # SPDX-License-Identifier: MIT
 """What the tests of the built program share: counted rows, and small libraries that are loaded before it."""
 import os
+import re
 import shutil
 import subprocess
 import sys
@@ -12,6 +13,8 @@ TESTS = os.path.dirname(os.path.realpath(__file__))
 TOP = os.path.dirname(TESTS)
 # A run that takes longer, in seconds, counts as hung.
 LONGEST = 120
+# What ends the version of a program of which nothing is proved.
+UNPROVED = "-unproved"
 
 # What a run leaves.
 Left = namedtuple("Left", "status output errors")
@@ -22,7 +25,7 @@ class Rows:
 
     def __init__(self, name):
         self.name, self.passed, self.failed = name, 0, 0
-        self.folder, self.found = tempfile.mkdtemp(), None
+        self.folder, self.found, self.is_unproved = tempfile.mkdtemp(), None, False
 
     def give_up(self, why):
         print(f"{self.name}: {why}", file=sys.stderr)
@@ -44,17 +47,31 @@ class Rows:
         sys.exit(self.failed != 0)
 
     def program(self, crate, words):
-        """The program of a crate: the first word where there is one, otherwise built first."""
+        """The program of a crate: the first word where there is one, otherwise built first, with UNPROVED=1 without proofs."""
+        is_unproved = bool(os.environ.get("UNPROVED")) and not words
         if words:
             found = os.path.abspath(words[0])
         else:
-            found = f"{TOP}/crates/{crate}/out/{crate}"
-            if subprocess.run([f"{TOP}/tools/build", crate]).returncode:
+            found = f"{TOP}/crates/{crate}/out/{'unproved/' * is_unproved}{crate}"
+            if subprocess.run([f"{TOP}/tools/build", *["--unproved"] * is_unproved, crate]).returncode:
                 self.give_up("the program did not build")
         if not os.access(found, os.X_OK):
             self.give_up(f"there is no program {found}")
         self.found = found
+        # (one that is given may be either)
+        self.is_unproved = is_unproved or bool(words) and run([found, "--version"]).output.endswith(f"{UNPROVED}\n".encode())
         return found
+
+    def version(self):
+        """The version that the program has to tell: that of the C library's header."""
+        with open(f"{TOP}/capi/nvmearb.h", encoding="utf-8") as header:
+            version = ".".join(re.findall(r"define NVMEARB_VERSION_\w+ (\d+)", header.read()))
+        return version + UNPROVED * self.is_unproved
+
+    def of_page(self, text):
+        """What a page shows of the proved program, as this one tells it."""
+        version = self.version()
+        return re.sub(rf"\bnvmearb {re.escape(version.removesuffix(UNPROVED))}\b", f"nvmearb {version}", text)
 
     def ends(self, line, text, status, output="", errors=""):
         """The program with these words and this input ends with this status, and writes just this output and these errors."""
