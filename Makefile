@@ -13,17 +13,24 @@ SHARED = README.md CHANGELOG.md SECURITY.md LICENSE docs examples capi/nvmearb.h
 all: ## prove and build the program, crates/nvmearb/out/nvmearb
 	$(if $(PROGRAM),,tools/build nvmearb)
 
-check: ## prove every crate, or with CRATE=nvme_lane that one
+demo: ## build program and C library in some minutes, with nothing proved, and show them
+	tools/ready demo
+	tools/build --unproved nvmearb nvme_capi
+	./nvmearb --unproved demo
+	./nvmearb --unproved once --blocks 1000 < examples/read.hex
+	@echo 'Nothing of this is proved (make check proves it). Go on with ./nvmearb --unproved help'
+
+check: ## the gate: prove and test all that changed since it last passed here, and try the must-fail edits
+	.ci/run
+
+prove: ## prove every crate, or with CRATE=nvme_lane that one
 	cd crates/$(CRATE) && rt $(if $(CRATE),,all )check
 
-test: ## test what is built, or NAME=words by tests/words alone; with CRATE=nvme_program_tests that crate's tests, or NAME=one
+test: ## test what is built, with UNPROVED=1 what is built without proofs, or NAME=words by tests/words alone; with CRATE=nvme_program_tests that crate's tests, or NAME=one
 	$(if $(CRATE),$(if $(wildcard tests/crates/$(CRATE)),tests/libraries $(CRATE) $(NAME),cd crates/$(CRATE) && rt test $(if $(NAME),-- $(NAME))),tests/run $(NAME))
 
 bench: ## measure, COUNT=1000000 steps each, or with COUNT=worst count the instructions of the worst single calls
 	tools/bench $(COUNT)
-
-gate: ## prove and test all that changed since it last passed here, and try the must-fail edits
-	.ci/run
 
 install: all ## install program, manual pages, completions, C library, documents, examples, Rust and Python packages, below PREFIX=/usr/local
 	install -D $(or $(PROGRAM),crates/nvmearb/out/nvmearb) $(TO)/bin/nvmearb
@@ -47,4 +54,4 @@ deb: dist ## make a Debian package of the same files, out/dist/nvmearb_VERSION_a
 help: ## list these
 	@awk -F ': [a-z ]*## ' '/^[a-z]+: .*## / { printf "make %-8s %s\n", $$1, $$2 }' $(MAKEFILE_LIST)
 
-.PHONY: all check test bench gate install dist deb help
+.PHONY: all demo check prove test bench install dist deb help
