@@ -75,7 +75,7 @@ static void all_come_back(const struct with *with, uint16_t room)
 /* The device has all reads, and ends none: what the host submits to the admin queue is carried out all the same. */
 static void admin_is_served(const struct with *with)
 {
-    uint32_t tags[READS], tag, named;
+    uint32_t tags[READS], tag = 0, named = 0;
     CHECK(is_ready(with) && take_all(tags) == READS);
     CHECK(submits(IDENTIFY, 0, 0) && is_passed(&tag) && completes(tag, success, 0) && last_answered(0));
     CHECK(submits(NVMEARB_OPC_ABORT, 100 << 16 | 1, 0) && is_passed(&tag));
