@@ -8,17 +8,13 @@ import signal
 import subprocess
 import sys
 
+from needs import apt_get, may_install
 from rows import TESTS, TOP
 
 # A command, and the package that has it.
 NEEDED = {"qemu-system-x86_64": "qemu-system-x86", "fio": "fio", "cpio": "cpio", "busybox": "busybox-static"}
 KERNEL, BOOT = f"{TOP}/capi/out/kernel/vmlinuz", f"{TOP}/capi/examples/boot"
 FLAGS = ["-std=c11", "-O2", "-Wall", "-Wextra", "-Werror"]
-
-
-def leave_out(rows, why):
-    print(f"{rows.name}: left out, since {why}", file=sys.stderr)
-    rows.end()
 
 
 def call(rows, *words, **how):
@@ -28,15 +24,13 @@ def call(rows, *words, **how):
 
 def install(rows):
     """Sees to what is needed, or ends with nothing counted."""
-    packages = [name for command, name in NEEDED.items() if not shutil.which(command)]
-    missing = [*packages, *(["its kernel"] if not os.path.exists(KERNEL) else [])]
-    if missing and (os.environ.get("CI") != "true" or os.getuid() != 0):
-        leave_out(rows, f"there is no {', '.join(missing)} (make -C capi guest takes the kernel)")
-    steps = [["apt-get", "-q", "update"]] if missing else []
-    if packages:
-        steps.append(["apt-get", "-qy", "--no-install-recommends", "install", *packages])
-    if not all(subprocess.run(it, stdout=sys.stderr, check=False).returncode == 0 for it in [*steps, [BOOT, "--kernel"]]):
-        leave_out(rows, "its packages can't be installed")
+    rows.need(NEEDED)
+    if os.path.exists(KERNEL):
+        return
+    if not may_install():
+        rows.leave_out("there is no kernel (make -C capi guest takes it)")
+    if not apt_get("update") or subprocess.run([BOOT, "--kernel"], stdout=sys.stderr, check=False).returncode:
+        rows.leave_out("its kernel can't be taken")
 
 
 def make_guest(rows, sources):

@@ -9,6 +9,8 @@ import tempfile
 from collections import namedtuple
 from concurrent.futures import ThreadPoolExecutor
 
+from needs import are_there, left_out
+
 TESTS = os.path.dirname(os.path.realpath(__file__))
 TOP = os.path.dirname(TESTS)
 # A run that takes longer, in seconds, counts as hung.
@@ -31,6 +33,15 @@ class Rows:
         print(f"{self.name}: {why}", file=sys.stderr)
         self.failed += 1
         self.end()
+
+    def leave_out(self, why):
+        left_out(self.name, why)
+        self.end()
+
+    def need(self, needs):
+        """Ends with the test left out where these commands, each with the package that has it, can't be had."""
+        if not are_there(self.name, needs):
+            self.end()
 
     def row(self, name, check, *words):
         """Counts one test: `check` gives its figures as a text, or raises an AssertionError."""
