@@ -126,7 +126,7 @@ impl Arbiter {
     ///
     /// # Panics
     ///
-    /// If the library isn't of this crate's version.
+    /// If [`is_library_of_this_version`](crate::is_library_of_this_version) is false.
     pub fn new(mechanism: Mechanism, cdw11: u32) -> Arbiter {
         check_version();
         let mut arbiter = Arbiter(sys::nvmearb_arbiter::default(), OneCaller::default());

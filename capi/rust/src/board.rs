@@ -28,7 +28,7 @@ impl Board {
     ///
     /// # Panics
     ///
-    /// If the library isn't of this crate's version.
+    /// If [`is_library_of_this_version`](crate::is_library_of_this_version) is false.
     pub fn new(mechanism: Mechanism, cdw11: u32) -> Board {
         check_version();
         let mut board = Board(sys::nvmearb_board::default(), OneCaller::default());

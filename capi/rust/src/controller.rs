@@ -242,7 +242,7 @@ impl<S: Slots> Controller<S> {
     ///
     /// # Panics
     ///
-    /// If the library isn't of this crate's version.
+    /// If [`is_library_of_this_version`](crate::is_library_of_this_version) is false.
     pub fn new(config: &Config, slots: S) -> Result<Controller<S>, Error> {
         check_version();
         let mut controller = Controller::of(nvmearb_ctrl::default(), slots);
@@ -279,7 +279,7 @@ impl<S: Slots> Controller<S> {
     ///
     /// # Panics
     ///
-    /// If the library isn't of this crate's version.
+    /// If [`is_library_of_this_version`](crate::is_library_of_this_version) is false.
     pub fn anywhere(config: &Config, placement: &Placement, slots: S) -> Result<Controller<S>, Error> {
         check_version();
         let mut controller = Controller::of(nvmearb_ctrl::default(), slots);

@@ -43,14 +43,15 @@
 //!
 //! It allocates nothing, starts no thread and keeps no pointer: all states can be moved, and sent to other threads.
 //! Calls on one state run one after another, so no state is `Sync`. An [`Arbiter`], a [`Board`], a [`Table`] and a
-//! [`Controller`] are made only if the library is of this crate's version, and has states of its sizes: else their making
-//! panics ([`is_library_of_this_version`]).
+//! [`Controller`] are made only if the library is of this crate's version, is proved, and has states of its sizes: else
+//! their making panics ([`is_library_of_this_version`]).
 //!
 //! # Features
 //!
 //! The crate is `no_std`, and by default allocates nothing. With `alloc` a controller may have its slots on the heap
 //! (`boxed_slots`), and its snapshot is a `Vec` (`Controller::to_vec`). With `std` the errors are those of the standard
-//! library.
+//! library. With `unproved` a library of which nothing is proved (`make -C capi install UNPROVED=1`) is taken as well, for
+//! a try: it ends the program at a fault ([`is_library_proved`]).
 //!
 //! # What a call promises
 //!
@@ -58,6 +59,9 @@
 #![no_std]
 #![warn(missing_docs)]
 #![warn(clippy::undocumented_unsafe_blocks)]
+
+#[cfg(not(target_pointer_width = "64"))]
+compile_error!("libnvmearb is built for 64-bit processors alone");
 
 #[cfg(feature = "alloc")]
 extern crate alloc;
@@ -98,6 +102,7 @@ pub use sys::{
 pub use table::Table;
 
 use core::cell::Cell;
+use core::fmt;
 use core::marker::PhantomData;
 use core::mem::size_of;
 
@@ -106,17 +111,16 @@ use core::mem::size_of;
 // aren't null, are aligned, point to as many objects, and nothing else writes what they point to during the call, nor
 // reads it where it is written. The library keeps no pointer.
 
-/// Whether the library that is linked is of this crate's version, proved or not, and has states of its sizes.
+/// Whether states can be made over the library that is linked: it is of this crate's version, it is proved unless the
+/// feature `unproved` is on, and it has states of this crate's sizes. Else a making panics and tells which of these it
+/// isn't.
 pub fn is_library_of_this_version() -> bool {
-    // SAFETY: it has no argument.
-    let version = unsafe { sys::nvmearb_version() } & !sys::NVMEARB_UNPROVED;
-    version == sys::NVMEARB_VERSION && SIZES.iter().all(|(state, _, size)| size_in_library(*state) == *size)
+    fault().is_none()
 }
 
-/// Whether the library that is linked was proved, other than one of `tools/build --unproved`.
+/// Whether the library that is linked was proved, other than one of `make UNPROVED=1`.
 pub fn is_library_proved() -> bool {
-    // SAFETY: it has no argument.
-    unsafe { sys::nvmearb_version() & sys::NVMEARB_UNPROVED == 0 }
+    version_of_library() & sys::NVMEARB_UNPROVED == 0
 }
 
 /// The states: their numbers for the library, their names, and their sizes here.
@@ -128,26 +132,56 @@ const SIZES: [(u32, &str, usize); 5] = [
     (sys::NVMEARB_STATE_SLOT, "nvmearb_slot", size_of::<sys::nvmearb_slot>()),
 ];
 
+fn version_of_library() -> u32 {
+    // SAFETY: it has no argument.
+    unsafe { sys::nvmearb_version() }
+}
+
 fn size_in_library(state: u32) -> usize {
     // SAFETY: numbers alone.
     unsafe { sys::nvmearb_size(state) as usize }
 }
 
+/// Why no state can be made over the library that is linked.
+enum Fault {
+    Version(u32),
+    Unproved,
+    Size(&'static str, usize, usize),
+}
+
+impl fmt::Display for Fault {
+    fn fmt(&self, f: &mut fmt::Formatter<'_>) -> fmt::Result {
+        match self {
+            Fault::Version(version) => {
+                let (major, minor, patch) = (version >> 16, version >> 8 & 0xff, version & 0xff);
+                write!(f, "libnvmearb is of version {major}.{minor}.{patch}, and not {}", env!("CARGO_PKG_VERSION"))
+            }
+            Fault::Unproved => {
+                f.write_str("libnvmearb is an unproved build (README, Install), which the feature `unproved` takes")
+            }
+            Fault::Size(name, other, size) => write!(f, "{name} has {other} bytes in libnvmearb, and not {size}"),
+        }
+    }
+}
+
+fn fault() -> Option<Fault> {
+    let version = version_of_library() & !sys::NVMEARB_UNPROVED;
+    if version != sys::NVMEARB_VERSION {
+        return Some(Fault::Version(version));
+    }
+    if !is_library_proved() && !cfg!(feature = "unproved") {
+        return Some(Fault::Unproved);
+    }
+    let other = SIZES.iter().find(|(state, _, size)| size_in_library(*state) != *size);
+    other.map(|(state, name, size)| Fault::Size(name, size_in_library(*state), *size))
+}
+
 /// Marks a state whose calls run one after another: it isn't `Sync`.
 type OneCaller = PhantomData<Cell<()>>;
 
-/// Panics if the library that is linked has states of another kind than this crate.
+/// Panics if the library that is linked isn't one that this crate takes.
 fn check_version() {
-    // SAFETY: it has no argument.
-    let version = unsafe { sys::nvmearb_version() };
-    let (major, minor, patch) = (version >> 16, version >> 8 & 0xff, version & 0xff);
-    assert!(
-        version == sys::NVMEARB_VERSION,
-        "libnvmearb is of version {major}.{minor}.{patch}, and not {}",
-        env!("CARGO_PKG_VERSION")
-    );
-    for (state, name, size) in SIZES {
-        let other = size_in_library(state);
-        assert!(other == size, "{name} has {other} bytes in libnvmearb, and not {size}");
+    if let Some(why) = fault() {
+        panic!("{why}");
     }
 }

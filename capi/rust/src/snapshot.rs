@@ -140,7 +140,7 @@ impl<S: Slots> Controller<S> {
     ///
     /// # Panics
     ///
-    /// If the library isn't of this crate's version.
+    /// If [`is_library_of_this_version`](crate::is_library_of_this_version) is false.
     pub fn from_bytes(bytes: &[u8], mut slots: S) -> Result<Controller<S>, SnapshotError> {
         crate::check_version();
         check(bytes, slots.all().len())?;

@@ -36,7 +36,7 @@ impl Table {
     ///
     /// # Panics
     ///
-    /// If the library isn't of this crate's version.
+    /// If [`is_library_of_this_version`](crate::is_library_of_this_version) is false.
     pub fn new(nsq: u16, ncq: u16, cdw11: u32) -> Result<Table, Error> {
         check_version();
         // SAFETY: references.
