@@ -45,10 +45,11 @@
  *     signal or interrupt handler makes no call on an object of the call that it interrupts.
  *
  * Numbers are in the machine's byte order, and bytes of entries in the specification's. The library is built for x86-64
- * (x86-64-v2, System V calling convention) and AArch64. On x86-64 it uses SSE registers and the red zone. So a kernel
- * saves these registers before a call, and takes no interrupt on the stack of a call. Making a controller takes at most
- * 34 KB of stack, and every other call 1 KB. Link with -lnvmearb; the only other symbols are memcpy and memset.
- * docs/LIMITS.md has the sizes.
+ * (x86-64-v2, System V calling convention) and AArch64. It uses SSE registers and the red zone on x86-64, and NEON
+ * registers on AArch64. So a kernel saves these registers before a call, and takes no interrupt on the stack of a call;
+ * where these instructions are trapped, as at early EL3, the first call faults. Making a controller takes at most 34 KB of
+ * stack, and every other call 1 KB. Link with -lnvmearb; the only other symbols are memcpy and memset. docs/LIMITS.md has
+ * the sizes.
  */
 #ifndef NVMEARB_H
 #define NVMEARB_H
@@ -58,6 +59,13 @@
 
 #ifdef __cplusplus
 extern "C" {
+#endif
+
+/* There is no library for processors of 32 bits. */
+#ifdef __cplusplus
+static_assert(sizeof(size_t) == 8, "libnvmearb is built for 64-bit processors alone");
+#else
+_Static_assert(sizeof(size_t) == 8, "libnvmearb is built for 64-bit processors alone");
 #endif
 
 /* The version of this header. Until the major number is 1, the minor one rises with each change of a struct or call. */
