@@ -8,6 +8,8 @@ from ctypes import Structure, c_size_t, c_uint8, c_uint16, c_uint32, c_uint64
 
 VERSION = "0.2.0"
 SONAME = "libnvmearb.so.0.2"
+# NVMEARB_UNPROVED of the header, and the variable that is 1 where such a library is taken.
+UNPROVED, ALLOWED = 0x80000000, "NVMEARB_ALLOW_UNPROVED"
 
 OK, NONE, ESTATE, BUSY, NOROOM = 0, 1, 3, 7, 8
 # The answers that refuse a call.
@@ -117,14 +119,21 @@ def place() -> str:
     return named or next((str(it) for it in beside if it.exists()), SONAME)
 
 
-@functools.lru_cache(maxsize=None)
-def library() -> ctypes.CDLL:
-    """The library, which has to be of this package's version, with states of its sizes."""
-    loaded = ctypes.CDLL(place())
-    number = loaded.nvmearb_version()
+def check_version(name: str, number: int) -> None:
     version = f"{number >> 16}.{number >> 8 & 0xff}.{number & 0xff}"
     if version != VERSION:
-        raise ImportError(f"libnvmearb is of version {version}, and not {VERSION}")
+        raise ImportError(f"{name} is of version {version}, and not {VERSION}")
+
+
+@functools.lru_cache(maxsize=None)
+def library() -> ctypes.CDLL:
+    """The library, which has to be of this package's version, proved or allowed, with states of its sizes."""
+    loaded = ctypes.CDLL(place())
+    loaded.nvmearb_version.restype = c_uint32
+    number = loaded.nvmearb_version()
+    check_version("libnvmearb", number & ~UNPROVED)
+    if number & UNPROVED and os.environ.get(ALLOWED) != "1":
+        raise ImportError(f"libnvmearb is an unproved build (README, Install), which {ALLOWED}=1 takes")
     for state, (name, fields) in STATES.items():
         if loaded.nvmearb_size(state) != ctypes.sizeof(fields):
             raise ImportError(

@@ -21,7 +21,7 @@ from enum import IntEnum
 from typing import Any, NamedTuple, Optional
 
 from .arbiter import Mechanism, Pick, Priority, pick_of
-from .library import NONE, OK, VERSION, PickFields, Refused, in_range, library, place, u16, u32
+from .library import NONE, OK, PickFields, Refused, check_version, in_range, library, place, u16, u32
 
 NS, US, MS, S = 1_000, 1_000_000, 1_000_000_000, 1_000_000_000_000
 # What NVMEARB_SIM_LATER and a step without an end say.
@@ -260,10 +260,7 @@ def simulations() -> ctypes.CDLL:
     there = pathlib.Path(place())
     name = there.name.replace("libnvmearb.so", "libnvmearb_sim.so")
     loaded = ctypes.CDLL(os.environ.get("NVMEARB_SIM_LIBRARY") or str(there.with_name(name) if there.parent.name else name))
-    number = loaded.nvmearb_sim_version()
-    version = f"{number >> 16}.{number >> 8 & 0xff}.{number & 0xff}"
-    if version != VERSION:
-        raise ImportError(f"libnvmearb_sim is of version {version}, and not {VERSION}")
+    check_version("libnvmearb_sim", loaded.nvmearb_sim_version())
     loaded.nvmearb_sim_bytes.restype = c_size_t
     return loaded
 
