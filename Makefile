@@ -9,6 +9,11 @@ PROGRAM =
 LIBRARY =
 # What lies below share/nvmearb in the order of this repository, so that most links of the documents hold.
 SHARED = README.md CHANGELOG.md SECURITY.md LICENSE docs examples capi/nvmearb.h capi/examples capi/sim capi/rust capi/python
+FIND_SHARED = find $(SHARED) \( -name target -o -name out -o -name __pycache__ \) -prune -o -type f ! -name Cargo.lock -print
+# The manual pages and completions, and where each lies below PREFIX.
+PAGES = docs/nvmearb.1:share/man/man1/nvmearb.1 out/nvmearb.5:share/man/man5/nvmearb.5 \
+	completions/nvmearb.bash:share/bash-completion/completions/nvmearb completions/_nvmearb:share/zsh/site-functions/_nvmearb \
+	completions/nvmearb.fish:share/fish/vendor_completions.d/nvmearb.fish
 
 all: ## prove and build the program, crates/nvmearb/out/nvmearb
 	$(if $(PROGRAM),,tools/build nvmearb)
@@ -34,24 +39,25 @@ bench: ## measure, COUNT=1000000 steps each, or with COUNT=worst count the instr
 
 install: all ## install program, manual pages, completions, C library, documents, examples, Rust and Python packages, below PREFIX=/usr/local
 	install -D $(or $(PROGRAM),crates/nvmearb/out/nvmearb) $(TO)/bin/nvmearb
-	install -D -m 644 docs/nvmearb.1 $(TO)/share/man/man1/nvmearb.1
 	mkdir -p out && packaging/formats > out/nvmearb.5
-	install -D -m 644 out/nvmearb.5 $(TO)/share/man/man5/nvmearb.5
-	install -D -m 644 completions/nvmearb.bash $(TO)/share/bash-completion/completions/nvmearb
-	install -D -m 644 completions/_nvmearb $(TO)/share/zsh/site-functions/_nvmearb
-	install -D -m 644 completions/nvmearb.fish $(TO)/share/fish/vendor_completions.d/nvmearb.fish
+	for it in $(PAGES); do install -D -m 644 "$${it%:*}" "$(TO)/$${it#*:}" || exit; done
 	$(MAKE) -C capi install PREFIX=$(abspath $(PREFIX)) DESTDIR=$(DESTDIR) LIBRARY=$(LIBRARY)
 	install -d $(TO)/share/nvmearb/capi
-	find $(SHARED) \( -name target -o -name out -o -name __pycache__ \) -prune -o -type f ! -name Cargo.lock -print | xargs cp --parents -t $(TO)/share/nvmearb
+	$(FIND_SHARED) | xargs cp --parents -t $(TO)/share/nvmearb
 	ln -sf ../../../include/nvmearb.h $(TO)/share/nvmearb/capi/nvmearb.h
 
-dist: ## make out/dist/nvmearb-VERSION-linux-x86_64.tar.gz, which needs no toolchain
+uninstall: ## remove what install of this version put below PREFIX=/usr/local, and the folders that are then empty
+	{ printf 'share/nvmearb/%s\n' $$($(FIND_SHARED)); printf '%s\n' bin/nvmearb $(foreach it,$(PAGES),$(lastword $(subst :, ,$(it)))); } \
+		| DESTDIR=$(DESTDIR) packaging/install.sh --remove-listed $(or $(abspath $(PREFIX)),/)
+	$(MAKE) -C capi uninstall PREFIX=$(abspath $(PREFIX)) DESTDIR=$(DESTDIR)
+
+dist: ## make out/dist/nvmearb-VERSION-linux-x86_64.tar.gz and a Python wheel, which need no toolchain
 	packaging/dist $(if $(PROGRAM),--program $(PROGRAM)) $(if $(LIBRARY),--library $(LIBRARY))
 
 deb: dist ## make a Debian package of the same files, out/dist/nvmearb_VERSION_amd64.deb
 	packaging/deb
 
 help: ## list these
-	@awk -F ': [a-z ]*## ' '/^[a-z]+: .*## / { printf "make %-8s %s\n", $$1, $$2 }' $(MAKEFILE_LIST)
+	@awk -F ': [a-z ]*## ' '/^[a-z]+: .*## / { printf "make %-9s %s\n", $$1, $$2 }' $(MAKEFILE_LIST)
 
-.PHONY: all demo check prove test bench install dist deb help
+.PHONY: all demo check prove test bench install uninstall dist deb help
