@@ -113,7 +113,7 @@ STATES = {1: ("nvmearb_arbiter", ArbiterState), 4: ("nvmearb_ctrl", CtrlState), 
 
 
 def place() -> str:
-    """The library that NVMEARB_LIBRARY names, or that of the prefix which the package lies in, or the system's."""
+    """The library that NVMEARB_LIBRARY names, or that in the package's wheel or prefix, or the system's."""
     named = os.environ.get("NVMEARB_LIBRARY")
     beside = [folder / "lib" / SONAME for folder in pathlib.Path(__file__).resolve().parents]
     return named or next((str(it) for it in beside if it.exists()), SONAME)
