@@ -1,0 +1,4 @@
+pub mod CommandLemmas
+pub mod StepLemmas
+pub mod OnceLemmas
+pub mod RunLemmas

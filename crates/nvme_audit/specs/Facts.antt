@@ -1,0 +1,36 @@
+-- The facts of a queue and of a command after a log, which the rules read.
+use Rattle.std.specs.Prelude.{ℕ, Option, Some, None}
+use Rattle.nvme_entry.specs.declared.admin.AdminCommand.{AdminCommand}
+use Rattle.nvme_audit.specs.declared.facts.Start.{Start}
+use Rattle.nvme_audit.specs.declared.facts.Sq.{Sq}
+use Rattle.nvme_audit.specs.declared.facts.Cq.{Cq}
+use Rattle.nvme_audit.specs.declared.facts.Command.{Command}
+use Rattle.nvme_audit.specs.Lives.{Past, asked}
+use Rattle.nvme_audit.specs.Queues.{ring_of, was_deleted, qsize_of}
+use Rattle.nvme_audit.specs.Rings.{submitted, fetched, posted, consumed, number_of}
+use Rattle.nvme_audit.specs.Host.{is_sq_excused, is_cq_excused}
+
+abbrev pub sq_after : Start → Past → ℕ → Sq
+sq_after start past q = record {
+  ring = ring_of start past q;
+  submitted = submitted start past q;
+  fetched = fetched past q;
+  deleted = was_deleted past q;
+  excused = is_sq_excused start past q;
+}
+
+abbrev pub cq_after : Start → Past → ℕ → Cq
+cq_after start past q = record {
+  qsize = qsize_of start past q;
+  posted = posted past q;
+  consumed = consumed start past q;
+  excused = is_cq_excused start past q;
+}
+
+abbrev pub command_with : Option AdminCommand → ℕ → Option Command
+command_with None number = None
+command_with (Some command) number = Some (record { number = number; command = command })
+
+-- the outstanding command of a name
+abbrev pub outstanding : Past → (sq cid : ℕ) → Option Command
+outstanding past q c = command_with (asked past q c) (number_of past q c)

@@ -1,0 +1,64 @@
+-- What the host owes. A breach ends the judgement of its queue until that is created again.
+-- (Base Specification, Submission Queue y Tail Doorbell, Completion Queue y Head Doorbell, Full Queue, Command Identifier)
+use Rattle.std.specs.Prelude.{ℕ, ◌+◌, ◌==◌, ◌&&◌, ◌||◌, nat_lt, Bool, true, false, not, is_some, List, [], ◌∷◌, Option, Some, None, if◌then◌else◌}
+use Rattle.nvme_audit.specs.declared.event.Event.TheVariants.{Tail, Head, Fetch, Post}
+use Rattle.nvme_audit.specs.declared.facts.Start.{Start}
+use Rattle.nvme_audit.specs.declared.facts.Sq.{Sq}
+use Rattle.nvme_audit.specs.declared.facts.Cq.{Cq}
+use Rattle.nvme_audit.specs.declared.verdict.Verdict.{Verdict}
+use Rattle.nvme_audit.specs.declared.verdict.Verdict.TheVariants.{Kept, Host, Broken}
+use Rattle.nvme_audit.specs.declared.verdict.Breach.TheVariants.{TailRange, TailFull, HeadRange}
+use Rattle.nvme_audit.specs.Lives.{Past, asked, turns_sq, done}
+use Rattle.nvme_audit.specs.Queues.{ring_of, qsize_of, turns_cq}
+use Rattle.nvme_audit.specs.Rings.{advanced, qsize_in, submitted, fetched, posted, consumed}
+
+-- a check, and what is said of an event that fails it
+pub record Check : Type 0 where
+  pub fails : Bool
+  pub verdict : Verdict
+
+-- what the first check says that fails, and otherwise this
+abbrev pub first_failed : List Check → Verdict → Verdict
+first_failed [] otherwise = otherwise
+first_failed (check ∷ checks) otherwise = if check.fails then check.verdict else first_failed checks otherwise
+
+abbrev pub is_kept : Verdict → Bool
+is_kept Kept = true
+is_kept (Host breach) = false
+is_kept (Broken rule) = false
+
+-- a tail is a slot, and there are fewer commands in the queue than slots
+abbrev pub tail_rules : Option ℕ → (submitted fetched slot : ℕ) → Verdict
+tail_rules None submitted fetched slot = Host TailRange
+tail_rules (Some qsize) submitted fetched slot =
+    first_failed (record { fails = nat_lt qsize slot; verdict = Host TailRange } ∷ record { fails = nat_lt (fetched + qsize) (advanced qsize submitted slot); verdict = Host TailFull } ∷ []) Kept
+
+-- a head is a slot, no further on than the completions
+abbrev pub head_rules : Option ℕ → (posted consumed slot : ℕ) → Verdict
+head_rules None posted consumed slot = Host HeadRange
+head_rules (Some qsize) posted consumed slot = if nat_lt qsize slot || nat_lt posted (advanced qsize consumed slot) then Host HeadRange else Kept
+
+-- whether the host broke a rule of a submission queue since that was created
+abbrev pub is_sq_excused : Start → Past → ℕ → Bool
+is_sq_excused start [] q = false
+is_sq_excused start (Tail sq slot ∷ past) q =
+    ((sq == q) && not (is_kept (tail_rules (qsize_in (ring_of start past q)) (submitted start past q) (fetched past q) slot))) || is_sq_excused start past q
+is_sq_excused start (Head cq slot ∷ past) q = is_sq_excused start past q
+is_sq_excused start (Fetch sq slot cid command ∷ past) q = ((sq == q) && is_some (asked past q cid)) || is_sq_excused start past q
+is_sq_excused start (Post cq slot completion ∷ past) q = not (turns_sq (done past completion) q) && is_sq_excused start past q
+
+-- the same of a completion queue
+abbrev pub is_cq_excused : Start → Past → ℕ → Bool
+is_cq_excused start [] q = false
+is_cq_excused start (Tail sq slot ∷ past) q = is_cq_excused start past q
+is_cq_excused start (Head cq slot ∷ past) q =
+    ((cq == q) && not (is_kept (head_rules (qsize_of start past q) (posted past q) (consumed start past q) slot))) || is_cq_excused start past q
+is_cq_excused start (Fetch sq slot cid command ∷ past) q = is_cq_excused start past q
+is_cq_excused start (Post cq slot completion ∷ past) q = not (turns_cq (done past completion) q) && is_cq_excused start past q
+
+-- ---- verdicts
+abbrev pub tail_verdict : Sq → ℕ → Verdict
+tail_verdict sq slot = if sq.excused then Kept else tail_rules (qsize_in sq.ring) sq.submitted sq.fetched slot
+
+abbrev pub head_verdict : Cq → ℕ → Verdict
+head_verdict cq slot = if cq.excused then Kept else head_rules cq.qsize cq.posted cq.consumed slot

@@ -1,0 +1,11 @@
+pub mod Lives
+pub mod Queues
+pub mod Rings
+pub mod Host
+pub mod Facts
+pub mod Rules
+pub mod Lawful
+pub mod Standing
+pub mod Laws
+pub mod Examples
+pub mod inside

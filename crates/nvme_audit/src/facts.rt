@@ -1,0 +1,113 @@
+// What the rules read of the events so far.
+use nvme_entry::AdminCommand;
+
+/// What the observer writes down. That a kind is missing counts against the controller only where the observer tells
+/// all of it. Fetches and completions are always told.
+#[derive(Clone, Copy, Debug, PartialEq, Eq)]
+pub struct Tells {
+    /// Each write of a tail doorbell.
+    pub tails: bool,
+    /// Each write of a head doorbell.
+    pub heads: bool,
+    /// Completions are told where the controller writes them. Otherwise they are told where the host reads them,
+    /// which may be later.
+    pub posts: bool,
+}
+
+/// Where a log starts.
+#[derive(Clone, Copy, Debug, PartialEq, Eq)]
+pub struct Start {
+    pub tells: Tells,
+    /// ASQS, the size of the admin submission queue, zero based.
+    pub asqs: u16,
+    /// ACQS, the size of the admin completion queue, zero based.
+    pub acqs: u16,
+}
+
+/// What the latest Create of a submission queue asked: QSIZE, zero based, and CQID.
+#[derive(Clone, Copy, Debug, PartialEq, Eq)]
+pub struct Ring {
+    pub qsize: u16,
+    pub cqid: u16,
+}
+
+/// The facts of a submission queue. The counts are those since it was created.
+#[derive(Clone, Copy, Debug, PartialEq, Eq)]
+pub struct Sq {
+    /// `None` where the queue isn't open.
+    pub ring: Option<Ring>,
+    /// How many commands the tail doorbell announced.
+    pub submitted: u64,
+    /// How many commands were fetched.
+    pub fetched: u64,
+    /// Whether a queue with this identifier was ever deleted.
+    pub deleted: bool,
+    /// Whether the host broke a rule of the queue.
+    pub excused: bool,
+}
+
+/// The facts of a completion queue. The counts are those since it was created.
+#[derive(Clone, Copy, Debug, PartialEq, Eq)]
+pub struct Cq {
+    /// QSIZE, zero based. `None` where the queue isn't open.
+    pub qsize: Option<u16>,
+    /// How many completions were told.
+    pub posted: u64,
+    /// How many completions the head doorbell released.
+    pub consumed: u64,
+    /// Whether the host broke a rule of the queue.
+    pub excused: bool,
+}
+
+/// An outstanding command.
+#[derive(Clone, Copy, Debug, PartialEq, Eq)]
+pub struct Command {
+    /// How many commands of its queue were fetched before it.
+    pub number: u64,
+    /// What it asks, where it is of the admin queue.
+    pub command: AdminCommand,
+}
+
+impl Sq {
+    ghost use Rattle.std.specs.Prelude.{◌≡◌, []};
+    ghost use Rattle.nvme_audit.specs.Facts.{sq_after};
+
+    /// The facts before the first event. The admin queue is open.
+    pub fn first(start: &Start, q: u16) -> Sq
+        ensures { result ≡ sq_after start.now [] q }
+    {
+        let ring = if q == 0 {
+            Some(Ring {
+                qsize: start.asqs,
+                cqid: 0,
+            })
+        } else {
+            None
+        };
+        Sq {
+            ring,
+            submitted: 0,
+            fetched: 0,
+            deleted: false,
+            excused: false,
+        }
+    }
+}
+
+impl Cq {
+    ghost use Rattle.std.specs.Prelude.{◌≡◌, []};
+    ghost use Rattle.nvme_audit.specs.Facts.{cq_after};
+
+    /// The facts before the first event. The admin queue is open.
+    pub fn first(start: &Start, q: u16) -> Cq
+        ensures { result ≡ cq_after start.now [] q }
+    {
+        let qsize = if q == 0 { Some(start.acqs) } else { None };
+        Cq {
+            qsize,
+            posted: 0,
+            consumed: 0,
+            excused: false,
+        }
+    }
+}

@@ -1,0 +1,17 @@
+//! A judge of a whole controller, whoever made it, from a log of what was seen of it: doorbells, fetched entries and
+//! completions. It judges by the specification alone, and keeps what is outstanding.
+#![tactic(auto)]
+
+mod commands;
+mod event;
+mod facts;
+mod judge;
+mod laws;
+mod rules;
+mod verdict;
+
+pub use event::{Completion, Event};
+pub use facts::{Start, Tells};
+pub use judge::{AuditError, Judge};
+pub use laws::{answered_once, worked_verdicts};
+pub use verdict::{Breach, Rule, Verdict};
