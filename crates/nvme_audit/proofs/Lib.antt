@@ -2,3 +2,4 @@ pub mod CommandLemmas
 pub mod StepLemmas
 pub mod OnceLemmas
 pub mod RunLemmas
+pub mod HeadLemmas

@@ -13,5 +13,5 @@ mod verdict;
 pub use event::{Completion, Event};
 pub use facts::{Start, Tells};
 pub use judge::{AuditError, Judge};
-pub use laws::{answered_once, worked_verdicts};
+pub use laws::{answered_once, heads_are_counts, worked_verdicts};
 pub use verdict::{Breach, Rule, Verdict};

@@ -6,6 +6,8 @@ mod admin;
 #[cfg(test)]
 mod arbiter;
 #[cfg(test)]
+mod audit;
+#[cfg(test)]
 mod calls;
 #[cfg(test)]
 mod ctrl;
