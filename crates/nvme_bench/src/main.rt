@@ -11,7 +11,6 @@ mod rates;
 mod rings;
 mod runs;
 mod tables;
-mod words;
 
 use anyhow::{Result, bail};
 use rates::Yardstick;
@@ -44,7 +43,9 @@ fn measure_one<R: Clock + CpuClock + Print + Eprint + Alloc<A = Global> + Thread
         "runs" => runs::measure(rt, yardstick, count)?,
         "loop" => loops::measure(rt, count)?,
         "counted" => loops::count(rt, count)?,
-        _ => bail!("no measurement of this name"),
+        _ => bail!(
+            "there is no measurement of this name, but picks, boards, checks, tables, rings, jobs, runs, loop, all and counted"
+        ),
     }
     Ok(())
 }
@@ -65,24 +66,20 @@ fn measure<R: Clock + CpuClock + Print + Eprint + Alloc<A = Global> + Threads + 
     Ok(())
 }
 
+// The measurement and the count that the words ask for.
+fn asked(words: &[String]) -> Result<(&str, u32)> {
+    let [_, name, count] = words else {
+        bail!("a measurement and a count are wanted, such as picks 1000000")
+    };
+    match count.as_str().parse::<u32>() {
+        Ok(count) if count > 0 => Ok((name.as_str(), count)),
+        _ => bail!("the count isn't a number from 1 to 4294967295"),
+    }
+}
+
 fn main(rt: HostRuntime) -> Result<()> {
     let words: Vec<String> = env::args(&rt)?.collect(rt.alloc())?;
-    let matches = match words::program(rt.alloc())?.try_get_matches_from(words.as_slice()) {
-        Ok(matches) => matches,
-        Err(error) => {
-            if error.use_stderr() {
-                bail!("{error}");
-            }
-            print!(rt; "{error}")?;
-            return Ok(());
-        }
-    };
-    let (Some(name), Some(count)) = (
-        matches.get_str("measurement"),
-        matches.get_one::<u32>("count"),
-    ) else {
-        bail!("a measurement and a count are wanted")
-    };
+    let (name, count) = asked(words.as_slice())?;
     measure(&rt, name, count)?;
     println!(rt; "ok")?;
     Ok(())
