@@ -27,13 +27,13 @@ is_kept Kept = true
 is_kept (Host breach) = false
 is_kept (Broken rule) = false
 
--- a tail is a slot, and there are fewer commands in the queue than slots
+-- a tail is a slot (Submission Queue y Tail Doorbell), and there are fewer commands in the queue than slots (Full Queue)
 abbrev pub tail_rules : Option ℕ → (submitted fetched slot : ℕ) → Verdict
 tail_rules None submitted fetched slot = Host TailRange
 tail_rules (Some qsize) submitted fetched slot =
     first_failed (record { fails = nat_lt qsize slot; verdict = Host TailRange } ∷ record { fails = nat_lt (fetched + qsize) (advanced qsize submitted slot); verdict = Host TailFull } ∷ []) Kept
 
--- a head is a slot, no further on than the completions
+-- a head is a slot, no further on than the completions (Completion Queue y Head Doorbell)
 abbrev pub head_rules : Option ℕ → (posted consumed slot : ℕ) → Verdict
 head_rules None posted consumed slot = Host HeadRange
 head_rules (Some qsize) posted consumed slot = if nat_lt qsize slot || nat_lt posted (advanced qsize consumed slot) then Host HeadRange else Kept

@@ -26,6 +26,8 @@ is_other_phase None wanted = false
 is_other_phase (Some told) wanted = not (beq told wanted)
 
 -- ---- fetches
+-- what the tail announced (Submission Queue y Tail Doorbell), slot by slot (Submission Queue), under an identifier that is free: that is
+-- the host's duty (Command Identifier)
 abbrev pub fetch_checks : Tells → Sq → ℕ → Option ℕ → Bool → List Check
 fetch_checks tells sq qsize slot is_out =
     record { fails = tells.tails && nat_le sq.submitted sq.fetched; verdict = Broken rule.FetchBeyondTail }
@@ -33,6 +35,7 @@ fetch_checks tells sq qsize slot is_out =
     ∷ record { fails = is_out; verdict = Host CidReused }
     ∷ []
 
+-- from an open queue (Create and Delete I/O Submission Queue)
 abbrev pub fetch_rules : Tells → Sq → Option Ring → Option ℕ → Bool → Verdict
 fetch_rules tells sq None slot is_out = Broken rule.FetchClosed
 fetch_rules tells sq (Some ring) slot is_out = first_failed (fetch_checks tells sq ring.qsize slot is_out) Kept
@@ -41,7 +44,7 @@ abbrev pub fetch_verdict : Tells → Sq → Option ℕ → Bool → Verdict
 fetch_verdict tells sq slot is_out = if sq.excused then Kept else fetch_rules tells sq sq.ring slot is_out
 
 -- ---- completions
--- the first head after the own entry of a command that names this slot is no further than what was fetched
+-- (SQ Head Pointer) the first head after the own entry of a command that names this slot is no further than what was fetched
 abbrev pub is_head_of : (qsize number fetched head : ℕ) → Bool
 is_head_of qsize number fetched head = nat_le head qsize && nat_le (number + 1 + gap (slots_of qsize) ((number + 1) % slots_of qsize) head) fetched
 
@@ -50,7 +53,8 @@ is_other_head qsize None fetched head = false
 is_other_head qsize (Some command) fetched None = false
 is_other_head qsize (Some command) fetched (Some head) = not (is_head_of qsize command.number fetched head)
 
--- the name that a completion tells
+-- the name that a completion tells: of an open queue (Delete I/O Submission Queue), into its completion queue (Create I/O Submission Queue),
+-- of an outstanding command (Completion Queue Entry), with a head of it
 abbrev pub name_rules : ℕ → Sq → Option Ring → Option Command → Option ℕ → Verdict
 name_rules cqid sq None command head = Broken (if sq.deleted then rule.PostClosed else rule.Life)
 name_rules cqid sq (Some ring) command head =
@@ -66,7 +70,7 @@ name_rules cqid sq (Some ring) command head =
 abbrev pub name_verdict : Tells → ℕ → Sq → Option Command → Option ℕ → Verdict
 name_verdict tells cqid sq command head = if sq.excused || (not tells.posts && sq.deleted) then Kept else name_rules cqid sq sq.ring command head
 
--- the slot of a completion, and then its name
+-- the slot of a completion: the next (Completion Queue), with the phase tag of its pass (Phase Tag), and not the last free one (Full Queue)
 abbrev pub slot_checks : Tells → Cq → ℕ → Option ℕ → Option Bool → List Check
 slot_checks tells cq qsize slot phase =
     record { fails = is_other slot (cq.posted % slots_of qsize); verdict = Broken rule.Slot }
@@ -74,6 +78,7 @@ slot_checks tells cq qsize slot phase =
     ∷ record { fails = tells.heads && nat_le (cq.consumed + qsize) cq.posted; verdict = Broken rule.CqFull }
     ∷ []
 
+-- in an open queue (Create and Delete I/O Completion Queue)
 abbrev pub slot_rules : Tells → Cq → Option ℕ → Option ℕ → Option Bool → Verdict
 slot_rules tells cq None slot phase = Broken rule.PostClosed
 slot_rules tells cq (Some qsize) slot phase = first_failed (slot_checks tells cq qsize slot phase) Kept
@@ -83,6 +88,7 @@ if_kept Kept otherwise = otherwise
 if_kept (Host breach) otherwise = Host breach
 if_kept (Broken broken) otherwise = Broken broken
 
+-- the slot first, and then the name
 abbrev pub post_verdict : Tells → ℕ → Cq → Sq → Option Command → Option ℕ → Completion → Verdict
 post_verdict tells cqid cq sq command slot completion =
     if cq.excused then Kept
