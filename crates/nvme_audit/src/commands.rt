@@ -1,5 +1,5 @@
 // The outstanding commands by their names.
-ghost use Rattle.std.specs.Prelude.{◌≡◌, ℕ, ◌==◌, ◌&&◌, None, Some, OnOk, if◌then◌else◌};
+ghost use Rattle.std.specs.Prelude.{◌≡◌, ℕ, ◌==◌, ◌&&◌, None, Some, OnOk, OnErr, if◌then◌else◌};
 
 use crate::facts::Command;
 use crate::judge::AuditError;
@@ -33,7 +33,8 @@ impl Commands {
 
     /// Takes a command under a name.
     pub fn insert(&mut self, sq: u16, cid: u16, command: Command) -> Result<(), AuditError>
-        ensures { OnOk result ((q c : ℕ) → command_at self.new q c ≡ (if (sq == q) && (cid == c) then Some command else command_at self.old q c)) }
+        ensures inserts { OnOk result ((q c : ℕ) → command_at self.new q c ≡ (if (sq == q) && (cid == c) then Some command else command_at self.old q c)) }
+        ensures absent { OnErr result (command_at self.old sq cid ≡ None) }
     {
         match self.by_name.insert((sq, cid), command) {
             Ok(_) => Ok(()),

@@ -32,7 +32,7 @@ pub struct Judge {
 }
 
 impl Judge {
-    ghost use Rattle.std.specs.Prelude.{◌≡◌, ℕ, [], ◌∷◌, OnOk, IfOk, MatchBool, MatchOption};
+    ghost use Rattle.std.specs.Prelude.{◌≡◌, ℕ, [], ◌∷◌, OnOk, IfOk, IfErr, MatchBool, MatchOption, true};
     ghost use Rattle.nvme_audit.specs.declared.facts.Start.{Start};
     ghost use Rattle.nvme_audit.specs.Lives.{Past, done_by};
     ghost use Rattle.nvme_audit.specs.Lawful.{verdict, is_broken, log_after, IsLawfulRun, IsFirstBroken};
@@ -90,7 +90,8 @@ impl Judge {
     }
 
     fn verdict(&self, event: &Event) -> Result<Verdict, AuditError>
-        ensures { IfOk result (λ v. v ≡ verdict_at self.now event.now) }
+        ensures ok { IfOk result (λ v. v ≡ verdict_at self.now event.now) }
+        ensures err { IfErr result (λ e. e ≡ AuditError.TooLong) }
     {
         let tells = &self.start.tells;
         match *event {
@@ -232,10 +233,11 @@ impl Judge {
     }
 
     /// Judges the next event. Where the controller breaks a rule nothing changes: the rule is the first that it
-    /// breaks, in the order of `Rule`. Any other event counts from then on.
+    /// breaks, in the order of `Rule`. Any other event counts from then on, and may want memory.
     pub fn judge(&mut self, event: &Event) -> Result<Verdict, AuditError>
         ensures exact { (start : Start) (past : Past) → StandsAt start past self.old → IfOk result (λ v. v ≡ verdict start past event.now) }
         ensures stands { (start : Start) (past : Past) → StandsAt start past self.old → IfOk result (λ v. MatchBool (is_broken v) (self.new ≡ self.old) (StandsAt start (event.now ∷ past) self.new)) }
+        ensures told { (start : Start) (past : Past) → StandsAt start past self.old → is_broken (verdict start past event.now) ≡ true → IfErr result (λ e. e ≡ AuditError.TooLong) }
     {
         let verdict = self.verdict(event)?;
         if !verdict.is_broken() {

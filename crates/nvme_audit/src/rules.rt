@@ -1,5 +1,6 @@
 // The rules, over the facts of the queues and of the command.
-ghost use Rattle.std.specs.Prelude.{◌≡◌, ◌+◌, ◌%◌, IfOk};
+ghost use Rattle.std.specs.Prelude.{◌≡◌, ◌+◌, ◌%◌, ◌^◌, ◌≤◌, IfOk, IfErr};
+ghost use Rattle.nvme_audit.specs.declared.judge.AuditError.{AuditError};
 ghost use Rattle.nvme_audit.specs.Rings.{gap, slots_of, advanced, advanced_where_open, qsize_in, phase_of};
 ghost use Rattle.nvme_audit.specs.Host.{is_kept, tail_rules, tail_verdict, head_rules, head_verdict};
 ghost use Rattle.nvme_audit.specs.Rules.{is_other, is_other_phase, fetch_rules, fetch_verdict, is_head_of, is_other_head, name_rules, name_verdict, slot_rules, post_verdict};
@@ -25,7 +26,8 @@ fn gap_from(qsize: u16, count: u64, slot: u16) -> u64
 
 // A count after a doorbell names a slot.
 fn advanced(qsize: u16, count: u64, slot: u16) -> Result<u64, AuditError>
-    ensures { IfOk result (λ n. n ≡ advanced qsize count slot) }
+    ensures ok { IfOk result (λ n. n ≡ advanced qsize count slot) }
+    ensures err { IfErr result (λ e. (e ≡ AuditError.TooLong) × (2 ^ 64 ≤ advanced qsize count slot)) }
 {
     let steps = gap_from(qsize, count, slot);
     match count.checked_add(steps) {
@@ -36,7 +38,8 @@ fn advanced(qsize: u16, count: u64, slot: u16) -> Result<u64, AuditError>
 
 /// The same of a queue that may not be open, where nothing counts.
 pub fn advanced_where_open(qsize: Option<u16>, count: u64, slot: u16) -> Result<u64, AuditError>
-    ensures { IfOk result (λ n. n ≡ advanced_where_open qsize count slot) }
+    ensures ok { IfOk result (λ n. n ≡ advanced_where_open qsize count slot) }
+    ensures err { IfErr result (λ e. (e ≡ AuditError.TooLong) × (2 ^ 64 ≤ advanced_where_open qsize count slot)) }
 {
     match qsize {
         Some(qsize) => advanced(qsize, count, slot),
@@ -60,7 +63,8 @@ fn tail_rules(
     fetched: u64,
     slot: u16,
 ) -> Result<Verdict, AuditError>
-    ensures { IfOk result (λ v. v ≡ tail_rules qsize submitted fetched slot) }
+    ensures ok { IfOk result (λ v. v ≡ tail_rules qsize submitted fetched slot) }
+    ensures err { IfErr result (λ e. e ≡ AuditError.TooLong) }
 {
     let Some(qsize) = qsize else {
         return Ok(Verdict::Host(Breach::TailRange));
@@ -81,7 +85,8 @@ fn tail_rules(
 
 /// What is said of a tail.
 pub fn tail_verdict(sq: &Sq, slot: u16) -> Result<Verdict, AuditError>
-    ensures { IfOk result (λ v. v ≡ tail_verdict sq.now slot) }
+    ensures ok { IfOk result (λ v. v ≡ tail_verdict sq.now slot) }
+    ensures err { IfErr result (λ e. e ≡ AuditError.TooLong) }
 {
     if sq.excused {
         Ok(Verdict::Kept)
@@ -96,7 +101,8 @@ fn head_rules(
     consumed: u64,
     slot: u16,
 ) -> Result<Verdict, AuditError>
-    ensures { IfOk result (λ v. v ≡ head_rules qsize posted consumed slot) }
+    ensures ok { IfOk result (λ v. v ≡ head_rules qsize posted consumed slot) }
+    ensures err { IfErr result (λ e. e ≡ AuditError.TooLong) }
 {
     let Some(qsize) = qsize else {
         return Ok(Verdict::Host(Breach::HeadRange));
@@ -111,7 +117,8 @@ fn head_rules(
 
 /// What is said of a head.
 pub fn head_verdict(cq: &Cq, slot: u16) -> Result<Verdict, AuditError>
-    ensures { IfOk result (λ v. v ≡ head_verdict cq.now slot) }
+    ensures ok { IfOk result (λ v. v ≡ head_verdict cq.now slot) }
+    ensures err { IfErr result (λ e. e ≡ AuditError.TooLong) }
 {
     if cq.excused {
         Ok(Verdict::Kept)

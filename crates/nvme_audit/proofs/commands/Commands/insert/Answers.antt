@@ -1,4 +1,4 @@
 use Rattle.nvme_audit.proofs.commands.Commands.insert.Goals as goal
 
-pub returns-in-Ok : goal.returns-in-Ok
-returns-in-Ok c = λ q n. c.in-Ok.ensures.updates.0 (q, n)
+pub returns-in-Ok-clause-inserts : goal.returns-in-Ok-clause-inserts
+returns-in-Ok-clause-inserts c = λ q n. c.in-Ok.ensures.updates.0 (q, n)
