@@ -32,18 +32,25 @@ static uint32_t tell_command(const nvmearb_sim *sim, nvmearb_sim_happening *told
     return NVMEARB_OK;
 }
 
+/* Draws a command. One that would run too long isn't used. */
+static uint32_t draw(nvmearb_sim *sim, queue *queue, uint32_t index)
+{
+    nvmearb_sim_command *told = &command_of(sim, index)->told;
+    *told = (nvmearb_sim_command){.came = sim->now};
+    if (sim_draw_command(queue, sim->config.size, told))
+        return NVMEARB_OK;
+    sim_release(sim, index);
+    return NVMEARB_SIM_ELONG;
+}
+
 /* The command that comes to a queue now: the next one that was given, or one that is drawn. */
 static uint32_t next_command(nvmearb_sim *sim, queue *queue, uint32_t *index)
 {
-    *index = queue->of.arrivals == NVMEARB_SIM_GIVEN ? sim_take_first(sim, &queue->given) : sim_allot(sim);
+    int given = queue->of.arrivals == NVMEARB_SIM_GIVEN;
+    *index = given ? sim_take_first(sim, &queue->given) : sim_allot(sim);
     if (*index == NO_COMMAND)
         return NVMEARB_SIM_EMANY;
-    command *it = command_of(sim, *index);
-    it->stage = CAME;
-    if (queue->of.arrivals == NVMEARB_SIM_GIVEN)
-        return NVMEARB_OK;
-    it->told = (nvmearb_sim_command){.came = sim->now};
-    return sim_draw_command(queue, sim->config.size, &it->told) ? NVMEARB_OK : NVMEARB_SIM_ELONG;
+    return given ? NVMEARB_OK : draw(sim, queue, *index);
 }
 
 /* The next command of a queue is planned, behind this time. */
@@ -68,6 +75,7 @@ static uint32_t arrive(nvmearb_sim *sim, uint16_t qid, nvmearb_sim_happening *to
     }
     if ((fault = next_command(sim, it, &index)) != NVMEARB_OK)
         return fault;
+    command_of(sim, index)->stage = CAME;
     command_of(sim, index)->told.queue = qid;
     command_of(sim, index)->told.number = it->number++;
     command_of(sim, index)->told.counts = sim->came >= sim->config.warm_up;

@@ -14,11 +14,19 @@ static const nvmearb_sim_service one_us = {.time = US};
 
 /* A simulation of one queue, and its bytes. */
 static size_t bytes;
+static nvmearb_sim *memory(void)
+{
+    nvmearb_sim *sim = bytes ? aligned_alloc(16, (bytes + 15) / 16 * 16) : NULL;
+    if (!sim)
+        exit(1);
+    return sim;
+}
+
 static nvmearb_sim *made(nvmearb_sim_config config, nvmearb_sim_queue queue)
 {
     bytes = nvmearb_sim_bytes(&config, &queue);
-    nvmearb_sim *sim = bytes ? aligned_alloc(16, (bytes + 15) / 16 * 16) : NULL;
-    if (!sim || nvmearb_sim_init(sim, bytes, &config, &queue) != NVMEARB_OK)
+    nvmearb_sim *sim = memory();
+    if (nvmearb_sim_init(sim, bytes, &config, &queue) != NVMEARB_OK)
         exit(1);
     return sim;
 }
@@ -63,6 +71,42 @@ static void faults(void)
     free(sim);
     sim = made(config_of(100, 4), queue_of(NVMEARB_SIM_EVERY, UINT64_MAX / 2));
     CHECK(run(sim) == NVMEARB_SIM_ELONG && run(sim) == NVMEARB_SIM_ELONG);
+    free(sim);
+}
+
+/* Steps, and makes the other calls behind it. Returns what the step did. */
+static uint32_t stir(nvmearb_sim *sim, nvmearb_sim_happening *it)
+{
+    nvmearb_sim_command given = {.queue = 2, .came = it->time + 4, .operation = NVMEARB_OPC_WRITE, .block = 7, .blocks = 8, .service = 50};
+    uint32_t result = nvmearb_sim_step(sim, UINT64_MAX, it);
+    nvmearb_sim_serve(sim, it->command.number % 2 ? NVMEARB_SIM_LATER : 1000);
+    nvmearb_sim_end(sim, it->command.channel, it->time + 10);
+    nvmearb_sim_come(sim, &given);
+    return result;
+}
+
+/* What a fault left is whole, and its copy has the fault: commands are there when one comes that would run too long. */
+static void faulted(void)
+{
+    nvmearb_sim_config config = {.size = 1 << 20, .pause_every = 432767, .pause_length = 306540, .commands = UINT64_MAX, .mechanism = NVMEARB_WEIGHTED,
+                                 .queues = 3, .channels = 16, .depth = 22, .outstanding = 110};
+    nvmearb_sim_queue queues[3] = {queue_of(NVMEARB_SIM_CLOSED, 0), queue_of(NVMEARB_SIM_GIVEN, 0), queue_of(NVMEARB_SIM_EVERY, 5)};
+    nvmearb_sim_happening it = {0};
+    uint32_t result = NVMEARB_OK;
+    unsigned steps = 0, whole = 0;
+    queues[2].read.per_block = UINT64_C(1) << 61;
+    bytes = nvmearb_sim_bytes(&config, queues);
+    nvmearb_sim *sim = memory(), *copy = memory();
+    CHECK(nvmearb_sim_init(sim, bytes, &config, queues) == NVMEARB_OK);
+    for (; result == NVMEARB_OK && steps < 100; steps++) {
+        result = stir(sim, &it);
+        whole += nvmearb_sim_verify(sim, bytes) == NVMEARB_OK;
+    }
+    CHECK(result == NVMEARB_SIM_ELONG && steps > 10 && whole == steps);
+    memcpy(copy, sim, bytes);
+    memset(sim, 0, bytes);
+    CHECK(nvmearb_sim_verify(copy, bytes) == NVMEARB_OK && nvmearb_sim_step(copy, UINT64_MAX, &it) == NVMEARB_SIM_ELONG);
+    free(copy);
     free(sim);
 }
 
@@ -127,7 +171,7 @@ static void next(void)
 /* Bytes that were changed are refused, or the calls touch nothing else. */
 static void damaged(void)
 {
-    nvmearb_sim *sim = made(config_of(200, 16), queue_of(NVMEARB_SIM_CLOSED, 0)), *copy = aligned_alloc(16, (bytes + 15) / 16 * 16);
+    nvmearb_sim *sim = made(config_of(200, 16), queue_of(NVMEARB_SIM_CLOSED, 0)), *copy = memory();
     nvmearb_sim_happening it;
     unsigned taken = 0;
     uint64_t draws = 1;
@@ -153,6 +197,7 @@ static void damaged(void)
 int main(void)
 {
     faults();
+    faulted();
     pauses();
     refusals();
     next();
