@@ -200,5 +200,6 @@ uint32_t nvmearb_sim_init(nvmearb_sim *sim, size_t bytes, const nvmearb_sim_conf
         fault = sim_create_queues(sim);
     for (uint32_t qid = 1; qid <= config->queues && fault == NVMEARB_OK; qid++)
         fault = plan_queue(sim, qid);
-    return fault == NVMEARB_OK ? plan_pauses(sim) : fault;
+    sim->fault = fault == NVMEARB_OK ? plan_pauses(sim) : fault;
+    return sim->fault;
 }

@@ -145,7 +145,8 @@ size_t nvmearb_sim_bytes(const nvmearb_sim_config *config, const nvmearb_sim_que
 /*
  * Makes a simulation at time 0, whose queues are created and to which no command came.
  * NVMEARB_EARG if a field is out of its range or `sim` isn't a multiple of 16; otherwise NVMEARB_NOROOM if `bytes` is
- * less than nvmearb_sim_bytes.
+ * less than nvmearb_sim_bytes; otherwise NVMEARB_SIM_ELONG if the first command of a queue of NVMEARB_SIM_BURSTS
+ * would come too late: each step returns it then too.
  */
 uint32_t nvmearb_sim_init(nvmearb_sim *sim, size_t bytes, const nvmearb_sim_config *config,
                           const nvmearb_sim_queue *queues);
@@ -206,6 +207,9 @@ uint32_t nvmearb_sim_come(nvmearb_sim *sim, const nvmearb_sim_command *command);
 /*
  * Steps until `count` commands that count were done, and writes these in their order. Each runs as long as was drawn or
  * given. `n` is how many were written, also with a fault: fewer than `count` if nothing more happens.
+ * It goes on through pauses, and so takes as long as the times say: while a command runs for a day, a channel that
+ * pauses in each microsecond does so 10^11 times. Where you don't know the times, as after nvmearb_sim_verify, call
+ * nvmearb_sim_step, which returns at each pause.
  * As nvmearb_sim_step, but NVMEARB_OK where nothing more happens.
  */
 uint32_t nvmearb_sim_run(nvmearb_sim *sim, nvmearb_sim_command *commands, size_t count, size_t *n);

@@ -74,6 +74,20 @@ static void faults(void)
     free(sim);
 }
 
+/* So is one that the making meets: the first command comes in a phase that is behind all times. */
+static void made_with_a_fault(void)
+{
+    nvmearb_sim_config config = config_of(100, 4);
+    nvmearb_sim_queue queue = queue_of(NVMEARB_SIM_BURSTS, US);
+    queue.on = 1;
+    queue.off = UINT64_C(1) << 63;
+    bytes = nvmearb_sim_bytes(&config, &queue);
+    nvmearb_sim *sim = memory();
+    CHECK(nvmearb_sim_init(sim, bytes, &config, &queue) == NVMEARB_SIM_ELONG && run(sim) == NVMEARB_SIM_ELONG);
+    CHECK(nvmearb_sim_verify(sim, bytes) == NVMEARB_OK);
+    free(sim);
+}
+
 /* Steps, and makes the other calls behind it. Returns what the step did. */
 static uint32_t stir(nvmearb_sim *sim, nvmearb_sim_happening *it)
 {
@@ -130,6 +144,27 @@ static void pauses(void)
     for (int k = 0; k < 6; k++)
         CHECK(come(sim, at[k]) == NVMEARB_OK && run(sim) == NVMEARB_NONE);
     CHECK(count == 6 && memcmp(ahead, started, 6 * sizeof *ahead) == 0);
+    free(sim);
+}
+
+/* A run goes on through pauses, at each of which a step returns. */
+static void run_through_pauses(void)
+{
+    nvmearb_sim_config config = config_of(2, 8);
+    config.pause_every = 1000;
+    config.pause_length = 100;
+    nvmearb_sim_queue queue = queue_of(NVMEARB_SIM_CLOSED, 0);
+    nvmearb_sim *sim = made(config, queue);
+    nvmearb_sim_happening it;
+    nvmearb_sim_command done[3];
+    unsigned paused = 0;
+    size_t n;
+    while (nvmearb_sim_step(sim, UINT64_MAX, &it) == NVMEARB_OK)
+        paused += it.kind == NVMEARB_SIM_PAUSED;
+    CHECK(paused == 2000);
+    CHECK(nvmearb_sim_init(sim, bytes, &config, &queue) == NVMEARB_OK);
+    CHECK(nvmearb_sim_run(sim, done, 1, &n) == NVMEARB_OK && n == 1 && done[0].done == US);
+    CHECK(nvmearb_sim_run(sim, done, 3, &n) == NVMEARB_OK && n == 1 && done[0].done == 2 * US);
     free(sim);
 }
 
@@ -197,8 +232,10 @@ static void damaged(void)
 int main(void)
 {
     faults();
+    made_with_a_fault();
     faulted();
     pauses();
+    run_through_pauses();
     refusals();
     next();
     damaged();
