@@ -47,9 +47,9 @@
  * Numbers are in the machine's byte order, and bytes of entries in the specification's. The library is built for x86-64
  * (x86-64-v2, System V calling convention) and AArch64. It uses SSE registers and the red zone on x86-64, and NEON
  * registers on AArch64. So a kernel saves these registers before a call, and takes no interrupt on the stack of a call;
- * where these instructions are trapped, as at early EL3, the first call faults. Making a controller takes at most 34 KB of
- * stack, and every other call 1 KB. Link with -lnvmearb; the only other symbols are memcpy and memset. docs/LIMITS.md has
- * the sizes.
+ * where these instructions are trapped, as at early EL3, the first call faults. Of a proved library, making a controller
+ * takes at most 34 KB of stack, and every other call 1 KB. Link with -lnvmearb; the only other symbols are memcpy and
+ * memset. docs/LIMITS.md has the sizes.
  */
 #ifndef NVMEARB_H
 #define NVMEARB_H
@@ -96,7 +96,7 @@ uint32_t nvmearb_size(uint32_t state);
 
 /*
  * The results. A call returns NVMEARB_OK except where its comment, or its state's, says otherwise, and then has written
- * nothing.
+ * nothing, but for a 0 into `n` where the comment says so.
  *
  * States are arbiters, boards, queue tables and controllers. Their fields are the library's. A call first answers
  * NVMEARB_ESTATE if a state that it doesn't initialise isn't valid, as that state's comment says. An arbiter, board or
@@ -694,9 +694,13 @@ typedef struct nvmearb_command {
 typedef struct nvmearb_post {
     /* Byte 15 has Do Not Retry in bit 7 and More in bit 6: nvmearb_cqe_decode takes no entry with a flag. */
     uint8_t bytes[NVMEARB_CQE_BYTES];
-    uint32_t cookie;                  /* that of its command */
-    uint32_t tag;                     /* that of its command, or one that is used up if the device never took it */
-    uint16_t slot;                    /* of the ring */
+    uint32_t cookie; /* that of its command */
+    /*
+     * That of its command. If the device never took it, the last tag of its slot, of the generation that lies there
+     * where no command had one. Such a tag is used up, and any number of completions may have it.
+     */
+    uint32_t tag;
+    uint16_t slot; /* of the ring */
 } nvmearb_post;
 
 /*
@@ -738,8 +742,8 @@ uint32_t nvmearb_ctrl_init_anywhere(nvmearb_ctrl *ctrl, nvmearb_slot *slots, siz
 uint32_t nvmearb_ctrl_init(nvmearb_ctrl *ctrl, nvmearb_slot *slots, size_t count, const nvmearb_config *config);
 
 /*
- * Adds a submission region, as nvmearb_table_add_sq_region and with its refusals. NVMEARB_EMANY too if queues may lie
- * anywhere.
+ * Adds a submission region.
+ * NVMEARB_EMANY if queues may lie anywhere; otherwise as nvmearb_table_add_sq_region, and with its refusals.
  */
 uint32_t nvmearb_ctrl_add_sq_region(nvmearb_ctrl *ctrl, uint64_t address, uint16_t slots, uint16_t *number);
 

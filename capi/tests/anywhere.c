@@ -88,6 +88,9 @@ static void wrong_ones(void)
     CHECK(init_with(it, placement, SLOTS) == NVMEARB_OK);
     CHECK(is_begun() && nvmearb_ctrl_add_sq_region(&ctrl, SQ, 4, &number) == NVMEARB_EMANY && number == 0xeeee);
     CHECK(nvmearb_ctrl_add_cq_region(&ctrl, CQ, 4, &number) == NVMEARB_EMANY && number == 0xeeee);
+    CHECK(nvmearb_ctrl_add_sq_region(&ctrl, config.asq.address, 4, &number) == NVMEARB_EMANY);
+    CHECK(nvmearb_ctrl_add_cq_region(&ctrl, config.acq.address, 4, &number) == NVMEARB_EMANY);
+    CHECK(nvmearb_ctrl_add_sq_region(&ctrl, SQ, 0, &number) == NVMEARB_EMANY);
 }
 
 /* What a Create may not ask for, and may after that. (Linux tries again after a refused Create.) */

@@ -114,11 +114,16 @@ static void any_generations(void)
     CHECK(is_made(&config, 1) && goes_through(4, &first) && first == 0xa5a60000);
 }
 
-/* A command that the controller carries out itself gives its slot no generation. */
+/*
+ * A command that the controller carries out itself gives its slot no generation. Its completion has the last tag of the
+ * slot, or what lay there.
+ */
 static void other_commands(void)
 {
     uint32_t first = 0, second = 0;
-    CHECK(is_made(&config, 1) && goes_through(1, &first));
+    memset(slots, 0xa5, sizeof slots);
+    CHECK(is_made(&config, 1) && submits(NVMEARB_OPC_GET_FEATURES, NVMEARB_FID_ARBITRATION, 0) && comes_to(NVMEARB_DONE));
+    CHECK(is_used_up(0xa5a50000) && posts(7, 0xa5a50000) && goes_through(1, &first) && first == 0xa5a60000);
     for (int k = 0; k < 10; k++)
         CHECK(submits(NVMEARB_OPC_GET_FEATURES, NVMEARB_FID_ARBITRATION, 0) && comes_to(NVMEARB_DONE) &&
               is_used_up(first) && posts(7, first));
