@@ -153,8 +153,9 @@ uint32_t nvmearb_sim_init(nvmearb_sim *sim, size_t bytes, const nvmearb_sim_conf
 
 /*
  * Tests what was restored: whether the `bytes` at `sim` are nvmearb_sim_bytes of its configuration, each number is in
- * its range, each list ends, and the controller is one (nvmearb_ctrl_verify). What passes touches nothing else. But
- * changed times and counts aren't found: restore what you saved, and keep a checksum with it.
+ * its range, each list ends, and the controller is one (nvmearb_ctrl_verify). What the library wrote passes, with a fault
+ * too. What passes touches nothing else. But changed times and counts aren't found: restore what you saved, and keep a
+ * checksum with it.
  * NVMEARB_ESTATE if not.
  */
 uint32_t nvmearb_sim_verify(const nvmearb_sim *sim, size_t bytes);
