@@ -3,9 +3,9 @@
 # What tests/aarch64 and tests/riscv64 are: it builds the C library for Linux on another processor, and runs the programs of
 # capi/ over it under QEMU.
 #
-#   tests/emulated.sh TARGET [LIBRARY]    TARGET is aarch64 or riscv64. LIBRARY is libnvme_capi.a for it, proved where that
-#                                         for aarch64 is, which UNPROVED=1 in the environment says it isn't; by default it
-#                                         is built first
+#   tests/emulated.sh TARGET [LIBRARY]    TARGET is aarch64 or riscv64. LIBRARY is libnvme_capi.a for it; by default it is
+#                                         built first. UNPROVED=1 in the environment says that it isn't proved, as one for
+#                                         riscv64 never is
 #
 # It needs TARGET-linux-gnu-gcc with its C library, and qemu-TARGET or qemu-TARGET-static, which it installs as needs.py does.
 # Without them it tests nothing, and says so.
