@@ -29,6 +29,7 @@ check: ## the gate: prove and test all that changed since it last passed here, a
 	.ci/run
 
 prove: ## prove every crate, or with CRATE=nvme_lane that one
+	tools/ready
 	cd crates/$(CRATE) && rt $(if $(CRATE),,all )check
 
 test: ## test what is built, with UNPROVED=1 what is built without proofs, or NAME=words by tests/words alone; with CRATE=nvme_program_tests that crate's tests, or NAME=one
