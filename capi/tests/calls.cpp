@@ -4,6 +4,8 @@
 #include <array>
 #include <cstdio>
 
+#include "library.h"
+
 int main()
 {
     std::array<uint8_t, NVMEARB_SQE_BYTES> bytes{};
@@ -13,7 +15,7 @@ int main()
     nvmearb_sqe_decode(bytes.data(), &entry);
     const std::array<uint64_t, 2> sizes{8, 16};
     nvmearb_status status{};
-    const bool is_well = nvmearb_is_of_this_header() &&
+    const bool is_well = IS_OF_HEADER &&
                          nvmearb_outcome(&entry, sizes.data(), sizes.size(), &status) == NVMEARB_OK &&
                          status.sct == 0 && status.sc == 0;
     std::printf("%d passed, %d failed\n", is_well ? 1 : 0, is_well ? 0 : 1);

@@ -3,6 +3,7 @@
 
 #include <string.h>
 
+#include "library.h"
 #include "tell.h"
 
 /* The structs are laid out as the library has them. */
@@ -24,19 +25,13 @@ _Static_assert(sizeof(nvmearb_settings) == 12, "nvmearb_settings");
 /* The library is that of the header, and says whether it is proved. Numbers that no state has give 0. */
 static void version(void)
 {
-#ifdef UNPROVED
-    const uint32_t mark = NVMEARB_UNPROVED;
-#else
-    const uint32_t mark = 0;
-#endif
-    CHECK(nvmearb_version() == NVMEARB_VERSION + mark);
+    CHECK(IS_OF_HEADER);
     CHECK(nvmearb_size(NVMEARB_STATE_ARBITER) == sizeof(nvmearb_arbiter));
     CHECK(nvmearb_size(NVMEARB_STATE_BOARD) == sizeof(nvmearb_board));
     CHECK(nvmearb_size(NVMEARB_STATE_TABLE) == sizeof(nvmearb_table));
     CHECK(nvmearb_size(NVMEARB_STATE_CTRL) == sizeof(nvmearb_ctrl));
     CHECK(nvmearb_size(NVMEARB_STATE_SLOT) == sizeof(nvmearb_slot));
     CHECK(nvmearb_size(0) == 0 && nvmearb_size(6) == 0 && nvmearb_size(UINT32_MAX) == 0);
-    CHECK(nvmearb_is_of_this_header() == !mark);
 }
 
 static void submission_fields_by_place(void)

@@ -14,6 +14,7 @@
 #include <stdlib.h>
 #include <string.h>
 
+#include "library.h"
 #include "sim/nvmearb_sim.h"
 
 #define FAIL(...) (fprintf(stderr, __VA_ARGS__), exit(1))
@@ -169,7 +170,7 @@ int main(int argc, char **argv)
 {
     nvmearb_sim_config config;
     nvmearb_sim_queue queues[NVMEARB_MAX_IO_QUEUES];
-    if (argc != 2 || !nvmearb_is_of_this_header())
+    if (argc != 2 || !IS_OF_HEADER)
         FAIL("usage: sim MODE, with the library of the header\n");
     read_config(&config);
     for (uint32_t queue = 0; queue < config.queues && queue < NVMEARB_MAX_IO_QUEUES; queue++)
