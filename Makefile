@@ -1,7 +1,7 @@
 # SPDX-License-Identifier: MIT
 #
 # PROGRAM=FILE and LIBRARY=FILE take another program and C library (libnvme_capi.a) than those that tools/build proves and
-# builds, as they are.
+# builds, as they are. With UNPROVED=1 install, dist, deb and test take builds of which nothing is proved.
 PREFIX = /usr/local
 DESTDIR =
 TO = $(DESTDIR)$(abspath $(PREFIX))
@@ -16,14 +16,14 @@ PAGES = docs/nvmearb.1:share/man/man1/nvmearb.1 out/nvmearb.5:share/man/man5/nvm
 	completions/nvmearb.fish:share/fish/vendor_completions.d/nvmearb.fish
 
 all: ## prove and build the program, crates/nvmearb/out/nvmearb
-	$(if $(PROGRAM),,tools/build nvmearb)
+	$(if $(PROGRAM),,tools/build $(if $(UNPROVED),--unproved) nvmearb)
 
 demo: ## build program and C library in some minutes, with nothing proved, and show them
 	tools/ready demo
 	tools/build --unproved nvmearb nvme_capi
 	./nvmearb --unproved demo
 	./nvmearb --unproved once --blocks 1000 < examples/read.hex
-	@echo 'Nothing of this is proved (make check proves it). Go on with ./nvmearb --unproved help'
+	@echo 'Nothing of this is proved (make check proves it). For nvmearb write ./nvmearb --unproved, as in ./nvmearb --unproved help'
 
 check: ## the gate: prove and test all that changed since it last passed here, and try the must-fail edits
 	.ci/run
@@ -39,7 +39,7 @@ bench: ## measure, COUNT=1000000 steps each, or with COUNT=worst count the instr
 	tools/bench $(COUNT)
 
 install: all ## install program, manual pages, completions, C library, documents, examples, Rust and Python packages, below PREFIX=/usr/local
-	install -D $(or $(PROGRAM),crates/nvmearb/out/nvmearb) $(TO)/bin/nvmearb
+	install -D $(or $(PROGRAM),crates/nvmearb/out/$(if $(UNPROVED),unproved/)nvmearb) $(TO)/bin/nvmearb
 	mkdir -p out && packaging/formats > out/nvmearb.5
 	for it in $(PAGES); do install -D -m 644 "$${it%:*}" "$(TO)/$${it#*:}" || exit; done
 	$(MAKE) -C capi install PREFIX=$(abspath $(PREFIX)) DESTDIR=$(DESTDIR) LIBRARY=$(LIBRARY)
@@ -53,7 +53,9 @@ uninstall: ## remove what install of this version put below PREFIX=/usr/local, a
 	$(MAKE) -C capi uninstall PREFIX=$(abspath $(PREFIX)) DESTDIR=$(DESTDIR)
 
 dist: ## make out/dist/nvmearb-VERSION-linux-x86_64.tar.gz and a Python wheel, which need no toolchain
-	packaging/dist $(if $(PROGRAM),--program $(PROGRAM)) $(if $(LIBRARY),--library $(LIBRARY))
+	$(if $(UNPROVED),tools/build --unproved nvmearb nvme_capi)
+	packaging/dist $(addprefix --program ,$(or $(PROGRAM),$(if $(UNPROVED),crates/nvmearb/out/unproved/nvmearb))) \
+		$(addprefix --library ,$(or $(LIBRARY),$(if $(UNPROVED),crates/nvme_capi/out/unproved/libnvme_capi.a)))
 
 deb: dist ## make a Debian package of the same files, out/dist/nvmearb_VERSION_amd64.deb
 	packaging/deb

@@ -128,7 +128,10 @@ def check_version(name: str, number: int) -> None:
 @functools.lru_cache(maxsize=None)
 def library() -> ctypes.CDLL:
     """The library, which has to be of this package's version, proved or allowed, with states of its sizes."""
-    loaded = ctypes.CDLL(place())
+    try:
+        loaded = ctypes.CDLL(place())
+    except OSError as why:
+        raise ImportError(f"{why}: set NVMEARB_LIBRARY to the file {SONAME}, with its folder") from why
     loaded.nvmearb_version.restype = c_uint32
     number = loaded.nvmearb_version()
     check_version("libnvmearb", number & ~UNPROVED)
