@@ -3,7 +3,7 @@ ghost use Rattle.std.specs.Prelude.{◌≡◌, ◌≢◌, ◌≤◌, ◌⊎◌, 
 ghost use Rattle.nvme_arbiter.specs.Settings.{ArbitrationFields, settings_of};
 ghost use Rattle.nvme_arbiter.specs.Observation.{IsIdle, class_in};
 ghost use Rattle.nvme_arbiter.specs.History.{History, Picked, Changed};
-ghost use Rattle.nvme_arbiter.specs.Lawful.{IsLawfulPick, limited_pick, cut};
+ghost use Rattle.nvme_arbiter.specs.Lawful.{IsLawfulPick, lawful_pick, limited_pick, cut};
 ghost use Rattle.nvme_arbiter.specs.Standing.{StandsAt, pick_of, first_kept, kept_after, nothing_used};
 ghost use Rattle.nvme_arbiter.specs.declared.settings.Mechanism.{Mechanism};
 ghost use Rattle.nvme_arbiter.specs.Layout.{is_arbiter, kept_of, mechanism_of};
@@ -13,9 +13,21 @@ use crate::results::{BAD_ARGUMENT, BAD_STATE, NOTHING, OK};
 use crate::shown::{Shown, are_shown};
 use crate::states::{PickFields, SeenFields, fields_of_pick};
 use crate::version::ARBITER_BYTES;
-use nvme_arbiter::{ArbiterFields, Mechanism, Settings};
+use nvme_arbiter::{ArbiterFields, Mechanism, Pick, Settings};
 
 const _: () = prove!(size_of::<ArbiterFields>() == ARBITER_BYTES as usize);
+
+// What the arbiter picks of these queues. All of arbitration is inlined here, so that it stands once for several calls.
+#[inline(never)]
+fn peeked(state: &ArbiterFields, queues: &[SeenFields]) -> Option<Pick>
+    requires shown { IsShown queues.now }
+    requires is_arbiter { IsTrue (is_arbiter state.now) }
+    ensures by_what_is_kept { result ≡ pick_of (kept_of state.now) (seen_in queues.now) }
+    ensures lawful { (mechanism : Mechanism) (first : ArbitrationFields) (past : History) → StandsAt mechanism first past (kept_of state.now) → result ≡ lawful_pick mechanism first past (seen_in queues.now) }
+    ensures none_where_idle { IsNone result ↔ IsIdle (seen_in queues.now) }
+{
+    state.peek(&Shown { queues })
+}
 
 /// Writes what `nvmearb_arbiter_pick` would pick. The state stays as it was.
 #[unsafe(no_mangle)]
@@ -41,7 +53,7 @@ pub extern "C" fn nvmearb_arbiter_peek(
     if !are_shown(queues) {
         return BAD_ARGUMENT;
     }
-    match state.peek(&Shown { queues }) {
+    match peeked(state, queues) {
         Some(it) => {
             *pick = fields_of_pick(it);
             OK
@@ -77,10 +89,9 @@ pub extern "C" fn nvmearb_arbiter_pick(
     if !are_shown(queues) {
         return BAD_ARGUMENT;
     }
-    let shown = Shown { queues };
-    match state.peek(&shown) {
+    match peeked(state, queues) {
         Some(it) => {
-            state.keep(&shown, it);
+            state.keep(&Shown { queues }, it);
             *pick = fields_of_pick(it);
             OK
         }
