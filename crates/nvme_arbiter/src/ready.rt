@@ -39,8 +39,8 @@ pub trait ReadyQueues {
     }
 }
 
-/// The next ready queue after the one that was served last, in a class where one is given.
 // (a mark on a body that stands in a trait is lost)
+/// The next ready queue after the one that was served last, in a class where one is given.
 #[inline(always)]
 pub fn next_ready<Q: ReadyQueues>(
     queues: &Q,
