@@ -199,9 +199,9 @@ uint32_t nvmearb_sim_end(nvmearb_sim *sim, uint32_t channel, uint64_t at);
  * `service` are taken as well, and no other field: NVMEARB_SIM_LATER is for nvmearb_sim_serve.
  * NVMEARB_EARG if the queue is none of these, `came` is before the time of the last happening or of the queue's last such
  * command, the operation is none, or a read or write hasn't 1 to 65536 blocks within the namespace; otherwise
- * NVMEARB_NONE if none may come at that time, or any more (`until`, `commands`); otherwise NVMEARB_NOROOM if
- * `outstanding` commands came, or are to come by this call, and aren't done; otherwise as nvmearb_sim_step. Where
- * `commands` have come before it, a command that was taken doesn't come.
+ * NVMEARB_NONE if none may come at that time, or any more (`until`, `commands`); otherwise the fault that nvmearb_sim_step
+ * returns by now; otherwise NVMEARB_NOROOM if `outstanding` commands came, or are to come by this call, and aren't done;
+ * otherwise as nvmearb_sim_step. Where `commands` have come before it, a command that was taken doesn't come.
  */
 uint32_t nvmearb_sim_come(nvmearb_sim *sim, const nvmearb_sim_command *command);
 

@@ -371,6 +371,8 @@ uint32_t nvmearb_sim_come(nvmearb_sim *sim, const nvmearb_sim_command *given)
         return NVMEARB_EARG;
     if ((sim->config.until != 0 && given->came >= sim->config.until) || sim->came >= sim->config.commands)
         return NVMEARB_NONE;
+    if (sim->fault != NVMEARB_OK)
+        return sim->fault;
     if ((index = sim_allot(sim)) == NO_COMMAND)
         return NVMEARB_NOROOM;
     keep(sim, index, given);

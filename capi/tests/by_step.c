@@ -116,7 +116,8 @@ static void faulted(void)
         result = stir(sim, &it);
         whole += nvmearb_sim_verify(sim, bytes) == NVMEARB_OK;
     }
-    CHECK(result == NVMEARB_SIM_ELONG && steps > 10 && whole == steps);
+    nvmearb_sim_command late = {.queue = 2, .came = UINT64_MAX, .operation = NVMEARB_OPC_FLUSH};
+    CHECK(result == NVMEARB_SIM_ELONG && steps > 10 && whole == steps && nvmearb_sim_come(sim, &late) == NVMEARB_SIM_ELONG);
     memcpy(copy, sim, bytes);
     memset(sim, 0, bytes);
     CHECK(nvmearb_sim_verify(copy, bytes) == NVMEARB_OK && nvmearb_sim_step(copy, UINT64_MAX, &it) == NVMEARB_SIM_ELONG);
