@@ -89,8 +89,8 @@ uint32_t nvmearb_size(uint32_t state);
 
 /*
  * What nvmearb_version adds where nothing of the library is proved: tools/build --unproved made it, for a try. It is
- * slower, since it looks for faults as it runs, and ends the program at one. To take it as well, compare
- * nvmearb_version() & ~NVMEARB_UNPROVED with NVMEARB_VERSION.
+ * slower, since it looks for faults as it runs, and ends the program at one. To take it as well, define
+ * NVMEARB_ALLOW_UNPROVED before this header is included.
  */
 #define NVMEARB_UNPROVED 0x80000000u
 
@@ -984,11 +984,16 @@ uint32_t nvmearb_ctrl_verify(const nvmearb_ctrl *ctrl, const nvmearb_slot *slots
 
 /*
  * Returns 1 if the library is that of this header, by its version and the sizes of its states. Else it returns 0, also
- * for an unproved one (NVMEARB_UNPROVED). Make no other call of a library of another header.
+ * for an unproved one (NVMEARB_UNPROVED), but where NVMEARB_ALLOW_UNPROVED is defined. Make no other call of a library of
+ * another header.
  */
 static inline int nvmearb_is_of_this_header(void)
 {
-    return nvmearb_version() == NVMEARB_VERSION && nvmearb_size(NVMEARB_STATE_ARBITER) == sizeof(nvmearb_arbiter) &&
+    uint32_t version = nvmearb_version();
+#ifdef NVMEARB_ALLOW_UNPROVED
+    version &= ~NVMEARB_UNPROVED;
+#endif
+    return version == NVMEARB_VERSION && nvmearb_size(NVMEARB_STATE_ARBITER) == sizeof(nvmearb_arbiter) &&
            nvmearb_size(NVMEARB_STATE_BOARD) == sizeof(nvmearb_board) &&
            nvmearb_size(NVMEARB_STATE_TABLE) == sizeof(nvmearb_table) &&
            nvmearb_size(NVMEARB_STATE_CTRL) == sizeof(nvmearb_ctrl) &&

@@ -216,8 +216,20 @@ static int delete_queues(struct pair *admin)
     return rings(&device, 0, admin->tail) == NVMEARB_OK && collect(admin, sq) == 0 && collect(admin, cq) == 0 ? 0 : -1;
 }
 
+/* Whether the library is that of the header. One of which nothing is proved is another one. */
+static int is_of_this_header(void)
+{
+    const char *is = nvmearb_version() & NVMEARB_UNPROVED ? "an unproved build, which -DNVMEARB_ALLOW_UNPROVED takes" : "not that of nvmearb.h";
+    if (nvmearb_is_of_this_header())
+        return 1;
+    fprintf(stderr, "device: libnvmearb is %s\n", is);
+    return 0;
+}
+
 int main(void)
 {
+    if (!is_of_this_header())
+        return 1;
     struct pair admin = {.qid = 0, .phase = 1}, io = {.qid = 1, .phase = 1};
     uint32_t cdw10 = (RING - 1) << 16 | 1;
     nvmearb_sqe create_cq = {.opcode = NVMEARB_OPC_CREATE_CQ, .prp1 = cq_address[1], .cdw10 = cdw10, .cdw11 = 1};

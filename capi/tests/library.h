@@ -1,14 +1,15 @@
 /* SPDX-License-Identifier: MIT */
-/* Whether the library is that of the header and proved, or with UNPROVED one of which nothing is proved. */
+/* Whether the library is that of the header and proved, or with UNPROVED one of which nothing is proved, which is allowed then. */
 #ifndef LIBRARY_H
 #define LIBRARY_H
 
 #include <nvmearb.h>
 
 #ifdef UNPROVED
-#define IS_OF_HEADER (nvmearb_version() == (NVMEARB_VERSION | NVMEARB_UNPROVED) && nvmearb_is_of_this_header() == 0)
+#define VERSION (NVMEARB_VERSION | NVMEARB_UNPROVED)
 #else
-#define IS_OF_HEADER (nvmearb_version() == NVMEARB_VERSION && nvmearb_is_of_this_header() == 1)
+#define VERSION NVMEARB_VERSION
 #endif
+#define IS_OF_HEADER (nvmearb_version() == VERSION && nvmearb_is_of_this_header() == 1)
 
 #endif

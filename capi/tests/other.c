@@ -16,14 +16,28 @@ uint32_t nvmearb_size(uint32_t state)
     return sizes[state];
 }
 
-int main(void)
+#ifdef NVMEARB_ALLOW_UNPROVED
+#define IS_ALLOWED 1
+#else
+#define IS_ALLOWED 0
+#endif
+
+/* A library of this version is taken or not, and one of other sizes isn't. */
+static void of(uint32_t its_version, int is_taken)
 {
-    CHECK(nvmearb_is_of_this_header() == 1);
+    version = its_version;
+    CHECK(nvmearb_is_of_this_header() == is_taken);
     for (int k = NVMEARB_STATE_ARBITER; k <= (int)NVMEARB_STATE_SLOT; k++) {
         sizes[k] -= 8;
         CHECK(nvmearb_is_of_this_header() == 0);
         sizes[k] += 8;
     }
+}
+
+int main(void)
+{
+    of(NVMEARB_VERSION | NVMEARB_UNPROVED, IS_ALLOWED);
+    of(NVMEARB_VERSION, 1);
     version -= 0x100;
     CHECK(nvmearb_is_of_this_header() == 0);
     return told();
