@@ -42,7 +42,7 @@ install: all ## install program, manual pages, completions, C library, documents
 	install -D $(or $(PROGRAM),crates/nvmearb/out/$(if $(UNPROVED),unproved/)nvmearb) $(TO)/bin/nvmearb
 	mkdir -p out && packaging/formats > out/nvmearb.5
 	for it in $(PAGES); do install -D -m 644 "$${it%:*}" "$(TO)/$${it#*:}" || exit; done
-	$(MAKE) -C capi install PREFIX=$(abspath $(PREFIX)) DESTDIR=$(DESTDIR) LIBRARY=$(LIBRARY)
+	$(MAKE) -C capi install PREFIX=$(abspath $(PREFIX)) DESTDIR=$(abspath $(DESTDIR)) LIBRARY=$(abspath $(LIBRARY))
 	install -d $(TO)/share/nvmearb/capi
 	$(FIND_SHARED) | xargs cp --parents -t $(TO)/share/nvmearb
 	ln -sf ../../../include/nvmearb.h $(TO)/share/nvmearb/capi/nvmearb.h
@@ -50,7 +50,7 @@ install: all ## install program, manual pages, completions, C library, documents
 uninstall: ## remove what install of this version put below PREFIX=/usr/local, and the folders that are then empty
 	{ printf 'share/nvmearb/%s\n' $$($(FIND_SHARED)); printf '%s\n' bin/nvmearb $(foreach it,$(PAGES),$(lastword $(subst :, ,$(it)))); } \
 		| DESTDIR=$(DESTDIR) packaging/install.sh --remove-listed $(or $(abspath $(PREFIX)),/)
-	$(MAKE) -C capi uninstall PREFIX=$(abspath $(PREFIX)) DESTDIR=$(DESTDIR)
+	$(MAKE) -C capi uninstall PREFIX=$(abspath $(PREFIX)) DESTDIR=$(abspath $(DESTDIR))
 
 dist: ## make out/dist/nvmearb-VERSION-linux-x86_64.tar.gz and a Python wheel, which need no toolchain
 	$(if $(UNPROVED),tools/build --unproved nvmearb nvme_capi)
