@@ -13,10 +13,13 @@ use Rattle.nvme_simulation.specs.Devices.{device_in}
 use Rattle.nvme_simulation.specs.Fronts.{IsFront}
 use Rattle.nvme_simulation.specs.Handling.{Stays}
 use Rattle.nvme_simulation.specs.Machines.{Goes, Works}
+use Rattle.nvme_simulation.specs.Passing.{OneComesIf}
 use Rattle.nvme_simulation.specs.Picks.{IsLawful}
 use Rattle.nvme_simulation.specs.Plans.{Follows, IsFirst, cause, picks_behind}
-use Rattle.nvme_simulation.specs.Simulations.{IsSameModel, IsSimulation, time_of}
+use Rattle.nvme_simulation.specs.Progress.{OneComes}
+use Rattle.nvme_simulation.specs.Simulations.{IsSameModel, IsSimulation, counts_next, hosts_of, may_come_to, time_of}
 use Rattle.nvme_simulation.specs.Steps.{cost_with, steps_left}
+use Rattle.nvme_simulation.specs.Times.{now_of}
 use Rattle.nvme_simulation.specs.declared.agenda.Event.{Event}
 use Rattle.nvme_simulation.specs.declared.happening.Happening.{Happening}
 use Rattle.nvme_simulation.specs.declared.happening.Happening.TheVariants.{Came, Picked, Settled, Finished, Paused, Resumed, Over}
@@ -61,6 +64,19 @@ stays_time a b s = works_time a.machine b.machine s.works
 pub left_behind : (a b : Simulation) → Stays a b
     → steps_left b ≡ cost_with b.machine + cond a.picks 1 0 + 9 * (a.end.commands - b.occupancy.came) + 7 * (b.occupancy.came - b.occupancy.left)
 left_behind a b s = ap steps_left s.rest
+
+-- so the command that comes
+pub comes_if : (a b : Simulation) (x : Machine) (qid : ℕ) (counts : Bool) → x ≡ a.machine → counts ≡ counts_next a → time_of b ≡ time_of a
+    → may_come a.end (time_of a) a.occupancy ≡ true → OneComes qid (now_of x.agenda) counts x.hosts (hosts_of b)
+    → OneComesIf (may_come_to a (time_of b)) qid (time_of b) (counts_next a) (hosts_of a) (hosts_of b)
+comes_if a b x qid counts machine counted same may one =
+    let may_then : may_come_to a (time_of b) ≡ true = ap (λ (t : ℕ). may_come_to a t) same ∙ may in
+    let first : OneComes qid (time_of a) counts (hosts_of a) (hosts_of b) =
+    subst (λ (m : Machine). OneComes qid (now_of m.agenda) counts m.hosts (hosts_of b)) machine one in
+    let second : OneComes qid (time_of b) counts (hosts_of a) (hosts_of b) = subst (λ (t : ℕ). OneComes qid t counts (hosts_of a) (hosts_of b)) (sym same) first in
+    let third : OneComes qid (time_of b) (counts_next a) (hosts_of a) (hosts_of b) =
+    subst (λ (y : Bool). OneComes qid (time_of b) y (hosts_of a) (hosts_of b)) counted second in
+    subst (λ (y : Bool). OneComesIf y qid (time_of b) (counts_next a) (hosts_of a) (hosts_of b)) (sym may_then) third
 
 pub came_if : (end : End) (t u : ℕ) (o p : Occupancy) → u ≡ t → may_come end t o ≡ true → Comes t o p → ComesIf (may_come end u o) u o p
 came_if end t u o p same may comes = rw (same, may) comes

@@ -1,4 +1,5 @@
 mod Beginnings
+mod First
 mod Handling
 mod Hosted
 mod Machines
@@ -7,4 +8,6 @@ mod Plans
 mod Pools
 mod Progress
 mod Rooms
+mod Runs
+mod Started
 mod Stepping

@@ -1,27 +1,30 @@
 -- How machines go on.
-use Rattle.std.proofs.Common.{◌≡◌, ◌≤◌, ◌<◌, ℕ, ◌+◌, ◌-◌, ◌*◌, Option, Some, None, Result, Ok, Err, arith}
-use Rattle.std.specs.Prelude.{OnOk, SomeIff}
+use Rattle.std.proofs.Common.{◌≡◌, ◌∙◌, ◌≤◌, ◌<◌, ℕ, ◌+◌, ◌-◌, ◌*◌, Bool, true, false, Option, Some, None, Result, Ok, Err, refl, sym, subst, arith}
+use Rattle.std.specs.Prelude.{IfSome, IsErr, OnOk, OnSome, SomeIff}
 use Rattle.nvme_simulation.specs.Devices.{device_in}
+use Rattle.nvme_clock.specs.Held.{pushed}
+use Rattle.nvme_simulation.specs.Following.{IsNextOf, PlansIf, PlansNext}
 use Rattle.nvme_simulation.specs.Fronts.{IsFront, StaysFront}
 use Rattle.nvme_simulation.specs.Machines.{Goes, Works}
 use Rattle.nvme_simulation.specs.Plans.{events_of}
-use Rattle.nvme_simulation.specs.Progress.{AllGoOn}
+use Rattle.nvme_simulation.specs.Progress.{AllGoOn, OneComes}
 use Rattle.nvme_simulation.specs.Steps.{cost_at}
 use Rattle.nvme_simulation.specs.Times.{now_of}
 use Rattle.nvme_simulation.specs.declared.agenda.Event.TheVariants.{Arrival, Pause}
 use Rattle.nvme_simulation.specs.declared.front.Front.{Front}
+use Rattle.nvme_simulation.specs.declared.hosts.Hosts.{Hosts}
 use Rattle.nvme_simulation.specs.declared.machine.Machine.{Machine}
 use Rattle.nvme_simulation.proofs.Hosted.{all_stay, all_then}
 use Rattle.nvme_simulation.proofs.Plans.{follows_self, follows_then, follows_time}
 use Rattle.nvme_simulation.proofs.Rooms.{behind_none, behind_then}
 
 pub front_stays : (f : Front) → IsFront f → StaysFront f f
-front_stays f is = record { is = is; arbitrates = λ m s a. a }
+front_stays f is = record { is = is; depths = refl; arbitrates = λ m s a. a }
 
 pub front_then : (a b c : Front) → StaysFront a b → StaysFront b c → StaysFront a c
-front_then a b c first second = record { is = second.is; arbitrates = λ m s it. second.arbitrates m s (first.arbitrates m s it) }
+front_then a b c first second = record { is = second.is; depths = second.depths ∙ first.depths; arbitrates = λ m s it. second.arbitrates m s (first.arbitrates m s it) }
 
-pub goes_front : (a b : Machine) → AllGoOn a.hosts b.hosts → StaysFront a.front b.front → b.agenda ≡ a.agenda → b.device ≡ a.device → Goes a b
+pub goes_front : (a b : Machine) → AllGoOn (now_of a.agenda) a.hosts b.hosts → StaysFront a.front b.front → b.agenda ≡ a.agenda → b.device ≡ a.device → Goes a b
 goes_front a b hosts front agenda device = record {
   front = front;
   hosts = hosts;
@@ -32,7 +35,7 @@ goes_front a b hosts front agenda device = record {
 pub goes_self : (a : Machine) → IsFront a.front → Goes a a
 goes_self a is = record {
   front = front_stays a.front is;
-  hosts = all_stay a.hosts;
+  hosts = all_stay (now_of a.agenda) a.hosts;
   events = follows_self (events_of a.agenda);
   device = behind_none (device_in a.device);
 }
@@ -40,10 +43,18 @@ goes_self a is = record {
 pub goes_then : (a b c : Machine) → Goes a b → Goes b c → Goes a c
 goes_then a b c first second = record {
   front = front_then a.front b.front c.front first.front second.front;
-  hosts = all_then a.hosts b.hosts c.hosts first.hosts second.hosts;
+  hosts = all_then (now_of a.agenda) a.hosts b.hosts c.hosts first.hosts
+      (subst (λ (t : ℕ). AllGoOn t b.hosts c.hosts) (follows_time (events_of a.agenda) (events_of b.agenda) first.events) second.hosts);
   events = follows_then (events_of a.agenda) (events_of b.agenda) (events_of c.agenda) first.events second.events;
   device = behind_then (device_in a.device) (device_in b.device) (device_in c.device) first.device second.device;
 }
+
+-- commands go on at a time that is told
+pub all_at : (t u : ℕ) (a b : Hosts) → t ≡ u → AllGoOn t a b → AllGoOn u a b
+all_at t u a b is goes = subst (λ (v : ℕ). AllGoOn v a b) is goes
+
+pub comes_at : (qid t u : ℕ) (counts : Bool) (a b : Hosts) → t ≡ u → OneComes qid t counts a b → OneComes qid u counts a b
+comes_at qid t u counts a b is one = subst (λ (v : ℕ). OneComes qid v counts a b) is one
 
 pub works : (a b : Machine) → Goes a b → Works a b
 works a b g = record { front = g.front; events = g.events; device = g.device }
@@ -66,6 +77,25 @@ pub pause_costs : (at : Option ℕ) (P : Type 0) (time now channel : ℕ) → So
     → cost_at at (Pause channel) ≤ 4 * (0x1_0000_0000_0000_0000 - (now + 1))
 pause_costs None P time now channel is later = omega arith
 pause_costs (Some t) P time now channel is later = omega (arith, is.1, later)
+
+pub on_ok_to : {T E P Q : Type 0} (r : Result T E) → (P → Q) → OnOk r P → OnOk r Q
+on_ok_to (Ok x) f p = f p
+on_ok_to (Err e) f p = tt
+
+-- the next command of a queue is planned
+pub plans_next : (qid time : ℕ) (m n : Machine) (E : Type 0) (next : Option ℕ) (r : Result Unit E) → (next ≡ None → IsErr r)
+    → OnOk r (IfSome next (λ at. events_of n.agenda ≡ pushed at (Arrival qid) (events_of m.agenda))) → OnSome next (IsNextOf qid time next m.hosts n.hosts)
+    → OnOk r (PlansNext qid time m n)
+plans_next qid time m n E next (Err e) none plans draws = tt
+plans_next qid time m n E None (Ok x) none plans draws = absurd (cc (none refl))
+plans_next qid time m n E (Some at) (Ok x) none plans draws = record { at = at; next = draws; planned = plans }
+
+pub plans_if : (b : Bool) (qid t u : ℕ) (m n : Machine) → t ≡ u → b ≡ true → PlansNext qid t m n → PlansIf b qid u m n
+plans_if b qid t u m n time follows plans =
+    subst (λ (c : Bool). PlansIf c qid u m n) (sym follows) (subst (λ (v : ℕ). PlansNext qid v m n) time plans)
+
+pub plans_if_not : (b : Bool) (qid t : ℕ) (m : Machine) → b ≡ false → PlansIf b qid t m m
+plans_if_not b qid t m none = subst (λ (c : Bool). PlansIf c qid t m m) (sym none) refl
 
 pub on_ok : {T E P : Type 0} (r : Result T E) → P → OnOk r P
 on_ok (Ok x) p = p

@@ -12,11 +12,11 @@ use Rattle.nvme_channels.specs.declared.channel.StepFault.TheVariants.{NoRoom}
 use Rattle.nvme_channels.specs.declared.channels.Start.{Start}
 use Rattle.nvme_channels.specs.declared.channels.Waiting.{Waiting}
 use Rattle.nvme_channels.specs.declared.placement.Placement.{Placement}
-use Rattle.nvme_channels.specs.Channel.{begun, freed, is_idle, paused, resumed}
+use Rattle.nvme_channels.specs.Channel.{begun, freed, is_idle, resumed}
 use Rattle.nvme_channels.specs.Devices.{Device, channel_at, first_for, idle, idle_in, new_device, room_of, running_in}
 use Rattle.nvme_channels.specs.Reaches.{reach_of, reaches}
 use Rattle.nvme_channels.specs.Runs.{Step, device_after, device_behind}
-use Rattle.nvme_channels.specs.Steps.{Outcome, finish_of, next_for, none, pause_of, refill_at, refill_of, resume_of, start_of, take_at, take_of}
+use Rattle.nvme_channels.specs.Steps.{Outcome, finish_of, next_for, none, refill_at, refill_of, resume_of, start_of, take_at, take_of}
 use Rattle.nvme_channels.proofs.Begun.{begun_is, either}
 use Rattle.nvme_channels.proofs.Idle.{found, idle_rests}
 use Rattle.nvme_channels.proofs.Steady.{reach_within}

@@ -9,6 +9,7 @@ use Rattle.nvme_simulation.specs.Machines.{Goes}
 use Rattle.nvme_simulation.specs.Passing.{Passes}
 use Rattle.nvme_simulation.specs.Picks.{IsTimed}
 use Rattle.nvme_simulation.specs.Plans.{Follows, IsFirst, IsOfPicks, events_of, is_pick, picks_behind}
+use Rattle.nvme_simulation.specs.Simulations.{counts_next, may_come_to}
 use Rattle.nvme_simulation.specs.Stepping.{HasStepped}
 use Rattle.nvme_simulation.specs.Steps.{cost, cost_in, cost_with, picked_in}
 use Rattle.nvme_simulation.specs.Times.{now_of}
@@ -29,7 +30,8 @@ abbrev pub picked : Simulation → Machine → Happening → Simulation
 picked a m h = record a { machine = m; picks = is_pick h }
 
 pub pick_steps : (a : Simulation) (m : Machine) (h : Happening) → a.picks ≡ true → Goes a.machine m → cost_with m + picked_in h ≤ cost_with a.machine → IsOfPicks h
-    → IsTimed (now_of m.agenda) h → Counts a.end (now_of m.agenda) a.occupancy a.occupancy h → Passes a.machine.hosts m.hosts h → HasStepped a (picked a m h) h
+    → IsTimed (now_of m.agenda) h → Counts a.end (now_of m.agenda) a.occupancy a.occupancy h
+    → Passes (may_come_to a (now_of m.agenda)) (counts_next a) (now_of m.agenda) a.machine.hosts m.hosts h → HasStepped a (picked a m h) h
 pick_steps a m (Picked p) picks goes costs is timed counts passes = record {
   next = rw picks (is, goes.events);
   picks = refl;

@@ -1,5 +1,5 @@
 -- How many commands came and are done. (profile)
-use Rattle.std.specs.Prelude.{◌≡◌, ◌+◌, ◌&&◌, ℕ, Bool, true, false, nat_lt, Option, Some, None}
+use Rattle.std.specs.Prelude.{◌≡◌, ◌+◌, ◌&&◌, ℕ, Bool, true, false, nat_le, nat_lt, Option, Some, None}
 use Rattle.nvme_model.specs.declared.model.End.{End}
 use Rattle.nvme_occupancy.specs.Occupancies.{Comes, Leaves}
 use Rattle.nvme_occupancy.specs.declared.occupancy.Occupancy.{Occupancy}
@@ -13,6 +13,10 @@ is_before now (Some end) = nat_lt now end
 -- one more command may come: before the end, and where fewer came than are to come
 abbrev pub may_come : End → (now : ℕ) → Occupancy → Bool
 may_come end now o = is_before now end.time && nat_lt o.came end.commands
+
+-- numbers count the next command that comes: it isn't of those that come first, to warm up
+abbrev pub is_counted : (warm_up : ℕ) → Occupancy → Bool
+is_counted warm_up o = nat_le warm_up o.came
 
 abbrev pub ComesIf : Bool → (now : ℕ) → (before after : Occupancy) → Type 0
 ComesIf true now before after = Comes now before after

@@ -1,5 +1,5 @@
 -- The events to come. (profile)
-use Rattle.std.specs.Prelude.{◌≡◌, ℕ, Bool, true, false, List, [], ◌∷◌, Option, Some, None}
+use Rattle.std.specs.Prelude.{◌≡◌, ℕ, zero, suc, ◌+◌, ◌*◌, ◌/◌, Bool, true, false, List, [], ◌∷◌, Option, Some, None}
 use Rattle.nvme_clock.specs.Held.{Held, held, popped, pushed}
 use Rattle.nvme_clock.specs.declared.events.Event.{Event as Timed}
 use Rattle.nvme_simulation.specs.declared.agenda.Agenda.{Agenda}
@@ -22,6 +22,16 @@ planned (p ∷ ps) h = pushed p.at p.what (planned ps h)
 pub record Follows (before after : Held Event) : Type 0 where
   pub plans : List Plan
   pub is : after ≡ planned plans before
+
+-- so many commands come at a time, the first one planned first
+unfoldable pub arrivals_at : (at qid : ℕ) → ℕ → List Plan
+arrivals_at at qid zero = []
+arrivals_at at qid (suc n) = record { at = at; what = Arrival qid } ∷ arrivals_at at qid n
+
+-- the first pauses of so many of the channels of a device: spread over the time from one to the next
+unfoldable pub first_pauses : (every count : ℕ) → ℕ → List Plan
+first_pauses every count zero = []
+first_pauses every count (suc k) = record { at = every * (k + 1) / count; what = Pause k } ∷ first_pauses every count k
 
 abbrev pub events_of : Agenda → Held Event
 events_of a = held a.events

@@ -1,9 +1,11 @@
 -- What stands at each step of a simulation, and what a step leaves. (profile)
-use Rattle.std.specs.Prelude.{◌≡◌, ℕ, Bool}
+use Rattle.std.specs.Prelude.{◌≡◌, ℕ, Bool, List}
+use Rattle.nvme_channels.specs.declared.channel.Channel.{Channel}
 use Rattle.nvme_log.specs.Rules.{FrontRules}
 use Rattle.nvme_ctrl_log.specs.Notes.{Notes}
 use Rattle.nvme_model.specs.declared.model.End.{End}
 use Rattle.nvme_occupancy.specs.declared.occupancy.Occupancy.{Occupancy}
+use Rattle.nvme_simulation.specs.Counts.{is_counted, may_come}
 use Rattle.nvme_simulation.specs.Devices.{IsBehind, IsDevice, device_in, room_in}
 use Rattle.nvme_simulation.specs.Fronts.{IsFront, StandsBy, StaysFront}
 use Rattle.nvme_simulation.specs.Times.{now_of}
@@ -23,6 +25,10 @@ StandsAt rules late notes s = StandsBy rules late notes s.machine.front
 abbrev pub room_at : Simulation → ℕ
 room_at s = room_in s.machine.device
 
+-- the channels of the device
+abbrev pub channels_of : Simulation → List Channel
+channels_of s = (device_in s.machine.device).channels
+
 abbrev pub time_of : Simulation → ℕ
 time_of s = now_of s.machine.agenda
 
@@ -37,6 +43,14 @@ hosts_of s = s.machine.hosts
 -- when no more commands come
 abbrev pub end_of : Simulation → End
 end_of s = s.end
+
+-- one more command may come at this time
+abbrev pub may_come_to : Simulation → (now : ℕ) → Bool
+may_come_to s now = may_come s.end now s.occupancy
+
+-- numbers count the next command that comes
+abbrev pub counts_next : Simulation → Bool
+counts_next s = is_counted s.warm_up s.occupancy
 
 -- whether the next step is a pick, or tells that there is none
 abbrev pub picks_of : Simulation → Bool

@@ -21,8 +21,8 @@ pub(crate) struct Agenda {
 }
 
 impl Agenda {
-    ghost use Rattle.std.specs.Prelude.{◌≡◌, ◌≤◌, ◌<◌, ◌+◌, Some, None, IsErr, option_map};
-    ghost use Rattle.nvme_clock.specs.Held.{nothing, popped};
+    ghost use Rattle.std.specs.Prelude.{◌≡◌, ◌≤◌, ◌<◌, ◌+◌, Some, None, IfSome, IsErr, OnOk, option_map};
+    ghost use Rattle.nvme_clock.specs.Held.{nothing, popped, pushed};
     ghost use Rattle.nvme_simulation.specs.Plans.{Follows, events_of};
     ghost use Rattle.nvme_simulation.specs.Steps.{cost, cost_at, cost_in};
     ghost use Rattle.nvme_simulation.specs.Times.{now_of};
@@ -50,6 +50,7 @@ impl Agenda {
         ensures follows { Follows (events_of self.old) (events_of self.new) }
         ensures cost { cost_in self.new ≤ cost_in self.old + cost_at at event }
         ensures some { at ≡ None → IsErr result }
+        ensures plans { OnOk result (IfSome at (λ time. events_of self.new ≡ pushed time event (events_of self.old))) }
     {
         let Some(at) = at else {
             return Err(SimulationFault::TooLong);

@@ -1,6 +1,8 @@
 // The first events.
-ghost use Rattle.std.specs.Prelude.{◌≡◌, ◌≤◌, ◌<◌};
+ghost use Rattle.std.specs.Prelude.{◌≡◌, ◌≤◌, ◌<◌, ◌+◌, ◌*◌, ◌/◌, ◌%◌, OnOk, length};
 ghost use Rattle.nvme_simulation.specs.Beginnings.{StayUnused};
+ghost use Rattle.nvme_simulation.specs.First.{BeginsPauses, BeginsQueue, BeginsQueues};
+ghost use Rattle.nvme_simulation.specs.Plans.{events_of};
 ghost use Rattle.nvme_simulation.specs.Times.{now_of};
 
 use crate::agenda::{Agenda, Event};
@@ -13,8 +15,9 @@ use nvme_model::{Device, Pauses};
 fn begin_queue(agenda: &mut Agenda, hosts: &mut Hosts, qid: u16) -> Result<(), SimulationFault>
     ensures time { now_of agenda.new ≡ now_of agenda.old }
     ensures hosts { StayUnused hosts.old hosts.new }
+    ensures begins { OnOk result (BeginsQueue qid hosts.old hosts.new (events_of agenda.old) (events_of agenda.new)) }
 {
-    for _ in 0..hosts.at_start(qid) {
+    for _command in 0..hosts.at_start(qid) {
         agenda.plan(Some(0), Event::Arrival(qid))?;
     }
     if !hosts.goes_on(qid) {
@@ -29,9 +32,10 @@ fn begin_queue(agenda: &mut Agenda, hosts: &mut Hosts, qid: u16) -> Result<(), S
 pub(crate) fn begin_queues(agenda: &mut Agenda, hosts: &mut Hosts) -> Result<(), SimulationFault>
     ensures time { now_of agenda.new ≡ now_of agenda.old }
     ensures hosts { StayUnused hosts.old hosts.new }
+    ensures begins { OnOk result (BeginsQueues (length hosts.old.all.items % 65_536) hosts.old hosts.new (events_of agenda.old) (events_of agenda.new)) }
 {
-    for qid in 1..=hosts.count() {
-        begin_queue(agenda, hosts, qid)?;
+    for place in 0..hosts.count() {
+        begin_queue(agenda, hosts, place + 1)?;
     }
     Ok(())
 }
@@ -39,6 +43,7 @@ pub(crate) fn begin_queues(agenda: &mut Agenda, hosts: &mut Hosts) -> Result<(),
 // The first pause of a channel of so many: they are spread over the time from one to the next.
 fn first_pause(pauses: &Pauses, channel: usize, count: usize) -> u64
     requires within { channel < count }
+    ensures { result ≡ pauses.now.every * (channel + 1) / count }
 {
     ((u128::from(pauses.every) * (channel as u128 + 1)) / count as u128) as u64
 }
@@ -47,6 +52,7 @@ fn first_pause(pauses: &Pauses, channel: usize, count: usize) -> u64
 #[tactic(auto, using(crate::proofs::Plans::follows_time))]
 pub(crate) fn begin_pauses(agenda: &mut Agenda, device: &Device) -> Result<(), SimulationFault>
     ensures time { now_of agenda.new ≡ now_of agenda.old }
+    ensures begins { OnOk result (BeginsPauses device.now.pauses device.now.channels (events_of agenda.old) (events_of agenda.new)) }
 {
     let Some(pauses) = device.pauses else {
         return Ok(());

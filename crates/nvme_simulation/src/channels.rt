@@ -1,4 +1,6 @@
 // The device, and which command runs on each of its channels.
+ghost use Rattle.std.specs.Prelude.{◌≡◌};
+ghost use Rattle.nvme_simulation.specs.Starts.{number_in};
 
 use crate::fault::{Broken, SimulationFault};
 use crate::front::Taken;
@@ -30,14 +32,18 @@ fn fault_of(fault: StepFault) -> SimulationFault {
 }
 
 // The number of a command in the device: its tag, its queue and its number there.
-fn number_of(taken: Taken) -> u64 {
+fn number_of(taken: Taken) -> u64
+    ensures { result ≡ number_in taken }
+{
     u64::from(taken.tag) * 0x1_0000_0000_0000
         + u64::from(taken.qid) * 0x1_0000_0000
         + u64::from(taken.number)
 }
 
 // The command of a number.
-fn taken_of(number: u64) -> Taken {
+fn taken_of(number: u64) -> Taken
+    ensures { number_in result ≡ number }
+{
     Taken {
         tag: (number / 0x1_0000_0000_0000) as u16,
         qid: (number / 0x1_0000_0000 % 65_536) as u16,
@@ -46,9 +52,11 @@ fn taken_of(number: u64) -> Taken {
 }
 
 impl Runs {
-    ghost use Rattle.std.specs.Prelude.{◌≡◌, ◌≤◌, ◌+◌, IfOk, OnOk};
+    ghost use Rattle.std.specs.Prelude.{◌≤◌, ◌+◌, IfOk, OnOk};
     ghost use Rattle.nvme_channels.specs.Devices.{new_device};
+    ghost use Rattle.nvme_channels.specs.Steps.{finish_of, resume_of, take_of};
     ghost use Rattle.nvme_simulation.specs.Devices.{IsBehind, device_in, room_in};
+    ghost use Rattle.nvme_simulation.specs.Starts.{AnswersAs, StartsAs};
 
     // A device whose channels are idle.
     pub(crate) fn new(alloc: Global, device: &Device) -> Result<Runs, SimulationFault>
@@ -74,13 +82,16 @@ impl Runs {
     }
 
     // Its channels.
-    pub(crate) fn channels(&self) -> &[Channel] {
+    pub(crate) fn channels(&self) -> &[Channel]
+        ensures { result.now ≡ self.now.channels.channels.items }
+    {
         self.channels.channels()
     }
 
     // A command starts, if one does.
     fn note(&mut self, start: Option<Start>) -> Option<Started>
-        ensures { self.new.channels ≡ self.old.channels }
+        ensures same { self.new.channels ≡ self.old.channels }
+        ensures starts { StartsAs start result }
     {
         let start = start?;
         let taken = taken_of(start.number);
@@ -104,6 +115,8 @@ impl Runs {
     ) -> Result<Option<Started>, SimulationFault>
         ensures behind { IsBehind (device_in self.old) (device_in self.new) }
         ensures room { OnOk result (room_in self.new + 1 ≡ room_in self.old) }
+        ensures takes { device_in self.new ≡ (take_of now (number_in taken) block service (device_in self.old)).1 }
+        ensures starts { IfOk result (AnswersAs (take_of now (number_in taken) block service (device_in self.old)).0) }
     {
         match self.channels.take(now, number_of(taken), block, service) {
             Ok(start) => Ok(self.note(start)),
@@ -119,6 +132,8 @@ impl Runs {
     ) -> Result<(Taken, Option<Started>), SimulationFault>
         ensures behind { IsBehind (device_in self.old) (device_in self.new) }
         ensures room { room_in self.new ≤ room_in self.old + 1 }
+        ensures ends { OnOk result (device_in self.new ≡ (finish_of now channel (device_in self.old)).1) }
+        ensures starts { IfOk result (λ done. AnswersAs (finish_of now channel (device_in self.old)).0 done.1) }
     {
         let Some(Some(taken)) = self.running.get(channel).copied() else {
             return Err(SimulationFault::Broken(Broken::Command));
@@ -148,6 +163,8 @@ impl Runs {
     ) -> Result<Option<Started>, SimulationFault>
         ensures behind { IsBehind (device_in self.old) (device_in self.new) }
         ensures room { room_in self.new ≤ room_in self.old }
+        ensures resumes { OnOk result (device_in self.new ≡ (resume_of now channel (device_in self.old)).1) }
+        ensures starts { IfOk result (AnswersAs (resume_of now channel (device_in self.old)).0) }
     {
         match self.channels.resume(now, channel) {
             Ok(start) => Ok(self.note(start)),

@@ -1,5 +1,7 @@
 // The Creates of the queues. (Base Specification, Create I/O Completion Queue, Create I/O Submission Queue)
-ghost use Rattle.std.specs.Prelude.{◌≤◌, ◌<◌, ◌^◌};
+ghost use Rattle.std.specs.Prelude.{◌≡◌, ◌≤◌, ◌<◌, ◌^◌, slice_index};
+ghost use Rattle.nvme_admin.specs.QueueTable.{class_of};
+ghost use Rattle.nvme_simulation.specs.Entries.{asked_class};
 ghost use Rattle.nvme_simulation.specs.Fronts.{IsFront, StaysFront};
 
 use crate::fault::{Broken, SimulationFault};
@@ -9,7 +11,11 @@ use nvme_ctrl::Step;
 use nvme_entry::{Sqe, Status};
 
 // An entry of zeros but for these fields.
-pub(crate) fn entry(opcode: u8, cid: u16, nsid: u32, prp1: u64, cdws: [u32; 3]) -> Sqe {
+pub(crate) fn entry(opcode: u8, cid: u16, nsid: u32, prp1: u64, cdws: [u32; 3]) -> Sqe
+    ensures head { (result.opcode ≡ opcode) × ((result.cid ≡ cid) × (result.nsid ≡ nsid)) }
+    ensures address { result.prp1 ≡ prp1 }
+    ensures dwords { (result.cdw10 ≡ slice_index cdws 0) × ((result.cdw11 ≡ slice_index cdws 1) × (result.cdw12 ≡ slice_index cdws 2)) }
+{
     Sqe {
         opcode,
         flags: 0,
@@ -31,7 +37,8 @@ pub(crate) fn entry(opcode: u8, cid: u16, nsid: u32, prp1: u64, cdws: [u32; 3]) 
 
 // QPRIO of a class.
 fn qprio(class: Class) -> u32
-    ensures { result ≤ 3 }
+    ensures below { result ≤ 3 }
+    ensures class { class_of result ≡ asked_class class }
 {
     match class {
         Class::High => 1,

@@ -57,7 +57,7 @@ pub(crate) struct Flights {
 impl Flights {
     ghost use Rattle.std.specs.Prelude.{◌≡◌, ◌≤◌, ◌<◌, ◌-◌, None, Some, IfOk, IfSome, OnErr, OnOk, true, false};
     ghost use Rattle.std.specs.VecDeque.{deque_len};
-    ghost use Rattle.nvme_simulation.specs.Stages.{AllDone, HasCome, Moves, Stays, none_came};
+    ghost use Rattle.nvme_simulation.specs.Stages.{AllDone, HasCome, Moves, MovesOne, MovesWith, Stays, next_in, none_came};
     ghost use Rattle.nvme_simulation.specs.declared.flight.Stage.TheVariants as stage;
 
     pub(crate) fn new(alloc: Global) -> Flights
@@ -84,7 +84,9 @@ impl Flights {
     }
 
     // How many came: the number of the next one.
-    pub(crate) fn came(&self) -> u64 {
+    pub(crate) fn came(&self) -> u64
+        ensures { result ≡ next_in self.now }
+    {
         self.first.saturating_add(self.kept.len() as u64)
     }
 
@@ -97,7 +99,7 @@ impl Flights {
 
     // A command comes.
     pub(crate) fn come(&mut self, now: u64, request: Request) -> Result<(), AllocError>
-        ensures ok { OnOk result (HasCome self.old self.new) }
+        ensures ok { OnOk result (HasCome now request self.old self.new) }
         ensures err { OnErr result (Stays self.old self.new) }
     {
         let flight = Flight {
@@ -116,7 +118,7 @@ impl Flights {
 
     // The command of a number goes on from a stage to the next one. None where it isn't at that stage.
     fn go_on(&mut self, now: u64, number: u64, from: Stage) -> Option<Flight>
-        ensures moves { IfSome result (λ _. Moves number from self.old self.new) }
+        ensures moves { IfSome result (λ flight. Moves number from now flight self.old self.new) }
         ensures none { result ≡ None → self.new ≡ self.old }
     {
         let place = self.place(number)?;
@@ -131,7 +133,7 @@ impl Flights {
 
     // The next command is submitted, if one waits for that.
     pub(crate) fn submit(&mut self, now: u64) -> Option<u64>
-        ensures moves { IfSome result (λ number. Moves number stage.Came self.old self.new) }
+        ensures moves { IfSome result (λ number. MovesOne number stage.Came now self.old self.new) }
         ensures none { result ≡ None → self.new ≡ self.old }
     {
         let number = self.next;
@@ -142,7 +144,7 @@ impl Flights {
 
     // A command that is submitted is read.
     pub(crate) fn fetch(&mut self, number: u64) -> Option<Request>
-        ensures moves { IfSome result (λ _. Moves number stage.Submitted self.old self.new) }
+        ensures moves { IfSome result (λ request. MovesWith request number stage.Submitted 0 self.old self.new) }
         ensures none { result ≡ None → self.new ≡ self.old }
     {
         let flight = self.go_on(0, number, Stage::Submitted)?;
@@ -151,7 +153,7 @@ impl Flights {
 
     // A command that was read is picked.
     pub(crate) fn pick(&mut self, now: u64, number: u64) -> Option<Request>
-        ensures moves { IfSome result (λ _. Moves number stage.Fetched self.old self.new) }
+        ensures moves { IfSome result (λ request. MovesWith request number stage.Fetched now self.old self.new) }
         ensures none { result ≡ None → self.new ≡ self.old }
     {
         let flight = self.go_on(now, number, Stage::Fetched)?;
@@ -160,7 +162,7 @@ impl Flights {
 
     // A command that is picked starts. False where there is none of this number.
     pub(crate) fn start(&mut self, now: u64, number: u64) -> bool
-        ensures moves { result ≡ true → Moves number stage.Picked self.old self.new }
+        ensures moves { result ≡ true → MovesOne number stage.Picked now self.old self.new }
         ensures none { result ≡ false → self.new ≡ self.old }
     {
         self.go_on(now, number, Stage::Picked).is_some()
@@ -168,7 +170,7 @@ impl Flights {
 
     // A command that runs is done.
     pub(crate) fn finish(&mut self, number: u64) -> Option<Flight>
-        ensures moves { IfSome result (λ _. Moves number stage.Started self.old self.new) }
+        ensures moves { IfSome result (λ flight. Moves number stage.Started 0 flight self.old self.new) }
         ensures none { result ≡ None → self.new ≡ self.old }
     {
         let flight = self.go_on(0, number, Stage::Started)?;
@@ -205,11 +207,13 @@ impl Flights {
 
 impl Flight {
     ghost use Rattle.std.specs.Prelude.{◌≡◌, IfSome};
+    ghost use Rattle.nvme_simulation.specs.Marks.{IsToldOf, gone_on};
     ghost use Rattle.nvme_simulation.specs.Ranks.{next_stage};
 
     // The command at the next stage, to which it comes now.
     fn next(&self, now: u64) -> Flight
-        ensures { result.stage ≡ next_stage self.now.stage }
+        ensures stage { result.stage ≡ next_stage self.now.stage }
+        ensures value { result ≡ gone_on now self.now }
     {
         match self.stage {
             Stage::Came => Flight {
@@ -238,7 +242,7 @@ impl Flight {
         }
     }
 
-    // What is told of it where it is done. None where its times don't follow one another.
+    // What is told of it where it is done. None where its times don't follow one another, or it didn't run for its service.
     pub(crate) fn told(
         &self,
         queue: u16,
@@ -246,11 +250,14 @@ impl Flight {
         channel: usize,
         done: u64,
     ) -> Option<Finished>
-        ensures done { IfSome result (λ f. f.times.done ≡ done) }
+        ensures told { IfSome result (λ f. IsToldOf self.now done f self.now.request.counts) }
         ensures queue { IfSome result (λ f. f.queue ≡ queue) }
         ensures number { IfSome result (λ f. f.number ≡ number) }
         ensures channel { IfSome result (λ f. f.channel ≡ channel) }
     {
+        if self.started.checked_add(self.request.service)? != done {
+            return None;
+        }
         let times = Times::new(self.came, self.submitted, self.picked, self.started, done)?;
         Some(Finished {
             queue,

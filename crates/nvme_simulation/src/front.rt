@@ -38,13 +38,14 @@ pub(crate) struct Front {
 }
 
 impl Front {
-    ghost use Rattle.std.specs.Prelude.{◌≡◌, Bool, IfOk, None, Some};
+    ghost use Rattle.std.specs.Prelude.{◌≡◌, Bool, IfOk, IfSome, None, Some};
     ghost use Rattle.nvme_arbiter.specs.declared.pick.Pick.{Pick};
     ghost use Rattle.nvme_log.specs.Rules.{FrontRules};
     ghost use Rattle.nvme_ctrl_log.specs.Notes.{Notes};
+    ghost use Rattle.nvme_ctrl_log.specs.Observation.{seen_in};
     ghost use Rattle.nvme_ctrl_log.specs.Steps.{IsNextPick, IsNextWithin};
     ghost use Rattle.nvme_ctrl.specs.declared.picks.Step.TheVariants as step;
-    ghost use Rattle.nvme_simulation.specs.Fronts.{IsFront, IsFrontOf, StandsBy, StaysFront};
+    ghost use Rattle.nvme_simulation.specs.Fronts.{HasDepths, IsFront, IsFrontOf, StandsBy, StaysFront};
 
     // A controller with its admin queues alone.
     pub(crate) fn new(
@@ -53,6 +54,7 @@ impl Front {
         settings: Settings,
     ) -> Result<Front, SimulationFault>
         ensures front { IfOk result (IsFrontOf mechanism settings) }
+        ensures depths { IfOk result HasDepths }
     {
         let mut pool = Vec::new(alloc);
         if pool.resize(POOL, Slot::free()).is_err() {
@@ -98,7 +100,9 @@ impl Front {
     }
 
     // What the next pick is shown of a queue.
-    pub(crate) fn seen(&self, qid: u16) -> Option<Seen> {
+    pub(crate) fn seen(&self, qid: u16) -> Option<Seen>
+        ensures { (rules : FrontRules) (late : Bool) (notes : Notes) → StandsBy rules late notes self.now → result ≡ seen_in notes qid }
+    {
         self.controller.seen(qid)
     }
 
@@ -116,6 +120,7 @@ impl Front {
     pub(crate) fn take(&mut self, qid: u16) -> Option<Taken>
         requires front { IsFront self.old }
         ensures front { StaysFront self.old self.new }
+        ensures queue { IfSome result (λ taken. taken.qid ≡ qid) }
     {
         let tag = self.controller.take(&mut self.pool)?;
         let number = self.controller.cookie(&self.pool, tag);

@@ -1,8 +1,11 @@
 // The host of a queue.
+ghost use Rattle.std.specs.Prelude.{◌≡◌, ◌+◌, ◌*◌, ◌/◌, ◌%◌, ◌^◌};
+ghost use Rattle.nvme_simulation.specs.Entries.{IsEntryOf};
 
 use crate::creates::entry;
 use crate::fault::{Broken, SimulationFault};
 use crate::flight::{Flight, Flights, Request};
+use nvme_arbiter::Class;
 use nvme_clock::{Purpose, stream};
 use nvme_entry::Sqe;
 use nvme_load::{Arrivals, Mix, Operation, Places, Services};
@@ -19,6 +22,14 @@ struct Streams {
     offsets: Xoshiro256PlusPlus,
 }
 
+// What a command does, its first block and how many it has.
+#[derive(Clone, Copy, Drop)]
+struct Asked {
+    operation: Operation,
+    block: u64,
+    blocks: u32,
+}
+
 // The slot behind one in a ring.
 fn slot_behind(slot: u16, slots: u16) -> u16 {
     if slot >= slots.saturating_sub(1) {
@@ -30,7 +41,8 @@ fn slot_behind(slot: u16, slots: u16) -> u16 {
 
 #[derive(Drop)]
 pub(crate) struct Host {
-    // How many slots each of its rings has.
+    // The class of its queue, and how many slots each of its rings has.
+    class: Class,
     slots: u16,
     arrivals: Arrivals,
     mix: Mix,
@@ -48,10 +60,15 @@ pub(crate) struct Host {
 }
 
 impl Host {
-    ghost use Rattle.std.specs.Prelude.{◌≡◌, None, IfOk, IfSome, true};
-    ghost use Rattle.nvme_simulation.specs.Beginnings.{IsUnused, load_in, load_of};
-    ghost use Rattle.nvme_simulation.specs.Progress.{EndsOne, GoOn};
-    ghost use Rattle.nvme_simulation.specs.Stages.{AllDone};
+    ghost use Rattle.std.specs.Prelude.{ℕ, None, IfOk, IfSome, OnOk, nat_lt, true};
+    ghost use Rattle.nvme_clock.specs.Streams.{stream_state};
+    ghost use Rattle.nvme_clock.specs.declared.streams.Purpose.TheVariants as purpose;
+    ghost use Rattle.nvme_load.specs.Arrivals.{at_start, ends_at, next_after, request_at};
+    ghost use Rattle.nvme_simulation.specs.Asking.{Draws, IsAsked, IsPlaced, SameAsking, asking_of, words};
+    ghost use Rattle.nvme_simulation.specs.Beginnings.{HasStreams, IsUnused};
+    ghost use Rattle.nvme_simulation.specs.Loads.{load_in, load_of};
+    ghost use Rattle.nvme_simulation.specs.Progress.{HasAsked, HostComesOne, HostEndsOne, HostGoesOn};
+    ghost use Rattle.nvme_simulation.specs.Stages.{AllDone, next_in};
 
     // The host of a queue, which begins at time 0.
     pub(crate) fn new(
@@ -62,20 +79,22 @@ impl Host {
     ) -> Result<Host, SimulationFault>
         ensures load { IfOk result (λ h. load_of h ≡ load_in queue) }
         ensures none { IfOk result IsUnused }
+        ensures streams { IfOk result (HasStreams seed qid) }
     {
         let Queue {
+            class,
             slots,
             arrivals,
             mix,
             places,
             services,
-            ..
         } = queue;
         let mut ring = Vec::new(alloc);
         if ring.resize(usize::from(slots), 0).is_err() {
             return Err(SimulationFault::Memory);
         }
         Ok(Host {
+            class,
             slots,
             arrivals,
             mix,
@@ -95,6 +114,13 @@ impl Host {
         })
     }
 
+    // The class of its queue.
+    pub(crate) fn class(&self) -> Class
+        ensures { result ≡ self.now.class }
+    {
+        self.class
+    }
+
     // Whether all its commands that came are done.
     pub(crate) fn is_done(&self) -> bool
         ensures { result ≡ true → AllDone self.now.flights }
@@ -103,24 +129,31 @@ impl Host {
     }
 
     // How many commands come at time 0.
-    pub(crate) fn at_start(&self) -> u32 {
+    pub(crate) fn at_start(&self) -> u32
+        ensures { result ≡ at_start self.now.arrivals }
+    {
         self.arrivals.at_start()
     }
 
     // Whether its next command waits for a completion.
-    pub(crate) fn is_closed(&self) -> bool {
+    pub(crate) fn is_closed(&self) -> bool
+        ensures { result ≡ nat_lt 0 (at_start self.now.arrivals) }
+    {
         self.at_start() > 0
     }
 
     // Whether no command comes any more: its list has ended.
-    pub(crate) fn is_at_end(&self) -> bool {
+    pub(crate) fn is_at_end(&self) -> bool
+        ensures { result ≡ ends_at self.now.arrivals (next_in self.now.flights) }
+    {
         self.arrivals.ends_at(self.flights.came())
     }
 
     // When the next command comes behind one that came at this time, or behind a completion at this time.
     pub(crate) fn next_after(&mut self, time: u64) -> Option<u64>
+        ensures value { (result, words self.new.streams.arrivals) ≡ next_after self.old.arrivals (next_in self.old.flights) time (words self.old.streams.arrivals) }
         ensures flights { self.new.flights ≡ self.old.flights }
-        ensures load { load_of self.new ≡ load_of self.old }
+        ensures asking { asking_of self.new ≡ asking_of self.old }
     {
         let number = self.flights.came();
         self.arrivals
@@ -129,6 +162,10 @@ impl Host {
 
     // Where a command lies that is drawn, and how many blocks it has.
     fn place(&mut self, operation: Operation) -> (u64, u32)
+        ensures placed { IsPlaced (asking_of self.old) (asking_of self.new) operation result.0 result.1 }
+        ensures same { SameAsking (asking_of self.old) (asking_of self.new) }
+        ensures operations { self.new.streams.operations ≡ self.old.streams.operations }
+        ensures services { self.new.streams.services ≡ self.old.streams.services }
         ensures flights { self.new.flights ≡ self.old.flights }
     {
         if operation == Operation::Flush {
@@ -139,22 +176,39 @@ impl Host {
     }
 
     // What the next command does, where it lies and how many blocks it has: as its list says, or as is drawn.
-    fn ask(&mut self) -> (Operation, u64, u32)
+    fn ask(&mut self) -> Asked
+        ensures asked { IsAsked (request_at self.old.arrivals (next_in self.old.flights)) (asking_of self.old) (asking_of self.new) result }
+        ensures same { SameAsking (asking_of self.old) (asking_of self.new) }
+        ensures services { self.new.streams.services ≡ self.old.streams.services }
         ensures flights { self.new.flights ≡ self.old.flights }
     {
         if let Some(listed) = self.arrivals.request(self.flights.came()) {
-            return (listed.operation, listed.block, listed.blocks);
+            return Asked {
+                operation: listed.operation,
+                block: listed.block,
+                blocks: listed.blocks,
+            };
         }
         let operation = self.mix.draw(&mut self.streams.operations);
         let (block, blocks) = self.place(operation);
-        (operation, block, blocks)
+        Asked {
+            operation,
+            block,
+            blocks,
+        }
     }
 
     // What the next command asks for. None where it would run for 2^64 picoseconds or longer.
     fn draw(&mut self, counts: bool) -> Option<Request>
+        ensures draws { IfSome result (Draws (next_in self.old.flights) (asking_of self.old) (asking_of self.new)) }
+        ensures counts { IfSome result (λ request. request.counts ≡ counts) }
         ensures flights { self.new.flights ≡ self.old.flights }
     {
-        let (operation, block, blocks) = self.ask();
+        let Asked {
+            operation,
+            block,
+            blocks,
+        } = self.ask();
         let service = self
             .services
             .draw(&mut self.streams.services, operation, blocks)?;
@@ -169,7 +223,7 @@ impl Host {
 
     // A command comes, and waits for a slot of the ring.
     pub(crate) fn come(&mut self, now: u64, counts: bool) -> Result<(), SimulationFault>
-        ensures goes { GoOn self.old.flights self.new.flights }
+        ensures comes { OnOk result (HostComesOne now counts self.old self.new) }
     {
         let Some(request) = self.draw(counts) else {
             return Err(SimulationFault::TooLong);
@@ -182,7 +236,7 @@ impl Host {
 
     // Puts the next command that waits into the ring, where the host knows a free slot. Whether it did.
     fn submit_one(&mut self, now: u64) -> bool
-        ensures goes { GoOn self.old.flights self.new.flights }
+        ensures goes { HostGoesOn now self.old self.new }
     {
         let next = slot_behind(self.tail, self.slots);
         let tail = usize::from(self.tail);
@@ -198,9 +252,9 @@ impl Host {
     }
 
     // Puts all commands that wait into the ring, as far as it has free slots. The answer is the new tail, if it moved.
-    #[tactic(auto, using(crate::proofs::Progress::and_then))]
+    #[tactic(auto, using(crate::proofs::Progress::host_stays, crate::proofs::Progress::host_then))]
     pub(crate) fn submit(&mut self, now: u64) -> Option<u16>
-        ensures goes { GoOn self.old.flights self.new.flights }
+        ensures goes { HostGoesOn now self.old self.new }
     {
         let mut rings = false;
         for _turn in 0..self.ring.len() {
@@ -214,7 +268,7 @@ impl Host {
 
     // The controller reads the command in a slot of the ring: its number and its entry.
     pub(crate) fn fetch(&mut self, slot: u16) -> Result<(u32, Sqe), SimulationFault>
-        ensures goes { GoOn self.old.flights self.new.flights }
+        ensures goes { (now : ℕ) → HostGoesOn now self.old self.new }
     {
         let Some(number) = self.ring.get(usize::from(slot)).copied() else {
             return Err(SimulationFault::Broken(Broken::Slot));
@@ -227,22 +281,23 @@ impl Host {
 
     // A command is picked: what it asks for.
     pub(crate) fn pick(&mut self, now: u64, number: u32) -> Option<Request>
-        ensures goes { GoOn self.old.flights self.new.flights }
+        ensures goes { HostGoesOn now self.old self.new }
+        ensures asks { IfSome result (HasAsked number self.old.flights) }
     {
         self.flights.pick(now, u64::from(number))
     }
 
     // A command starts on a channel. False where it isn't picked, or runs.
     pub(crate) fn start(&mut self, now: u64, number: u32) -> bool
-        ensures goes { GoOn self.old.flights self.new.flights }
+        ensures goes { HostGoesOn now self.old self.new }
     {
         self.flights.start(now, u64::from(number))
     }
 
     // A command is done.
     pub(crate) fn finish(&mut self, number: u32) -> Option<Flight>
-        ensures ends { IfSome result (λ _. EndsOne number self.old.flights self.new.flights) }
-        ensures none { result ≡ None → GoOn self.old.flights self.new.flights }
+        ensures ends { (now : ℕ) → IfSome result (λ flight. HostEndsOne number now flight self.old self.new) }
+        ensures none { result ≡ None → (now : ℕ) → HostGoesOn now self.old self.new }
     {
         self.flights.finish(u64::from(number))
     }
@@ -254,7 +309,7 @@ impl Host {
 
     // A completion comes, which tells how far the controller has read. The answer is the new head of its ring.
     pub(crate) fn completed(&mut self, sqhd: u16) -> u16
-        ensures flights { self.new.flights ≡ self.old.flights }
+        ensures goes { (now : ℕ) → HostGoesOn now self.old self.new }
     {
         self.head = sqhd;
         self.read = slot_behind(self.read, self.slots);
@@ -263,17 +318,23 @@ impl Host {
 }
 
 // Bits 31:00 of a block's number, and bits 63:32.
-fn low_half(block: u64) -> u32 {
+fn low_half(block: u64) -> u32
+    ensures { result ≡ block % 2 ^ 32 }
+{
     (block % 0x1_0000_0000) as u32
 }
 
-fn high_half(block: u64) -> u32 {
+fn high_half(block: u64) -> u32
+    ensures { result ≡ block / 2 ^ 32 }
+{
     (block / 0x1_0000_0000) as u32
 }
 
 // The entry of a command of namespace 1. Its identifier is its number, modulo 2^16. (NVM Command Set Specification, Flush,
 // Write, Read)
-fn entry_of(number: u32, request: &Request) -> Sqe {
+fn entry_of(number: u32, request: &Request) -> Sqe
+    ensures { IsEntryOf number request.now result }
+{
     let cid = (number % 65_536) as u16;
     let low = low_half(request.block);
     let high = high_half(request.block);

@@ -1,5 +1,5 @@
 // The hosts of all queues, by the identifiers of their queues.
-ghost use Rattle.std.specs.Prelude.{◌≡◌, ◌<◌, ◌+◌, IfOk, IfSome, OnOk, true, vec_len};
+ghost use Rattle.std.specs.Prelude.{◌≡◌, ◌≤◌, ◌<◌, ◌+◌, ◌-◌, ◌%◌, ℕ, None, length, IfOk, IfSome, OnOk, OnSome, option_map, slice_get, true, vec_len};
 ghost use Rattle.nvme_simulation.specs.Fronts.{IsFront, StaysFront};
 
 use crate::creates::AdminHost;
@@ -7,6 +7,7 @@ use crate::fault::{Broken, SimulationFault};
 use crate::flight::{Flight, Request};
 use crate::front::Front;
 use crate::host::Host;
+use nvme_arbiter::Seen;
 use nvme_entry::Sqe;
 use nvme_model::Queue;
 use std::alloc::Global;
@@ -20,8 +21,10 @@ pub(crate) struct Hosts {
 const NO_COMMAND: SimulationFault = SimulationFault::Broken(Broken::Command);
 
 impl Hosts {
-    ghost use Rattle.nvme_simulation.specs.Beginnings.{AreHostsOf, StayUnused};
-    ghost use Rattle.nvme_simulation.specs.Progress.{AllGoOn, AreDone, OneEnds};
+    ghost use Rattle.nvme_simulation.specs.Beginnings.{AreHostsOf, DrawTheirStreams, Shows, ShowsAll, StayUnused, qid_at};
+    ghost use Rattle.nvme_simulation.specs.First.{starting};
+    ghost use Rattle.nvme_simulation.specs.Following.{IsNextOf, closed_in, goes_on, host_of};
+    ghost use Rattle.nvme_simulation.specs.Progress.{AllGoOn, AreDone, AsksFor, OneComes, OneEnds};
 
     // The hosts of queues, of the identifiers 1, 2 and so on, which are created.
     pub(crate) fn new(
@@ -33,6 +36,8 @@ impl Hosts {
         requires front { IsFront front.old }
         ensures front { StaysFront front.old front.new }
         ensures hosts { IfOk result (λ h. AreHostsOf queues.items h.all.items) }
+        ensures streams { IfOk result (λ h. DrawTheirStreams seed h.all.items) }
+        ensures shows { IfOk result (λ h. ShowsAll front.new h.all.items) }
     {
         let mut all = Vec::new(alloc);
         let mut admin = AdminHost::new();
@@ -44,11 +49,45 @@ impl Hosts {
                 return Err(SimulationFault::Memory);
             };
         }
-        Ok(Hosts { all })
+        let hosts = Hosts { all };
+        if !hosts.are_shown(front) {
+            return Err(SimulationFault::Broken(Broken::Create));
+        }
+        Ok(hosts)
+    }
+
+    // Whether the controller shows the queue of a host in its class, with no command that waits.
+    fn is_shown(&self, front: &Front, place: usize) -> bool
+        ensures { result ≡ true → IfSome (slice_get self.now.all.items place) (λ h. Shows front.now (qid_at place) h.class) }
+    {
+        if place >= self.all.len() {
+            return false;
+        }
+        let qid = (place % 65_535) as u16 + 1;
+        let new = Seen {
+            qid,
+            class: self.all[place].class(),
+            count: 0,
+        };
+        front.seen(qid) == Some(new)
+    }
+
+    // Whether it shows them all so.
+    fn are_shown(&self, front: &Front) -> bool
+        ensures { result ≡ true → ShowsAll front.now self.now.all.items }
+    {
+        for place in 0..self.all.len() {
+            if !self.is_shown(front, place) {
+                return false;
+            }
+        }
+        true
     }
 
     // How many there are.
-    pub(crate) fn count(&self) -> u16 {
+    pub(crate) fn count(&self) -> u16
+        ensures { result ≡ length self.now.all.items % 65_536 }
+    {
         (self.all.len() % 65_536) as u16
     }
 
@@ -56,6 +95,7 @@ impl Hosts {
     fn place(&self, qid: u16) -> Option<usize>
         ensures within { IfSome result (λ place. place < vec_len self.now.all) }
         ensures behind { IfSome result (λ place. qid ≡ place + 1) }
+        ensures none { result ≡ None → host_of self.now qid ≡ None }
     {
         let place = usize::from(qid).checked_sub(1)?;
         if place < self.all.len() {
@@ -66,7 +106,9 @@ impl Hosts {
     }
 
     // The host of a queue.
-    pub(crate) fn host(&self, qid: u16) -> Option<&Host> {
+    pub(crate) fn host(&self, qid: u16) -> Option<&Host>
+        ensures { option_map (λ h. h.now) result ≡ host_of self.now qid }
+    {
         let place = self.place(qid)?;
         Some(&self.all[place])
     }
@@ -84,7 +126,9 @@ impl Hosts {
     }
 
     // Whether a command of a queue follows those that came, and waits for no completion.
-    pub(crate) fn goes_on(&self, qid: u16) -> bool {
+    pub(crate) fn goes_on(&self, qid: u16) -> bool
+        ensures { result ≡ goes_on self.now qid }
+    {
         match self.host(qid) {
             Some(host) => !host.is_closed() && !host.is_at_end(),
             None => false,
@@ -92,7 +136,9 @@ impl Hosts {
     }
 
     // Whether the next command of a queue waits for a completion.
-    pub(crate) fn is_closed(&self, qid: u16) -> bool {
+    pub(crate) fn is_closed(&self, qid: u16) -> bool
+        ensures { result ≡ closed_in self.now qid }
+    {
         match self.host(qid) {
             Some(host) => host.is_closed(),
             None => false,
@@ -100,7 +146,9 @@ impl Hosts {
     }
 
     // How many commands of a queue come at time 0.
-    pub(crate) fn at_start(&self, qid: u16) -> u32 {
+    pub(crate) fn at_start(&self, qid: u16) -> u32
+        ensures { result ≡ starting self.now qid }
+    {
         match self.host(qid) {
             Some(host) => host.at_start(),
             None => 0,
@@ -109,8 +157,9 @@ impl Hosts {
 
     // When a command of a queue comes behind this time.
     pub(crate) fn next_after(&mut self, qid: u16, time: u64) -> Option<u64>
-        ensures goes { AllGoOn self.old self.new }
+        ensures goes { (now : ℕ) → AllGoOn now self.old self.new }
         ensures unused { StayUnused self.old self.new }
+        ensures next { OnSome result (IsNextOf qid time result self.old self.new) }
     {
         let place = self.place(qid)?;
         self.all[place].next_after(time)
@@ -118,7 +167,7 @@ impl Hosts {
 
     // A command of a queue comes.
     pub(crate) fn come(&mut self, now: u64, qid: u16, counts: bool) -> Result<(), SimulationFault>
-        ensures goes { AllGoOn self.old self.new }
+        ensures comes { OnOk result (OneComes qid now counts self.old self.new) }
     {
         let Some(place) = self.place(qid) else {
             return Err(NO_COMMAND);
@@ -128,7 +177,7 @@ impl Hosts {
 
     // The host of a queue submits what its ring has room for. The answer is the new tail, if it moved.
     pub(crate) fn submit(&mut self, now: u64, qid: u16) -> Option<u16>
-        ensures goes { AllGoOn self.old self.new }
+        ensures goes { AllGoOn now self.old self.new }
     {
         let place = self.place(qid)?;
         self.all[place].submit(now)
@@ -136,7 +185,7 @@ impl Hosts {
 
     // The controller reads the command in a slot of the ring of a queue: its number and its entry.
     pub(crate) fn fetch(&mut self, qid: u16, slot: u16) -> Result<(u32, Sqe), SimulationFault>
-        ensures goes { AllGoOn self.old self.new }
+        ensures goes { (now : ℕ) → AllGoOn now self.old self.new }
     {
         let Some(place) = self.place(qid) else {
             return Err(NO_COMMAND);
@@ -151,7 +200,8 @@ impl Hosts {
         qid: u16,
         number: u32,
     ) -> Result<Request, SimulationFault>
-        ensures goes { AllGoOn self.old self.new }
+        ensures goes { AllGoOn now self.old self.new }
+        ensures asks { IfOk result (AsksFor qid number self.old) }
     {
         let Some(place) = self.place(qid) else {
             return Err(NO_COMMAND);
@@ -164,7 +214,7 @@ impl Hosts {
 
     // A command starts.
     pub(crate) fn start(&mut self, now: u64, qid: u16, number: u32) -> Result<(), SimulationFault>
-        ensures goes { AllGoOn self.old self.new }
+        ensures goes { AllGoOn now self.old self.new }
     {
         let Some(place) = self.place(qid) else {
             return Err(NO_COMMAND);
@@ -178,7 +228,7 @@ impl Hosts {
 
     // A command is done.
     pub(crate) fn finish(&mut self, qid: u16, number: u32) -> Result<Flight, SimulationFault>
-        ensures ends { OnOk result (OneEnds qid number self.old self.new) }
+        ensures ends { (now : ℕ) → IfOk result (λ flight. OneEnds qid number now flight self.old self.new) }
     {
         let Some(place) = self.place(qid) else {
             return Err(NO_COMMAND);
@@ -191,7 +241,7 @@ impl Hosts {
 
     // A completion of a queue comes, which tells how far the controller has read. The answer is the new head of its ring.
     pub(crate) fn completed(&mut self, qid: u16, sqhd: u16) -> Option<u16>
-        ensures goes { AllGoOn self.old self.new }
+        ensures goes { (now : ℕ) → AllGoOn now self.old self.new }
     {
         let place = self.place(qid)?;
         Some(self.all[place].completed(sqhd))

@@ -12,6 +12,7 @@ mod front;
 mod happening;
 mod host;
 mod hosts;
+pub mod laws;
 mod machine;
 mod simulation;
 

@@ -22,7 +22,7 @@ pub(crate) struct Machine {
 const NO_COMMAND: SimulationFault = SimulationFault::Broken(Broken::Command);
 
 impl Machine {
-    ghost use Rattle.std.specs.Prelude.{◌≡◌, ◌≤◌, ◌<◌, ◌+◌, ◌-◌, ◌*◌, ℕ, Bool, IfOk, OnOk};
+    ghost use Rattle.std.specs.Prelude.{◌≡◌, ◌≤◌, ◌<◌, ◌+◌, ◌-◌, ◌*◌, ◌&&◌, ℕ, Bool, true, IfOk, OnOk};
     ghost use Rattle.nvme_log.specs.Rules.{FrontRules};
     ghost use Rattle.nvme_ctrl_log.specs.Notes.{Notes};
     ghost use Rattle.nvme_simulation.specs.Picks.{IsLawful, IsTimed};
@@ -30,11 +30,13 @@ impl Machine {
     ghost use Rattle.nvme_occupancy.specs.declared.occupancy.Occupancy.{Occupancy};
     ghost use Rattle.nvme_simulation.specs.Counts.{Counts};
     ghost use Rattle.nvme_simulation.specs.Devices.{room_in};
-    ghost use Rattle.nvme_simulation.specs.Fronts.{IsFront, StandsBy};
-    ghost use Rattle.nvme_simulation.specs.Machines.{Goes, Works};
+    ghost use Rattle.nvme_simulation.specs.Following.{ComesAndFollows, PlansNext, goes_on};
+    ghost use Rattle.nvme_simulation.specs.Fronts.{IsCompletionOf, IsFront, StandsBy};
+    ghost use Rattle.nvme_simulation.specs.Machines.{Goes, TakesPicked, Works};
     ghost use Rattle.nvme_simulation.specs.Passing.{Passes};
-    ghost use Rattle.nvme_simulation.specs.Plans.{IsOfPicks};
-    ghost use Rattle.nvme_simulation.specs.Progress.{OneEnds};
+    ghost use Rattle.nvme_simulation.specs.Plans.{IsOfPicks, events_of};
+    ghost use Rattle.nvme_simulation.specs.Progress.{OneComes, OneEnds};
+    ghost use Rattle.nvme_simulation.specs.Starts.{PlansEnd};
     ghost use Rattle.nvme_simulation.specs.Steps.{cost_with, picked_in};
     ghost use Rattle.nvme_simulation.specs.Times.{now_of};
 
@@ -43,6 +45,7 @@ impl Machine {
         requires front { IsFront self.old.front }
         ensures goes { Goes self.old self.new }
         ensures cost { cost_with self.new ≡ cost_with self.old }
+        ensures agenda { self.new.agenda ≡ self.old.agenda }
     {
         self.ring(qid)?;
         self.fetch(qid)
@@ -53,6 +56,7 @@ impl Machine {
         requires front { IsFront self.old.front }
         ensures goes { Goes self.old self.new }
         ensures cost { cost_with self.new ≡ cost_with self.old }
+        ensures agenda { self.new.agenda ≡ self.old.agenda }
     {
         let Some(tail) = self.hosts.submit(self.agenda.now(), qid) else {
             return Ok(());
@@ -69,6 +73,7 @@ impl Machine {
         requires front { IsFront self.old.front }
         ensures goes { Goes self.old self.new }
         ensures cost { cost_with self.new ≡ cost_with self.old }
+        ensures agenda { self.new.agenda ≡ self.old.agenda }
     {
         let Some(slot) = self.front.next_slot(qid) else {
             return Ok(false);
@@ -86,6 +91,7 @@ impl Machine {
         requires front { IsFront self.old.front }
         ensures goes { Goes self.old self.new }
         ensures cost { cost_with self.new ≡ cost_with self.old }
+        ensures agenda { self.new.agenda ≡ self.old.agenda }
     {
         for _turn in 0..u16::MAX {
             if !self.fetch_one(qid)? {
@@ -99,6 +105,8 @@ impl Machine {
     fn start(&mut self, started: Option<Started>) -> Result<(), SimulationFault>
         requires front { IsFront self.old.front }
         ensures goes { Goes self.old self.new }
+        ensures device { self.new.device ≡ self.old.device }
+        ensures plans { OnOk result (PlansEnd started (events_of self.old.agenda) (events_of self.new.agenda)) }
         ensures cost { cost_with self.new ≤ cost_with self.old + 2 }
     {
         let Some(started) = started else {
@@ -116,6 +124,7 @@ impl Machine {
         requires front { IsFront self.old.front }
         ensures goes { Goes self.old self.new }
         ensures cost { OnOk result (cost_with self.new + 1 ≤ cost_with self.old) }
+        ensures takes { OnOk result (TakesPicked qid self.old self.new) }
     {
         let now = self.agenda.now();
         let Some(taken) = self.front.take(qid) else {
@@ -150,7 +159,7 @@ impl Machine {
         ensures timed { IfOk result (IsTimed (now_of self.old.agenda)) }
         ensures counts { (end : End) (now : ℕ) (occupancy : Occupancy) → IfOk result (Counts end now occupancy occupancy) }
         ensures lawful { (rules : FrontRules) (late : Bool) (notes : Notes) → StandsBy rules late notes self.old.front → IfOk result (IsLawful rules notes (room_in self.old.device)) }
-        ensures passes { IfOk result (Passes self.old.hosts self.new.hosts) }
+        ensures passes { (may counts : Bool) → IfOk result (Passes may counts (now_of self.old.agenda) self.old.hosts self.new.hosts) }
     {
         let room = self.device.room();
         if room == 0 {
@@ -169,7 +178,9 @@ impl Machine {
     }
 
     // Whether a completion is that of a command, in the slot where its host looks for the next one.
-    fn is_completion(&self, post: &Post, taken: Taken) -> bool {
+    fn is_completion(&self, post: &Post, taken: Taken) -> bool
+        ensures { result ≡ true → IsCompletionOf taken post.now }
+    {
         match self.hosts.host(taken.qid) {
             Some(host) => {
                 post.cookie == taken.number
@@ -223,7 +234,7 @@ impl Machine {
         requires front { IsFront self.old.front }
         ensures works { Works self.old self.new }
         ensures cost { OnOk result (cost_with self.new ≤ cost_with self.old + 5) }
-        ensures ends { IfOk result (λ done. OneEnds done.0.qid done.0.number self.old.hosts self.new.hosts) }
+        ensures ends { IfOk result (λ done. OneEnds done.0.qid done.0.number (now_of self.old.agenda) done.1 self.old.hosts self.new.hosts) }
     {
         let taken = self.end(channel)?;
         let flight = self.hosts.finish(taken.qid, taken.number)?;
@@ -258,20 +269,25 @@ impl Machine {
         requires front { IsFront self.old.front }
         ensures goes { Goes self.old self.new }
         ensures cost { cost_with self.new ≤ cost_with self.old + 2 }
+        ensures plans { OnOk result (PlansNext qid time self.old self.new) }
     {
         let next = self.hosts.next_after(qid, time);
         self.agenda.plan(next, Event::Arrival(qid))
     }
 
     // Whether a command of a queue is followed by one that waits for no completion, where more may come.
-    fn is_followed(&self, qid: u16, more: bool) -> bool {
+    fn is_followed(&self, qid: u16, more: bool) -> bool
+        ensures { result ≡ (more && goes_on self.now.hosts qid) }
+    {
         more && self.hosts.goes_on(qid)
     }
 
     // A command of a queue comes, and where more come the next one behind it, but where that waits for a completion.
     pub(crate) fn come(&mut self, qid: u16, counts: bool, more: bool) -> Result<(), SimulationFault>
         requires front { IsFront self.old.front }
-        ensures goes { Goes self.old self.new }
+        ensures works { Works self.old self.new }
+        ensures comes { OnOk result (OneComes qid (now_of self.old.agenda) counts self.old.hosts self.new.hosts) }
+        ensures follows { OnOk result (ComesAndFollows qid counts more self.old self.new) }
         ensures cost { cost_with self.new ≤ cost_with self.old + 2 }
     {
         let now = self.agenda.now();

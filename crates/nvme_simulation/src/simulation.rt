@@ -27,17 +27,20 @@ pub struct Simulation {
 }
 
 impl Simulation {
-    ghost use Rattle.std.specs.Prelude.{◌≡◌, ◌≤◌, ◌+◌, ◌-◌, ◌*◌, Bool, true, false, IfOk, OnOk};
+    ghost use Rattle.std.specs.Prelude.{◌≡◌, ◌≤◌, ◌+◌, ◌-◌, ◌*◌, ◌&&◌, Bool, true, false, IfOk, OnOk};
     ghost use Rattle.nvme_log.specs.Rules.{FrontRules};
     ghost use Rattle.nvme_ctrl_log.specs.Notes.{Notes};
+    ghost use Rattle.nvme_ctrl_log.specs.Observation.{seen_in};
     ghost use Rattle.nvme_occupancy.specs.Occupancies.{Comes, Leaves};
     ghost use Rattle.nvme_simulation.specs.Beginnings.{IsNewOf};
     ghost use Rattle.nvme_simulation.specs.Counts.{may_come};
+    ghost use Rattle.nvme_simulation.specs.Following.{PlansIf, closed_in};
     ghost use Rattle.nvme_simulation.specs.Fronts.{IsFront};
     ghost use Rattle.nvme_simulation.specs.Handling.{Handles, IsOver, Stays};
     ghost use Rattle.nvme_simulation.specs.Machines.{Goes};
+    ghost use Rattle.nvme_simulation.specs.Marks.{IsToldOf};
     ghost use Rattle.nvme_simulation.specs.Picks.{IsLawful};
-    ghost use Rattle.nvme_simulation.specs.Simulations.{IsSameModel, IsSimulation, StandsAt, occupancy_of, picks_of, room_at, time_of};
+    ghost use Rattle.nvme_simulation.specs.Simulations.{IsSameModel, IsSimulation, StandsAt, channels_of, may_come_to, occupancy_of, picks_of, room_at, time_of};
     ghost use Rattle.nvme_simulation.specs.Stepping.{HasStepped};
     ghost use Rattle.nvme_simulation.specs.Steps.{cost_with};
     ghost use Rattle.nvme_simulation.specs.declared.agenda.Event.TheVariants as event;
@@ -70,7 +73,9 @@ impl Simulation {
 
     /// What the next pick is shown of a queue: its class, and how many of its commands wait. None where there is no such
     /// queue. 0 is the admin queue.
-    pub fn seen(&self, qid: u16) -> Option<Seen> {
+    pub fn seen(&self, qid: u16) -> Option<Seen>
+        ensures { (rules : FrontRules) (late : Bool) (notes : Notes) → StandsAt rules late notes self.now → result ≡ seen_in notes qid }
+    {
         self.machine.front.seen(qid)
     }
 
@@ -97,7 +102,9 @@ impl Simulation {
     }
 
     /// The channels of the device.
-    pub fn channels(&self) -> &[Channel] {
+    pub fn channels(&self) -> &[Channel]
+        ensures { result.now ≡ channels_of self.now }
+    {
         self.machine.device.channels()
     }
 
@@ -159,7 +166,7 @@ impl Simulation {
     ) -> Result<Finished, SimulationFault>
         ensures rest { self.new ≡ record self.old { occupancy = self.new.occupancy } }
         ensures channel { IfOk result (λ f. f.channel ≡ channel) }
-        ensures done { IfOk result (λ f. f.times.done ≡ time_of self.old) }
+        ensures told { IfOk result (λ f. IsToldOf flight.now (time_of self.old) f flight.now.request.counts) }
         ensures leaves { IfOk result (λ f. Leaves (time_of self.old) self.old.occupancy self.new.occupancy) }
         ensures queue { IfOk result (λ f. f.queue ≡ taken.qid) }
         ensures number { IfOk result (λ f. f.number ≡ taken.number) }
@@ -174,14 +181,22 @@ impl Simulation {
         }
     }
 
+    // Whether the host of a queue thinks after a completion, and then has one more command: it is closed, and more may come.
+    fn thinks(&self, qid: u16) -> bool
+        ensures { result ≡ (closed_in self.now.machine.hosts qid && may_come_to self.now (time_of self.now)) }
+    {
+        self.machine.hosts.is_closed(qid) && self.may_come()
+    }
+
     // A closed host has a completion: its next command comes when it thought, if one may come.
     fn think(&mut self, qid: u16) -> Result<(), SimulationFault>
         requires front { IsFront self.old.machine.front }
         ensures goes { Goes self.old.machine self.new.machine }
         ensures rest { self.new ≡ record self.old { machine = self.new.machine } }
         ensures cost { cost_with self.new.machine ≤ cost_with self.old.machine + 2 }
+        ensures plans { OnOk result (PlansIf (closed_in self.old.machine.hosts qid && may_come_to self.old (time_of self.old)) qid (time_of self.old) self.old.machine self.new.machine) }
     {
-        if !self.machine.hosts.is_closed(qid) || !self.may_come() {
+        if !self.thinks(qid) {
             return Ok(());
         }
         let now = self.machine.agenda.now();

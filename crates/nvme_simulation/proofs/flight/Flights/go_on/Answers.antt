@@ -14,5 +14,6 @@ returns-clause-moves c =
     let at = slice_get-get_or f.kept.items (c.args.number - f.first) c.index.result.now within
     ∙ ap Some (ap (λ (k : ℕ). get_or f.kept.items k c.index.result.now) (sym place) ∙ sym c.index.ensures) in
     let was : c.index.result.now.stage ≡ c.args.from = grind (arith, c.if-ne.false, c.ne.ensures) in
-    moves f _ c.args.number c.args.from c.index.result.now c.next-next.result refl
-    (ap (λ (k : ℕ). slice_set f.kept.items k c.next-next.result) place) c.in_ok-place.ensures.from.0 within at was (c.next-next.ensures ∙ ap next_stage was)
+    moves f _ c.args.number c.args.from c.args.now c.index.result.now c.next-next.result refl
+    (ap (λ (k : ℕ). slice_set f.kept.items k c.next-next.result) place) c.in_ok-place.ensures.from.0 within at was c.next-next.ensures.value
+    (c.next-next.ensures.stage ∙ ap next_stage was)

@@ -14,6 +14,7 @@ returns c =
       front = record {
         is = at_pool (λ (xs : List Slot). IsController made xs) c.args.self.now.pool _ c.complete.new.slots value c.complete.ensures.size
             (c.complete.ensures.front (subst (λ (xs : List Slot). IsController c.args.self.now.controller xs) (sym value) c.requires.front));
+        depths = c.complete.ensures.depths;
         arbitrates = λ m s a. at_pool (λ (xs : List Slot). Arbitrates m s made xs) c.args.self.now.pool _ c.complete.new.slots value c.complete.ensures.size
             (let stood = subst (λ (xs : List Slot). Arbitrates m s c.args.self.now.controller xs) (sym value) a in
             elim (cases_Bool c.complete.result) [

@@ -14,6 +14,7 @@ returns c =
       front = record {
         is = at_pool (λ (xs : List Slot). IsController made xs) c.args.self.now.pool _ c.fetched.new.slots value c.fetched.ensures.size
             (c.fetched.ensures.front (subst (λ (xs : List Slot). IsController c.args.self.now.controller xs) (sym value) c.requires.front));
+        depths = c.fetched.ensures.depths;
         arbitrates = λ m s a. at_pool (λ (xs : List Slot). Arbitrates m s made xs) c.args.self.now.pool _ c.fetched.new.slots value c.fetched.ensures.size
             (let stood = subst (λ (xs : List Slot). Arbitrates m s c.args.self.now.controller xs) (sym value) a in
             elim (cases_Bool c.fetched.result) [

@@ -6,6 +6,7 @@ use Rattle.nvme_simulation.proofs.front.Front.new.Goals as goal
 
 pub returns-in-Ok : goal.returns-in-Ok
 returns-in-Ok c = record {
+  depths = c.in-Ok.ensures.depths;
   front = at_pool (λ (xs : List Slot). Arbitrates c.args.mechanism c.args.settings c.in-Ok.controller xs) c.resize.new.self _ c.anywhere.new.slots
       c.deref_mut.ensures.value c.in-Ok.ensures.size (record {
         rules = _;

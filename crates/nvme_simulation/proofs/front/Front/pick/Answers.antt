@@ -17,6 +17,7 @@ returns-clause-front c =
     record {
       is = at_pool (λ (xs : List Slot). IsController c.pick.new.self xs) c.args.self.now.pool _ c.pick.new.slots value c.pick.ensures.size
           (c.pick.ensures.front (subst (λ (xs : List Slot). IsController c.args.self.now.controller xs) (sym value) c.requires.front));
+      depths = c.pick.ensures.depths;
       arbitrates = λ m s a. at_pool (λ (xs : List Slot). Arbitrates m s c.pick.new.self xs) c.args.self.now.pool _ c.pick.new.slots value c.pick.ensures.size
           (let stood = subst (λ (xs : List Slot). Arbitrates m s c.args.self.now.controller xs) (sym value) a in
           stepped m s _ _ _ _ stood c.args.room c.pick.result (c.pick.ensures.stands stood.rules stood.late stood.notes stood.stands));

@@ -12,6 +12,7 @@ returns c =
       front = record {
         is = at_pool (λ (xs : List Slot). IsController c.post.new.self xs) c.args.self.now.pool _ c.post.new.slots value c.post.ensures.size
             (c.post.ensures.front (subst (λ (xs : List Slot). IsController c.args.self.now.controller xs) (sym value) c.requires.front));
+        depths = c.post.ensures.depths;
         arbitrates = λ m s a. at_pool (λ (xs : List Slot). Arbitrates m s c.post.new.self xs) c.args.self.now.pool _ c.post.new.slots value c.post.ensures.size
             (let stood = subst (λ (xs : List Slot). Arbitrates m s c.args.self.now.controller xs) (sym value) a in
             told m s _ _ _ _ _ c.post.result c.post.ensures.none (c.post.ensures.stands stood.rules stood.late stood.notes stood.stands)

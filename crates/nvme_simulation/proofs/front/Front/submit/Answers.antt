@@ -9,6 +9,7 @@ pub returns : goal.returns
 returns c = record {
   front = record {
     is = c.sq_tail.ensures.front c.args.self.now.pool.items c.requires.front;
+    depths = c.sq_tail.ensures.depths;
     arbitrates = λ m s a. elim (cases_Bool c.sq_tail.result) [
       | inl rung ↦ again m s _ _ _ _ a _ (c.sq_tail.ensures.stands a.rules a.late a.notes c.args.self.now.pool.items a.stands rung).stands
       | inr refused ↦ subst (λ (x : Controller). Arbitrates m s x c.args.self.now.pool.items) (sym (c.sq_tail.ensures.refused refused)) a

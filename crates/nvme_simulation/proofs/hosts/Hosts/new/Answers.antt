@@ -1,10 +1,11 @@
-use Rattle.std.proofs.Common.{rules, arith}
-use Rattle.nvme_simulation.proofs.Beginnings.{none_left, none_more, one_more}
+use Rattle.std.proofs.Common.{◌≡◌, ℕ, length, subst, rules, arith}
+use Rattle.nvme_simulation.proofs.Beginnings.{none_left, none_more, one_more, streams_more, streams_none}
+use Rattle.nvme_simulation.specs.Beginnings.{HasStreams, qid_at}
 use Rattle.nvme_simulation.proofs.Machines.{front_stays, front_then}
 use Rattle.nvme_simulation.proofs.hosts.Hosts.new.Goals as goal
 
 pub loop-queue-init : goal.loop-queue-init
-loop-queue-init c = record { front = front_stays _ c.requires.front; loads = search rules; none = search rules }
+loop-queue-init c = record { front = front_stays _ c.requires.front; loads = search rules; none = search rules; streams = streams_none _ _ (search rules) }
 
 pub create-requires : goal.create-requires
 create-requires c = record { front = c.loop-queue.invariant.front.is }
@@ -23,7 +24,17 @@ loop-queue-preserved c = record {
   front = front_then _ _ _ c.loop-queue.invariant.front c.create.ensures.front;
   loads = one_more _ _ c.in_ok-host.host _ _ c.in-Some.queue _ c.in-Ok.ensures.items c.in-Some.ensures.steps.0 c.in_ok-host.ensures.load c.loop-queue.invariant.loads;
   none = none_more _ _ c.in_ok-host.host c.in-Ok.ensures.items c.loop-queue.invariant.none c.in_ok-host.ensures.none;
+  streams =
+      let long : c.len.result ≡ length c.loop-queue.all.items = omega (arith, c.len.ensures, c.loop-queue.all.ok.0) in
+      streams_more c.args.seed _ _ c.in_ok-host.host c.in-Ok.ensures.items c.loop-queue.invariant.streams
+      (subst (λ (n : ℕ). HasStreams c.args.seed (qid_at n) c.in_ok-host.host) long c.in_ok-host.ensures.streams);
 }
+
+pub returns-then-not-are_shown-clause-front : goal.returns-then-not-are_shown-clause-front
+returns-then-not-are_shown-clause-front c = c.loop-queue.invariant.front
+
+pub returns-clause-streams : goal.returns-clause-streams
+returns-clause-streams c = c.loop-queue.invariant.streams
 
 pub returns-clause-front : goal.returns-clause-front
 returns-clause-front c = c.loop-queue.invariant.front

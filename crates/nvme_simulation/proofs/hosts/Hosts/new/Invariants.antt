@@ -1,7 +1,8 @@
 use Rattle.std.proofs.Common.{◌≡◌, ◌++◌, All}
 use Rattle.std.specs.Prelude.{map}
 use Rattle.std.specs.Vec.Iter.{into_iter_items}
-use Rattle.nvme_simulation.specs.Beginnings.{IsUnused, load_in, load_of}
+use Rattle.nvme_simulation.specs.Beginnings.{DrawTheirStreams, IsUnused}
+use Rattle.nvme_simulation.specs.Loads.{load_in, load_of}
 use Rattle.nvme_simulation.specs.Fronts.{StaysFront}
 use Rattle.nvme_simulation.proofs.hosts.Hosts.new.Given as goal
 
@@ -10,4 +11,5 @@ invariant-loop-queue l = record {
   front : StaysFront l.fn.front l.front;
   loads : map load_of l.all.items ++ map load_in (into_iter_items l.queue-iterator) ≡ map load_in l.fn.queues.items;
   none : All IsUnused l.all.items;
+  streams : DrawTheirStreams l.fn.seed l.all.items;
 }

@@ -4,19 +4,19 @@ use Rattle.nvme_simulation.proofs.Hosted.{all_stay}
 use Rattle.nvme_simulation.proofs.machine.Machine.collect.Goals as goal
 
 pub returns-then-not-complete-clause-goes : goal.returns-then-not-complete-clause-goes
-returns-then-not-complete-clause-goes c = goes_front _ _ (all_stay _) c.complete.ensures.front refl refl
+returns-then-not-complete-clause-goes c = goes_front _ _ (all_stay _ _) c.complete.ensures.front refl refl
 
 pub returns-in_default-clause-goes : goal.returns-in_default-clause-goes
-returns-in_default-clause-goes c = goes_front _ _ (all_stay _) (front_then _ _ _ c.complete.ensures.front c.post.ensures.front) refl refl
+returns-in_default-clause-goes c = goes_front _ _ (all_stay _ _) (front_then _ _ _ c.complete.ensures.front c.post.ensures.front) refl refl
 
 pub returns-then-not-is_completion-clause-goes : goal.returns-then-not-is_completion-clause-goes
-returns-then-not-is_completion-clause-goes c = goes_front _ _ (all_stay _) (front_then _ _ _ c.complete.ensures.front c.post.ensures.front) refl refl
+returns-then-not-is_completion-clause-goes c = goes_front _ _ (all_stay _ _) (front_then _ _ _ c.complete.ensures.front c.post.ensures.front) refl refl
 
 pub returns-in_default-completed-clause-goes : goal.returns-in_default-completed-clause-goes
-returns-in_default-completed-clause-goes c = goes_front _ _ c.completed.ensures.goes (front_then _ _ _ c.complete.ensures.front c.post.ensures.front) refl refl
+returns-in_default-completed-clause-goes c = goes_front _ _ (c.completed.ensures.goes _) (front_then _ _ _ c.complete.ensures.front c.post.ensures.front) refl refl
 
 pub returns-then-read-clause-goes : goal.returns-then-read-clause-goes
-returns-then-read-clause-goes c = goes_front _ _ c.completed.ensures.goes (front_then _ _ _ (front_then _ _ _ c.complete.ensures.front c.post.ensures.front) c.read.ensures.front) refl refl
+returns-then-read-clause-goes c = goes_front _ _ (c.completed.ensures.goes _) (front_then _ _ _ (front_then _ _ _ c.complete.ensures.front c.post.ensures.front) c.read.ensures.front) refl refl
 
 pub returns-else-read-clause-goes : goal.returns-else-read-clause-goes
-returns-else-read-clause-goes c = goes_front _ _ c.completed.ensures.goes (front_then _ _ _ (front_then _ _ _ c.complete.ensures.front c.post.ensures.front) c.read.ensures.front) refl refl
+returns-else-read-clause-goes c = goes_front _ _ (c.completed.ensures.goes _) (front_then _ _ _ (front_then _ _ _ c.complete.ensures.front c.post.ensures.front) c.read.ensures.front) refl refl

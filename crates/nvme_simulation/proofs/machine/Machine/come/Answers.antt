@@ -1,15 +1,57 @@
-use Rattle.std.proofs.Common.{refl}
-use Rattle.nvme_simulation.proofs.Machines.{front_stays, goes_front, goes_then}
+use Rattle.std.proofs.Common.{◌∙◌, sym, ap, arith}
+use Rattle.nvme_simulation.specs.Plans.{events_of}
+use Rattle.nvme_simulation.specs.declared.machine.Machine.{Machine}
+use Rattle.nvme_simulation.proofs.Hosted.{come_then}
+use Rattle.nvme_simulation.proofs.Machines.{comes_at, front_stays, goes_then, on_ok, plans_if, plans_if_not, works}
+use Rattle.nvme_simulation.proofs.Plans.{follows_self}
+use Rattle.nvme_simulation.proofs.Rooms.{behind_none}
 use Rattle.nvme_simulation.proofs.machine.Machine.come.Goals as goal
 
-pub returns-in_err-come-clause-goes : goal.returns-in_err-come-clause-goes
-returns-in_err-come-clause-goes c = goes_front _ _ c.come.ensures.goes (front_stays _ c.requires.front) refl refl
+pub returns-in_err-come-clause-works : goal.returns-in_err-come-clause-works
+returns-in_err-come-clause-works c = record { front = front_stays _ c.requires.front; events = follows_self _; device = behind_none _ }
 
-pub returns-then-not-is_followed-clause-goes : goal.returns-then-not-is_followed-clause-goes
-returns-then-not-is_followed-clause-goes c = goes_then _ _ _ (goes_front _ _ c.come.ensures.goes (front_stays _ c.requires.front) refl refl) c.submit.ensures.goes
+pub returns-then-not-is_followed-clause-works : goal.returns-then-not-is_followed-clause-works
+returns-then-not-is_followed-clause-works c =
+    let w = works (record c.args.self.now { hosts = c.come.new.self }) _ c.submit.ensures.goes in record { front = w.front; events = w.events; device = w.device }
 
-pub returns-in_err-follow-clause-goes : goal.returns-in_err-follow-clause-goes
-returns-in_err-follow-clause-goes c = goes_then _ _ _ (goes_front _ _ c.come.ensures.goes (front_stays _ c.requires.front) refl refl) c.follow.ensures.goes
+pub returns-then-not-is_followed-clause-comes : goal.returns-then-not-is_followed-clause-comes
+returns-then-not-is_followed-clause-comes c =
+    on_ok c.submit.result
+    (come_then _ _ _ _ _ _ (comes_at _ _ _ _ _ _ c.now-now.ensures.value c.in_ok-come.ensures.comes) c.submit.ensures.goes.hosts)
 
-pub returns-clause-goes : goal.returns-clause-goes
-returns-clause-goes c = goes_then _ _ _ (goes_then _ _ _ (goes_front _ _ c.come.ensures.goes (front_stays _ c.requires.front) refl refl) c.follow.ensures.goes) c.submit-2.ensures.goes
+pub returns-in_err-follow-clause-works : goal.returns-in_err-follow-clause-works
+returns-in_err-follow-clause-works c =
+    let w = works (record c.args.self.now { hosts = c.come.new.self }) _ c.follow.ensures.goes in record { front = w.front; events = w.events; device = w.device }
+
+pub returns-clause-works : goal.returns-clause-works
+returns-clause-works c =
+    let goes = goes_then (record c.args.self.now { hosts = c.come.new.self }) _ _ c.follow.ensures.goes c.submit-2.ensures.goes in
+    let w = works (record c.args.self.now { hosts = c.come.new.self }) _ goes in record { front = w.front; events = w.events; device = w.device }
+
+pub returns-clause-comes : goal.returns-clause-comes
+returns-clause-comes c =
+    let goes = goes_then (record c.args.self.now { hosts = c.come.new.self }) _ _ c.follow.ensures.goes c.submit-2.ensures.goes in
+    on_ok c.submit-2.result (come_then _ _ _ _ _ _ (comes_at _ _ _ _ _ _ c.now-now.ensures.value c.in_ok-come.ensures.comes) goes.hosts)
+
+pub returns-then-not-is_followed-clause-follows : goal.returns-then-not-is_followed-clause-follows
+returns-then-not-is_followed-clause-follows c =
+    let mid : Machine = record c.args.self.now { hosts = c.come.new.self } in
+    on_ok c.submit.result (record {
+      came = c.come.new.self;
+      comes = comes_at _ _ _ _ _ _ c.now-now.ensures.value c.in_ok-come.ensures.comes;
+      followed = mid;
+      plans = plans_if_not _ _ _ mid (sym c.is_followed.ensures ∙ grind (arith, c.if-not-is_followed.true));
+      events = ap events_of c.submit.ensures.agenda;
+    })
+
+pub returns-clause-follows : goal.returns-clause-follows
+returns-clause-follows c =
+    let mid : Machine = record c.args.self.now { hosts = c.come.new.self } in
+    on_ok c.submit-2.result (record {
+      came = c.come.new.self;
+      comes = comes_at _ _ _ _ _ _ c.now-now.ensures.value c.in_ok-come.ensures.comes;
+      followed = c.follow.new.self;
+      plans = plans_if _ _ _ _ mid c.follow.new.self c.now-now.ensures.value (sym c.is_followed.ensures ∙ grind (arith, c.if-not-is_followed.false))
+          c.in_ok-follow.ensures.plans;
+      events = ap events_of c.submit-2.ensures.agenda;
+    })

@@ -6,7 +6,7 @@ use Rattle.nvme_simulation.proofs.machine.Machine.end.Goals as goal
 pub returns-in_err-taken-clause-goes : goal.returns-in_err-taken-clause-goes
 returns-in_err-taken-clause-goes c = record {
   front = front_stays _ c.requires.front;
-  hosts = all_stay _;
+  hosts = all_stay _ _;
   events = follows_self _;
   device = c.finish.ensures.behind;
 }
@@ -14,7 +14,7 @@ returns-in_err-taken-clause-goes c = record {
 pub returns-in_err-start-clause-goes : goal.returns-in_err-start-clause-goes
 returns-in_err-start-clause-goes c = goes_then _ _ _ (record {
   front = front_stays _ c.requires.front;
-  hosts = all_stay _;
+  hosts = all_stay _ _;
   events = follows_self _;
   device = c.finish.ensures.behind;
 }) c.start.ensures.goes
@@ -22,7 +22,7 @@ returns-in_err-start-clause-goes c = goes_then _ _ _ (record {
 pub returns-in_err-collect-clause-goes : goal.returns-in_err-collect-clause-goes
 returns-in_err-collect-clause-goes c = goes_then _ _ _ (goes_then _ _ _ (record {
   front = front_stays _ c.requires.front;
-  hosts = all_stay _;
+  hosts = all_stay _ _;
   events = follows_self _;
   device = c.finish.ensures.behind;
 }) c.start.ensures.goes) c.collect.ensures.goes
@@ -30,7 +30,7 @@ returns-in_err-collect-clause-goes c = goes_then _ _ _ (goes_then _ _ _ (record 
 pub returns-clause-goes : goal.returns-clause-goes
 returns-clause-goes c = goes_then _ _ _ (goes_then _ _ _ (record {
   front = front_stays _ c.requires.front;
-  hosts = all_stay _;
+  hosts = all_stay _ _;
   events = follows_self _;
   device = c.finish.ensures.behind;
 }) c.start.ensures.goes) c.collect.ensures.goes

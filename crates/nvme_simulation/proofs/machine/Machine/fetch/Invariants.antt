@@ -7,4 +7,5 @@ abbrev pub invariant-loop-turn : goal.invariant-loop-turn
 invariant-loop-turn l = record {
   goes : Goes l.fn.self l.self;
   cost : cost_with l.self ≡ cost_with l.fn.self;
+  agenda : l.self.agenda ≡ l.fn.self.agenda;
 }

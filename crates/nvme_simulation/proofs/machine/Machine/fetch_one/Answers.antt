@@ -6,10 +6,10 @@ pub returns-in_default-clause-goes : goal.returns-in_default-clause-goes
 returns-in_default-clause-goes c = goes_self _ c.requires.front
 
 pub returns-in_err-number-clause-goes : goal.returns-in_err-number-clause-goes
-returns-in_err-number-clause-goes c = goes_front _ _ c.fetch.ensures.goes (front_stays _ c.requires.front) refl refl
+returns-in_err-number-clause-goes c = goes_front _ _ (c.fetch.ensures.goes _) (front_stays _ c.requires.front) refl refl
 
 pub returns-then-fetched-clause-goes : goal.returns-then-fetched-clause-goes
-returns-then-fetched-clause-goes c = goes_front _ _ c.fetch.ensures.goes c.fetched.ensures.front refl refl
+returns-then-fetched-clause-goes c = goes_front _ _ (c.fetch.ensures.goes _) c.fetched.ensures.front refl refl
 
 pub returns-else-fetched-clause-goes : goal.returns-else-fetched-clause-goes
-returns-else-fetched-clause-goes c = goes_front _ _ c.fetch.ensures.goes c.fetched.ensures.front refl refl
+returns-else-fetched-clause-goes c = goes_front _ _ (c.fetch.ensures.goes _) c.fetched.ensures.front refl refl

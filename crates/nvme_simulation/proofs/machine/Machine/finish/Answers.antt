@@ -14,4 +14,4 @@ returns-clause-works c =
     let w = works c.args.self.now c.end.new.self c.end.ensures.goes in record { front = w.front; events = w.events; device = w.device }
 
 pub returns-clause-ends : goal.returns-clause-ends
-returns-clause-ends c = one_after _ _ _ _ _ c.end.ensures.goes.hosts c.in_ok-flight.ensures.ends
+returns-clause-ends c = one_after _ _ _ _ _ _ _ c.end.ensures.goes.hosts (c.in_ok-flight.ensures.ends _)

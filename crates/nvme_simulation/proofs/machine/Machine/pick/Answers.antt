@@ -7,19 +7,22 @@ use Rattle.nvme_simulation.proofs.machine.Machine.pick.Goals as goal
 pub returns-then-room-eq0-clause-goes : goal.returns-then-room-eq0-clause-goes
 returns-then-room-eq0-clause-goes c = goes_self _ c.requires.front
 
+pub returns-then-room-eq0-clause-passes : goal.returns-then-room-eq0-clause-passes
+returns-then-room-eq0-clause-passes c may counts = all_stay _ _
+
 pub returns-in_err-take_all-in-Picked-clause-goes : goal.returns-in_err-take_all-in-Picked-clause-goes
-returns-in_err-take_all-in-Picked-clause-goes c = goes_then _ _ _ (goes_front _ _ (all_stay _) c.pick.ensures.front refl refl) c.take_all.ensures.goes
+returns-in_err-take_all-in-Picked-clause-goes c = goes_then _ _ _ (goes_front _ _ (all_stay _ _) c.pick.ensures.front refl refl) c.take_all.ensures.goes
 
 pub returns-in_err-fetch-in-Picked-clause-goes : goal.returns-in_err-fetch-in-Picked-clause-goes
 returns-in_err-fetch-in-Picked-clause-goes c =
-    goes_then _ _ _ (goes_then _ _ _ (goes_front _ _ (all_stay _) c.pick.ensures.front refl refl) c.take_all.ensures.goes) c.fetch.ensures.goes
+    goes_then _ _ _ (goes_then _ _ _ (goes_front _ _ (all_stay _ _) c.pick.ensures.front refl refl) c.take_all.ensures.goes) c.fetch.ensures.goes
 
 pub returns-in_ok-fetch-in-Picked-clause-goes : goal.returns-in_ok-fetch-in-Picked-clause-goes
 returns-in_ok-fetch-in-Picked-clause-goes c =
-    goes_then _ _ _ (goes_then _ _ _ (goes_front _ _ (all_stay _) c.pick.ensures.front refl refl) c.take_all.ensures.goes) c.fetch.ensures.goes
+    goes_then _ _ _ (goes_then _ _ _ (goes_front _ _ (all_stay _ _) c.pick.ensures.front refl refl) c.take_all.ensures.goes) c.fetch.ensures.goes
 
 pub returns-in_ok-fetch-in-Picked-clause-passes : goal.returns-in_ok-fetch-in-Picked-clause-passes
-returns-in_ok-fetch-in-Picked-clause-passes c = (goes_then _ _ _ c.take_all.ensures.goes c.fetch.ensures.goes).hosts
+returns-in_ok-fetch-in-Picked-clause-passes c may counts = (goes_then _ _ _ c.take_all.ensures.goes c.fetch.ensures.goes).hosts
 
 pub returns-in_ok-fetch-in-Picked-clause-lawful : goal.returns-in_ok-fetch-in-Picked-clause-lawful
 returns-in_ok-fetch-in-Picked-clause-lawful c rules late notes s =
@@ -27,21 +30,24 @@ returns-in_ok-fetch-in-Picked-clause-lawful c rules late notes s =
     (c.room-room.ensures, subst (λ (room : ℕ). IsNextWithin rules notes room (Some c.in-Picked.pick)) c.room-room.ensures picked)
 
 pub returns-in-Idle-clause-goes : goal.returns-in-Idle-clause-goes
-returns-in-Idle-clause-goes c = goes_front _ _ (all_stay _) c.pick.ensures.front refl refl
+returns-in-Idle-clause-goes c = goes_front _ _ (all_stay _ _) c.pick.ensures.front refl refl
+
+pub returns-in-Idle-clause-passes : goal.returns-in-Idle-clause-passes
+returns-in-Idle-clause-passes c may counts = all_stay _ _
 
 pub returns-in-Idle-clause-lawful : goal.returns-in-Idle-clause-lawful
 returns-in-Idle-clause-lawful c rules late notes s = inr (c.pick.ensures.idle c.in-Idle.is rules late notes s)
 
 pub returns-in_default-clause-goes : goal.returns-in_default-clause-goes
-returns-in_default-clause-goes c = goes_front _ _ (all_stay _) c.pick.ensures.front refl refl
+returns-in_default-clause-goes c = goes_front _ _ (all_stay _ _) c.pick.ensures.front refl refl
 
 pub returns-in_default-2 : goal.returns-in_default-2
 returns-in_default-2 c = record {
-  goes = goes_front _ _ (all_stay _) c.pick.ensures.front refl refl;
+  goes = goes_front _ _ (all_stay _ _) c.pick.ensures.front refl refl;
   cost = tt;
   of_picks = tt;
   timed = tt;
   counts = λ end now occupancy. tt;
   lawful = λ rules late notes s. tt;
-  passes = tt;
+  passes = λ may counts. tt;
 }

@@ -6,7 +6,7 @@ use Rattle.nvme_simulation.proofs.machine.Machine.resume.Goals as goal
 pub returns-in_err-started-clause-goes : goal.returns-in_err-started-clause-goes
 returns-in_err-started-clause-goes c = record {
   front = front_stays _ c.requires.front;
-  hosts = all_stay _;
+  hosts = all_stay _ _;
   events = follows_self _;
   device = c.resume.ensures.behind;
 }
@@ -14,7 +14,7 @@ returns-in_err-started-clause-goes c = record {
 pub returns-clause-goes : goal.returns-clause-goes
 returns-clause-goes c = goes_then _ _ _ (record {
   front = front_stays _ c.requires.front;
-  hosts = all_stay _;
+  hosts = all_stay _ _;
   events = follows_self _;
   device = c.resume.ensures.behind;
 }) c.start.ensures.goes

@@ -1,5 +1,5 @@
 use Rattle.std.proofs.Common.{refl}
-use Rattle.nvme_simulation.proofs.Machines.{front_stays, goes_front, goes_self}
+use Rattle.nvme_simulation.proofs.Machines.{all_at, front_stays, goes_front, goes_self}
 use Rattle.nvme_simulation.proofs.Rooms.{behind_none}
 use Rattle.nvme_simulation.proofs.machine.Machine.start.Goals as goal
 
@@ -7,12 +7,12 @@ pub returns-in_default-clause-goes : goal.returns-in_default-clause-goes
 returns-in_default-clause-goes c = goes_self _ c.requires.front
 
 pub returns-in_err-start-clause-goes : goal.returns-in_err-start-clause-goes
-returns-in_err-start-clause-goes c = goes_front _ _ c.start.ensures.goes (front_stays _ c.requires.front) refl refl
+returns-in_err-start-clause-goes c = goes_front _ _ (all_at _ _ _ _ c.now-now.ensures.value c.start.ensures.goes) (front_stays _ c.requires.front) refl refl
 
 pub returns-clause-goes : goal.returns-clause-goes
 returns-clause-goes c = record {
   front = front_stays _ c.requires.front;
-  hosts = c.start.ensures.goes;
+  hosts = all_at _ _ _ _ c.now-now.ensures.value c.start.ensures.goes;
   events = c.plan.ensures.follows;
   device = behind_none _;
 }

@@ -1,19 +1,21 @@
-use Rattle.std.proofs.Common.{refl, arith}
-use Rattle.nvme_simulation.proofs.Machines.{goes_front, goes_then, on_ok}
+use Rattle.std.proofs.Common.{◌∙◌, ap, refl, arith}
+use Rattle.nvme_simulation.proofs.Machines.{all_at, goes_front, goes_then, on_ok}
+use Rattle.nvme_simulation.proofs.Started.{at_now}
+use Rattle.nvme_simulation.specs.Devices.{device_in}
 use Rattle.nvme_simulation.proofs.Hosted.{all_stay}
 use Rattle.nvme_simulation.proofs.Plans.{follows_self}
 use Rattle.nvme_simulation.proofs.machine.Machine.take.Goals as goal
 
 pub returns-in_default-clause-goes : goal.returns-in_default-clause-goes
-returns-in_default-clause-goes c = goes_front _ _ (all_stay _) c.take.ensures.front refl refl
+returns-in_default-clause-goes c = goes_front _ _ (all_stay _ _) c.take.ensures.front refl refl
 
 pub returns-in_err-request-clause-goes : goal.returns-in_err-request-clause-goes
-returns-in_err-request-clause-goes c = goes_front _ _ c.pick.ensures.goes c.take.ensures.front refl refl
+returns-in_err-request-clause-goes c = goes_front _ _ (all_at _ _ _ _ c.now-now.ensures.value c.pick.ensures.goes) c.take.ensures.front refl refl
 
 pub returns-in_err-started-clause-goes : goal.returns-in_err-started-clause-goes
 returns-in_err-started-clause-goes c = record {
   front = c.take.ensures.front;
-  hosts = c.pick.ensures.goes;
+  hosts = all_at _ _ _ _ c.now-now.ensures.value c.pick.ensures.goes;
   events = follows_self _;
   device = c.take-2.ensures.behind;
 }
@@ -21,10 +23,20 @@ returns-in_err-started-clause-goes c = record {
 pub returns-clause-goes : goal.returns-clause-goes
 returns-clause-goes c = goes_then _ _ _ (record {
   front = c.take.ensures.front;
-  hosts = c.pick.ensures.goes;
+  hosts = all_at _ _ _ _ c.now-now.ensures.value c.pick.ensures.goes;
   events = follows_self _;
   device = c.take-2.ensures.behind;
 }) c.start.ensures.goes
+
+pub returns-clause-takes : goal.returns-clause-takes
+returns-clause-takes c =
+    on_ok c.start.result (record {
+      taken = c.in-Some.taken;
+      queue = c.in-Some.ensures.queue;
+      request = c.in_ok-request.request;
+      asks = c.in_ok-request.ensures.asks;
+      takes = ap device_in c.start.ensures.device ∙ c.take-2.ensures.takes ∙ at_now c.in-Some.taken c.in_ok-request.request _ _ (device_in c.args.self.now.device) c.now-now.ensures.value;
+    })
 
 pub returns-clause-cost : goal.returns-clause-cost
 returns-clause-cost c =

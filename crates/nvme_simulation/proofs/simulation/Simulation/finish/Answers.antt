@@ -2,15 +2,18 @@ use Rattle.std.proofs.Common.{◌≡◌, ◌∙◌, ◌≤◌, ◌+◌, ℕ, Som
 use Rattle.nvme_occupancy.specs.Occupancies.{Leaves}
 use Rattle.nvme_occupancy.specs.declared.occupancy.Occupancy.{Occupancy}
 use Rattle.nvme_simulation.specs.Handling.{Stays}
+use Rattle.nvme_simulation.specs.Marks.{IsToldOf}
+use Rattle.nvme_simulation.specs.Passing.{EndsTold}
 use Rattle.nvme_simulation.specs.Progress.{AllGoOn, OneEnds}
 use Rattle.nvme_simulation.specs.Simulations.{hosts_of, time_of}
 use Rattle.nvme_simulation.specs.Steps.{cost_with}
+use Rattle.nvme_simulation.specs.Times.{now_of}
 use Rattle.nvme_simulation.specs.declared.agenda.Event.TheVariants.{End}
 use Rattle.nvme_simulation.specs.declared.machine.Machine.{Machine}
 use Rattle.nvme_simulation.specs.declared.simulation.Simulation.{Simulation}
 use Rattle.nvme_simulation.proofs.Handling.{left_behind, stays_goes, stays_machine, stays_occupancy, stays_then, stays_time}
 use Rattle.nvme_simulation.proofs.Hosted.{all_then, one_before}
-use Rattle.nvme_simulation.proofs.Machines.{works}
+use Rattle.nvme_simulation.proofs.Machines.{all_at, works}
 use Rattle.nvme_simulation.proofs.simulation.Simulation.finish.Goals as goal
 
 pub returns-in_err-taken-clause-stays : goal.returns-in_err-taken-clause-stays
@@ -79,14 +82,25 @@ returns-clause-handles c =
     let now : time_of after ≡ time_of ended = stays_time old after stays ∙ sym (stays_time old ended first) in
     record {
       tells = ap (λ (channel : ℕ). Some (End channel)) c.in_ok-command.ensures.channel;
-      timed = c.in_ok-command.ensures.done ∙ sym now;
+      timed = c.in_ok-command.ensures.told.done ∙ sym now;
       counts = subst (λ (o : Occupancy). Leaves (time_of after) old.occupancy o) (sym occupancy) (subst (λ (t : ℕ). Leaves t old.occupancy told.occupancy) (sym now) leaves);
       passes =
-          let goes : AllGoOn c.finish.new.self.hosts (hosts_of thought) = subst (λ (m : Machine). AllGoOn m.hosts (hosts_of thought)) machine c.think.ensures.goes.hosts in
-          let behind : AllGoOn c.finish.new.self.hosts (hosts_of after) = all_then _ _ _ goes c.submit.ensures.goes.hosts in
-          let ends : OneEnds c.in_ok-taken.taken.qid c.in_ok-taken.taken.number (hosts_of old) (hosts_of after) = one_before _ _ _ _ _ c.in_ok-taken.ensures.ends behind in
-          subst (λ (q : ℕ). OneEnds q c.in_ok-command.command.number (hosts_of old) (hosts_of after)) (sym c.in_ok-command.ensures.queue)
-          (subst (λ (n : ℕ). OneEnds c.in_ok-taken.taken.qid n (hosts_of old) (hosts_of after)) (sym c.in_ok-command.ensures.number) ends);
+          let taken = c.in_ok-taken.taken in
+          let flight = c.in_ok-taken.flight in
+          let command = c.in_ok-command.command in
+          let thinks : AllGoOn (time_of ended) c.finish.new.self.hosts (hosts_of thought) =
+          subst (λ (m : Machine). AllGoOn (now_of m.agenda) m.hosts (hosts_of thought)) machine c.think.ensures.goes.hosts in
+          let goes : AllGoOn (time_of old) c.finish.new.self.hosts (hosts_of thought) = all_at _ _ _ _ (stays_time old ended first) thinks in
+          let submits : AllGoOn (time_of old) (hosts_of thought) (hosts_of after) = all_at _ _ _ _ (stays_time old thought third) c.submit.ensures.goes.hosts in
+          let ends : OneEnds taken.qid taken.number (time_of old) flight (hosts_of old) (hosts_of after) =
+          one_before _ _ _ _ _ _ _ c.in_ok-taken.ensures.ends (all_then _ _ _ _ goes submits) in
+          let it : EndsTold (time_of old) command flight.request.counts (hosts_of old) (hosts_of after) = record {
+            flight = flight;
+            told = subst (λ (t : ℕ). IsToldOf flight t command flight.request.counts) (stays_time old ended first) c.in_ok-command.ensures.told;
+            ends = subst (λ (q : ℕ). OneEnds q command.number (time_of old) flight (hosts_of old) (hosts_of after)) (sym c.in_ok-command.ensures.queue)
+                (subst (λ (n : ℕ). OneEnds taken.qid n (time_of old) flight (hosts_of old) (hosts_of after)) (sym c.in_ok-command.ensures.number) ends);
+          } in
+          subst (λ (t : ℕ). EndsTold t command flight.request.counts (hosts_of old) (hosts_of after)) (sym (stays_time old after stays)) it;
       cost =
           let ends = c.in_ok-taken.ensures.cost in
           let thinks : cost_with thought.machine ≤ cost_with c.finish.new.self + 2 = subst (λ (m : Machine). cost_with thought.machine ≤ cost_with m + 2) machine c.think.ensures.cost in

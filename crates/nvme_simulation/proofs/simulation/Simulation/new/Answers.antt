@@ -1,4 +1,6 @@
-use Rattle.std.proofs.Common.{◌∙◌, refl, ap}
+use Rattle.std.proofs.Common.{◌∙◌, ◌≤◌, length, refl, ap}
+use Rattle.nvme_simulation.proofs.Beginnings.{draw_asking, few_hosts, model_begins, model_streams, shows_queues}
+use Rattle.nvme_simulation.specs.Plans.{events_of}
 use Rattle.nvme_simulation.proofs.Rooms.{new_is}
 use Rattle.nvme_simulation.proofs.simulation.Simulation.new.Goals as goal
 
@@ -13,7 +15,20 @@ returns-clause-begins c =
     let hosts = c.in_ok-hosts.ensures.hosts in
     record {
       front = c.new-3.ensures.front.arbitrates _ _ c.in_ok-front.ensures.front;
+      depths = c.new-3.ensures.front.depths ∙ c.in_ok-front.ensures.depths;
       device = c.in_ok-device.ensures;
+      queues = shows_queues c.new-3.new.front _ _ hosts.loads c.args.model.at_most c.in_ok-hosts.ensures.shows;
+      streams =
+          let few : length c.begin_queues.new.hosts.all.items ≤ 64 = few_hosts _ _ _ (c.begin_queues.ensures.hosts.loads ∙ hosts.loads) c.args.model.at_most in
+          draw_asking _ _ _ c.begin_queues.ensures.hosts.asking few c.in_ok-hosts.ensures.streams;
+      begins = record {
+        hosts = c.in_ok-hosts.hosts;
+        are = hosts;
+        streams = model_streams _ _ (few_hosts _ _ _ hosts.loads c.args.model.at_most) c.in_ok-hosts.ensures.streams;
+        events = events_of c.begin_queues.new.agenda;
+        queues = model_begins _ _ _ _ _ _ hosts.loads c.args.model.at_most c.new-agenda.ensures c.in_ok-begin_queues.ensures.begins;
+        pauses = c.in_ok-begin_pauses.ensures.begins;
+      };
       hosts = record { loads = c.begin_queues.ensures.hosts.loads ∙ hosts.loads; none = c.begin_queues.ensures.hosts.none hosts.none };
       time = c.begin_pauses.ensures.time ∙ c.begin_queues.ensures.time ∙ ap (λ h. h.time) c.new-agenda.ensures;
       occupancy = c.new-4.ensures;

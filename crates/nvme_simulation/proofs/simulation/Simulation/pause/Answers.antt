@@ -1,6 +1,6 @@
-use Rattle.std.proofs.Common.{refl, arith}
-use Rattle.nvme_simulation.proofs.Handling.{left_behind, stays_machine, stays_self}
-use Rattle.nvme_simulation.proofs.Machines.{works}
+use Rattle.std.proofs.Common.{refl, sym, arith}
+use Rattle.nvme_simulation.proofs.Handling.{left_behind, stays_machine, stays_self, stays_time}
+use Rattle.nvme_simulation.proofs.Machines.{all_at, works}
 use Rattle.nvme_simulation.proofs.simulation.Simulation.pause.Goals as goal
 
 pub returns-in_default-clause-stays : goal.returns-in_default-clause-stays
@@ -16,13 +16,14 @@ pub returns-clause-handles : goal.returns-clause-handles
 returns-clause-handles c =
     let old = c.args.self.now in
     let after = record old { machine = c.pause.new.self } in
+    let stays = stays_machine old c.pause.new.self (works _ _ c.pause.ensures.goes) in
     record {
       tells = refl;
       timed = tt;
       counts = refl;
-      passes = c.pause.ensures.goes.hosts;
+      passes = all_at _ _ _ _ (sym (stays_time old after stays)) c.pause.ensures.goes.hosts;
       cost =
           let costs = c.in_ok-pause.ensures.cost in
           let some = c.in-Some.pauses.some in
-          omega (arith, left_behind old after (stays_machine old c.pause.new.self (works _ _ c.pause.ensures.goes)), costs, some, c.pause.ensures.below);
+          omega (arith, left_behind old after stays, costs, some, c.pause.ensures.below);
     }

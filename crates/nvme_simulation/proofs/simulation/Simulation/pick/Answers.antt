@@ -1,5 +1,7 @@
 use Rattle.std.proofs.Common.{ℕ, Bool, sym, subst, arith}
+use Rattle.nvme_simulation.specs.Passing.{Passes}
 use Rattle.nvme_simulation.specs.Picks.{IsTimed}
+use Rattle.nvme_simulation.specs.Simulations.{counts_next, may_come_to}
 use Rattle.nvme_simulation.specs.Stepping.{HasStepped}
 use Rattle.nvme_simulation.specs.Times.{now_of}
 use Rattle.nvme_simulation.proofs.Plans.{follows_time}
@@ -19,5 +21,8 @@ returns-clause-steps c =
     let told = c.in_ok-happening.ensures in
     let now = follows_time _ _ c.pick.ensures.goes.events in
     let timed : IsTimed (now_of c.pick.new.self.agenda) h = subst (λ (t : ℕ). IsTimed t h) (sym now) told.timed in
+    let may = may_come_to old (now_of c.pick.new.self.agenda) in
+    let passes : Passes may (counts_next old) (now_of c.pick.new.self.agenda) old.machine.hosts c.pick.new.self.hosts h =
+    subst (λ (t : ℕ). Passes may (counts_next old) t old.machine.hosts c.pick.new.self.hosts h) (sym now) (told.passes may (counts_next old)) in
     subst (λ (b : Bool). HasStepped old (record old { machine = c.pick.new.self; picks = b }) h) (sym c.is_pick-self.ensures)
-    (pick_steps old c.pick.new.self h c.requires.picks c.pick.ensures.goes told.cost told.of_picks timed (told.counts old.end _ old.occupancy) told.passes)
+    (pick_steps old c.pick.new.self h c.requires.picks c.pick.ensures.goes told.cost told.of_picks timed (told.counts old.end _ old.occupancy) passes)

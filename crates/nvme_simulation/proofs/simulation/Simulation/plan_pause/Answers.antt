@@ -14,7 +14,7 @@ returns-then-is_over-clause-goes c = goes_self _ c.requires.front
 pub returns-clause-goes : goal.returns-clause-goes
 returns-clause-goes c = record {
   front = front_stays _ c.requires.front;
-  hosts = all_stay _;
+  hosts = all_stay _ _;
   events = c.plan.ensures.follows;
   device = behind_none _;
 }

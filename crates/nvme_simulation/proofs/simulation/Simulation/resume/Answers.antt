@@ -1,11 +1,11 @@
-use Rattle.std.proofs.Common.{◌≡◌, refl, ap, arith}
+use Rattle.std.proofs.Common.{◌≡◌, refl, sym, ap, arith}
 use Rattle.nvme_occupancy.specs.declared.occupancy.Occupancy.{Occupancy}
 use Rattle.nvme_simulation.specs.Handling.{Stays}
 use Rattle.nvme_simulation.specs.Simulations.{time_of}
 use Rattle.nvme_simulation.specs.declared.simulation.Simulation.{Simulation}
 use Rattle.nvme_simulation.proofs.Hosted.{all_then}
-use Rattle.nvme_simulation.proofs.Handling.{left_behind, stays_goes, stays_machine, stays_then}
-use Rattle.nvme_simulation.proofs.Machines.{works, works_time}
+use Rattle.nvme_simulation.proofs.Handling.{left_behind, stays_goes, stays_machine, stays_then, stays_time}
+use Rattle.nvme_simulation.proofs.Machines.{all_at, works, works_time}
 use Rattle.nvme_simulation.proofs.simulation.Simulation.resume.Goals as goal
 
 pub returns-in_err-resume-clause-stays : goal.returns-in_err-resume-clause-stays
@@ -32,7 +32,9 @@ returns-clause-handles c =
       tells = refl;
       timed = tt;
       counts = ap (λ (s : Simulation). s.occupancy) c.plan_pause.ensures.rest;
-      passes = all_then _ _ _ c.resume.ensures.goes.hosts c.plan_pause.ensures.goes.hosts;
+      passes =
+          let same : time_of resumed ≡ time_of old = works_time old.machine c.resume.new.self (works _ _ c.resume.ensures.goes) in
+          all_at _ _ _ _ (sym (stays_time old after stays)) (all_then _ _ _ _ c.resume.ensures.goes.hosts (all_at _ _ _ _ same c.plan_pause.ensures.goes.hosts));
       cost =
           let first = c.resume.ensures.cost in
           let planned = c.in_ok-plan_pause.ensures.cost in

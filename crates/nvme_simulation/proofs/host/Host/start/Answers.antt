@@ -1,0 +1,9 @@
+use Rattle.std.proofs.Common.{arith, refl}
+use Rattle.nvme_simulation.proofs.Progress.{host_if, moved}
+use Rattle.nvme_simulation.proofs.host.Host.start.Goals as goal
+
+pub returns : goal.returns
+returns c = record {
+  goes = host_if _ _ _ c.start.result refl c.start.ensures.none
+      (λ t. moved _ _ _ _ _ _ _ (λ e. absurd (grind (arith, e))) (λ f g s e. e) (c.start.ensures.moves t).1);
+}

@@ -1,0 +1,14 @@
+use Rattle.std.proofs.Common.{arith, refl}
+use Rattle.nvme_simulation.proofs.Progress.{host_same, host_stays, moved}
+use Rattle.nvme_simulation.proofs.host.Host.submit_one.Goals as goal
+
+pub returns-then-next-self : goal.returns-then-next-self
+returns-then-next-self c = record { goes = host_stays _ _ }
+
+pub returns-in_default : goal.returns-in_default
+returns-in_default c = record { goes = host_same _ _ _ (c.submit.ensures.none c.in_default.is) refl }
+
+pub returns : goal.returns
+returns c = record {
+  goes = record { flights = moved _ _ _ _ _ _ _ (λ e. absurd (grind (arith, e))) (λ f g s e. e) c.in-Some.ensures.moves.1; asking = refl };
+}
