@@ -1,5 +1,6 @@
 pub mod CommandLemmas
 pub mod StepLemmas
+pub mod VerdictLemmas
 pub mod OnceLemmas
 pub mod RunLemmas
 pub mod HeadLemmas

@@ -17,19 +17,17 @@ use Rattle.nvme_audit.specs.declared.verdict.Rule.{Rule}
 use Rattle.nvme_audit.specs.declared.verdict.Rule.TheVariants.{FetchBeyondTail, FetchSlot}
 use Rattle.nvme_audit.specs.Lives.{Past, asked, turns_sq, done}
 use Rattle.nvme_audit.specs.Rings.{slots_of, number_of}
+use Rattle.nvme_audit.specs.Turns.{mark_of}
 use Rattle.nvme_audit.specs.Host.{is_kept, is_sq_excused, is_cq_excused, tail_verdict, head_verdict}
-use Rattle.nvme_audit.specs.Facts.{sq_after, cq_after, command_with, outstanding}
+use Rattle.nvme_audit.specs.Facts.{sq_after, cq_after, outstanding}
 use Rattle.nvme_audit.specs.Rules.{is_other, fetch_rules, fetch_verdict, name_rules, name_verdict, if_kept, post_verdict}
 use Rattle.nvme_audit.specs.Lawful.{IsFaultlessLog}
 use Rattle.nvme_audit.specs.Laws.{one_if, AnsweredOnce}
+use Rattle.nvme_audit.proofs.StepLemmas.{same_out}
 
 both : (a b : Bool) → (a && b) ≡ true → (a ≡ true) × (b ≡ true)
 both true b h = (refl, h)
 both false b h = cc
-
-same_out : (out : Option AdminCommand) (n : ℕ) → is_some (command_with out n) ≡ is_some out
-same_out None n = refl
-same_out (Some command) n = refl
 
 -- ---- no queue is excused
 told_case : (own excused : Bool) (v : Verdict) → excused ≡ false → (own ≡ true → (if excused then Kept else v) ≡ Kept) → ((own && not (is_kept v)) || excused) ≡ false
@@ -56,7 +54,7 @@ not_excused false v e h = h
 -- a fetch finds its identifier free
 fetch_free : (start : Start) (past : Past) (sq cid : ℕ) (slot : Option ℕ) → is_sq_excused start past sq ≡ false → fetch_verdict start.tells (sq_after start past sq) slot (is_some (outstanding past sq cid)) ≡ Kept → is_some (asked past sq cid) ≡ false
 fetch_free start past sq cid slot e h =
-    sym (same_out (asked past sq cid) (number_of past sq cid)) ∙ rules_free start.tells (sq_after start past sq) _ slot _ (not_excused _ _ e h)
+    sym (same_out (asked past sq cid) (number_of past sq cid) (mark_of past sq cid)) ∙ rules_free start.tells (sq_after start past sq) _ slot _ (not_excused _ _ e h)
 
 or_false : (a b : Bool) → a ≡ false → b ≡ false → (a || b) ≡ false
 or_false true b g h = cc
@@ -83,6 +81,11 @@ both_kept Kept other h = h
 both_kept (Host breach) other h = cc
 both_kept (Broken rule) other h = cc
 
+first_kept : (first other : Verdict) → if_kept first other ≡ Kept → first ≡ Kept
+first_kept Kept other h = refl
+first_kept (Host breach) other h = cc
+first_kept (Broken rule) other h = cc
+
 named_none : (a : Bool) (r s : Rule) → (if a then Broken r else Broken s) ≡ Kept → true ≡ false
 named_none true r s h = cc
 named_none false r s h = cc
@@ -102,7 +105,7 @@ verdict_named tells cqid sq out head posts e h = rules_named cqid sq sq.ring out
 answers : (start : Start) (past : Past) (cq : ℕ) (slot : Option ℕ) (completion : Completion) → start.tells.posts ≡ true → IsFaultlessLog start past
     → post_verdict start.tells cq (cq_after start past cq) (sq_after start past completion.sq) (outstanding past completion.sq completion.cid) slot completion ≡ Kept → is_some (asked past completion.sq completion.cid) ≡ true
 answers start past cq slot completion posts log h =
-    sym (same_out (asked past completion.sq completion.cid) (number_of past completion.sq completion.cid))
+    sym (same_out (asked past completion.sq completion.cid) (number_of past completion.sq completion.cid) (mark_of past completion.sq completion.cid))
     ∙ verdict_named start.tells cq (sq_after start past completion.sq) _ _ posts (none_excused start past log completion.sq).0 (both_kept _ _ (not_excused _ _ (none_excused start past log cq).1 h))
 
 -- ---- counts
@@ -128,5 +131,5 @@ once start (Fetch sq slot cid command ∷ past) posts h q c =
 once start (Post cq slot completion ∷ past) posts h q c =
     post_case (turns_sq (done past completion) q) _ (asked past q c) _ _
     (λ e. let own : ((completion.sq == q) ≡ true) × ((completion.cid == c) ≡ true) = both (completion.sq == q) (completion.cid == c) e in
-    subst (λ (k : ℕ). is_some (asked past q k) ≡ true) (eqb-true completion.cid c own.1) (subst (λ (k : ℕ). is_some (asked past k completion.cid) ≡ true) (eqb-true completion.sq q own.0) (answers start past cq slot completion posts h.1 h.0)))
+    subst (λ (k : ℕ). is_some (asked past q k) ≡ true) (eqb-true completion.cid c own.1) (subst (λ (k : ℕ). is_some (asked past k completion.cid) ≡ true) (eqb-true completion.sq q own.0) (answers start past cq slot completion posts h.1 (first_kept _ _ h.0))))
     (once start past posts h.1 q c)

@@ -1,6 +1,6 @@
 -- Worked examples, for which the definitions compute: each rule kept and broken.
 -- (Base Specification, the sections that the definitions name)
-use Rattle.std.specs.Prelude.{◌≡◌, ℕ, Bool, true, false, List, [], ◌∷◌, map, Some}
+use Rattle.std.specs.Prelude.{◌≡◌, ℕ, Bool, true, false, List, [], ◌∷◌, map, Some, None}
 use Rattle.nvme_entry.specs.Status.{success}
 use Rattle.nvme_entry.specs.declared.admin.AdminCommand.TheVariants.{DeleteSq, CreateSq, CreateCq, Other}
 use Rattle.nvme_audit.specs.declared.event.Event.{Event}
@@ -22,7 +22,7 @@ as_read = record { tells = record { tails = true; heads = true; posts = false };
 
 -- a completion with success, in a slot of completion queue cq
 abbrev pub answer : (cq slot sq cid sqhd : ℕ) → Bool → Event
-answer cq slot sq cid sqhd phase = Post cq (Some slot) (record { sq = sq; cid = cid; sqhd = Some sqhd; phase = Some phase; status = success })
+answer cq slot sq cid sqhd phase = Post cq (Some slot) (record { sq = sq; cid = cid; sqhd = Some sqhd; phase = Some phase; status = success; dw0 = None })
 
 -- an I/O command
 abbrev pub fetch : (sq slot cid : ℕ) → Event

@@ -8,15 +8,26 @@ use Rattle.nvme_audit.specs.declared.verdict.Verdict.{Verdict}
 use Rattle.nvme_audit.specs.declared.verdict.Verdict.TheVariants.{Kept, Host, Broken}
 use Rattle.nvme_audit.specs.Lives.{Past}
 use Rattle.nvme_audit.specs.Host.{tail_verdict, head_verdict}
-use Rattle.nvme_audit.specs.Facts.{sq_after, cq_after, outstanding}
-use Rattle.nvme_audit.specs.Rules.{fetch_verdict, post_verdict}
+use Rattle.nvme_audit.specs.Facts.{sq_after, cq_after, admin_after, outstanding}
+use Rattle.nvme_audit.specs.Rules.{fetch_verdict, if_kept, post_verdict}
+use Rattle.nvme_audit.specs.Answers.{sq_named, cq_named, answered_in, answer_verdict}
 
 abbrev pub verdict : Start → Past → Event → Verdict
 verdict start past (Tail sq slot) = tail_verdict (sq_after start past sq) slot
 verdict start past (Head cq slot) = head_verdict (cq_after start past cq) slot
 verdict start past (Fetch sq slot cid command) = fetch_verdict start.tells (sq_after start past sq) slot (is_some (outstanding past sq cid))
 verdict start past (Post cq slot completion) =
-    post_verdict start.tells cq (cq_after start past cq) (sq_after start past completion.sq) (outstanding past completion.sq completion.cid) slot completion
+    if_kept
+    (post_verdict start.tells cq (cq_after start past cq) (sq_after start past completion.sq) (outstanding past completion.sq completion.cid) slot completion)
+    (answer_verdict
+    start.tells
+    (cq_after start past cq)
+    (cq_after start past (cq_named (answered_in (outstanding past completion.sq completion.cid) completion)))
+    (sq_after start past completion.sq)
+    (sq_after start past (sq_named (answered_in (outstanding past completion.sq completion.cid) completion)))
+    (admin_after past)
+    (outstanding past completion.sq completion.cid)
+    completion)
 
 abbrev pub is_broken : Verdict → Bool
 is_broken Kept = false

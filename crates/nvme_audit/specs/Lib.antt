@@ -1,11 +1,14 @@
 pub mod Lives
 pub mod Queues
 pub mod Rings
+pub mod Turns
 pub mod Host
 pub mod Facts
 pub mod Rules
+pub mod Answers
 pub mod Lawful
 pub mod Standing
 pub mod Laws
 pub mod Examples
+pub mod StatusExamples
 pub mod inside

@@ -8,7 +8,7 @@ use Rattle.nvme_audit.specs.declared.facts.Command.{Command}
 use Rattle.nvme_audit.specs.declared.commands.Commands.{Commands}
 use Rattle.nvme_audit.specs.declared.judge.Judge.{Judge}
 use Rattle.nvme_audit.specs.Lives.{Past}
-use Rattle.nvme_audit.specs.Facts.{sq_after, cq_after, outstanding}
+use Rattle.nvme_audit.specs.Facts.{sq_after, cq_after, admin_after, outstanding}
 
 -- what is kept under a name
 abbrev pub command_at : Commands → (sq cid : ℕ) → Option Command
@@ -26,4 +26,5 @@ pub record StandsAt (start : Start) (past : Past) (judge : Judge) : Type 0 where
   pub start_is : judge.start ≡ start
   pub sqs_are : (q : ℕ) → sq_at judge q ≡ sq_after start past q
   pub cqs_are : (q : ℕ) → cq_at judge q ≡ cq_after start past q
+  pub admin_is : judge.admin ≡ admin_after past
   pub commands_are : (q c : ℕ) → command_at judge.commands q c ≡ outstanding past q c

@@ -15,6 +15,8 @@ pub struct Completion {
     pub phase: Option<bool>,
     /// Status Code Type and Status Code.
     pub status: Status,
+    /// Dword 0.
+    pub dw0: Option<u32>,
 }
 
 /// One event of a log. A slot that the observer can't see is `None`.

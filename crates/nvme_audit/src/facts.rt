@@ -44,6 +44,12 @@ pub struct Sq {
     pub deleted: bool,
     /// Whether the host broke a rule of the queue.
     pub excused: bool,
+    /// How many Creates and Deletes of the queue were fetched, since the start.
+    pub asked: u64,
+    /// How many of them were answered.
+    pub answered: u64,
+    /// Whether a Delete of the queue was ever fetched.
+    pub doomed: bool,
 }
 
 /// The facts of a completion queue. The counts are those since it was created.
@@ -57,6 +63,29 @@ pub struct Cq {
     pub consumed: u64,
     /// Whether the host broke a rule of the queue.
     pub excused: bool,
+    /// How many Creates and Deletes of the queue were fetched, since the start.
+    pub asked: u64,
+    /// How many of them were answered.
+    pub answered: u64,
+    /// How many submission queues were created onto it, since the start.
+    pub joined: u64,
+    /// How many of those were deleted, or created anew.
+    pub parted: u64,
+}
+
+/// The facts of the admin commands.
+#[derive(Clone, Copy, Debug, PartialEq, Eq)]
+pub struct Admin {
+    /// How many Creates and Deletes of submission queues were fetched.
+    pub asked: u64,
+    /// How many of them were answered.
+    pub answered: u64,
+    /// Whether two Creates or Deletes of one queue were ever outstanding at once.
+    pub met: bool,
+    /// Whether an I/O queue was ever created.
+    pub created: bool,
+    /// What the first Set Features of Number of Queues was answered.
+    pub numbers: Option<u32>,
 }
 
 /// An outstanding command.
@@ -66,6 +95,8 @@ pub struct Command {
     pub number: u64,
     /// What it asks, where it is of the admin queue.
     pub command: AdminCommand,
+    /// Of the commands on which its status depends, how many were answered when it was fetched.
+    pub mark: u64,
 }
 
 impl Sq {
@@ -90,6 +121,9 @@ impl Sq {
             fetched: 0,
             deleted: false,
             excused: false,
+            asked: 0,
+            answered: 0,
+            doomed: false,
         }
     }
 }
@@ -108,6 +142,28 @@ impl Cq {
             posted: 0,
             consumed: 0,
             excused: false,
+            asked: 0,
+            answered: 0,
+            joined: 0,
+            parted: 0,
+        }
+    }
+}
+
+impl Admin {
+    ghost use Rattle.std.specs.Prelude.{◌≡◌, []};
+    ghost use Rattle.nvme_audit.specs.Facts.{admin_after};
+
+    /// The facts before the first event.
+    pub fn first() -> Admin
+        ensures { result ≡ admin_after [] }
+    {
+        Admin {
+            asked: 0,
+            answered: 0,
+            met: false,
+            created: false,
+            numbers: None,
         }
     }
 }

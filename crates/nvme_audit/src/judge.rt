@@ -1,9 +1,10 @@
 // Judges a log, event by event.
 ghost use Rattle.std.specs.Prelude.{◌≡◌, ◌+◌, IfOk};
 
+use crate::answers::{answer_verdict, answered, asking, cq_named, creates, numbers_by, sq_named};
 use crate::commands::Commands;
 use crate::event::{Completion, Event};
-use crate::facts::{Command, Cq, Ring, Sq, Start};
+use crate::facts::{Admin, Command, Cq, Ring, Sq, Start};
 use crate::rules::{
     advanced_where_open, fetch_verdict, head_verdict, post_verdict, qsize_in, tail_verdict,
 };
@@ -28,6 +29,7 @@ pub struct Judge {
     start: Start,
     sqs: HashMap<u16, Sq>,
     cqs: HashMap<u16, Cq>,
+    admin: Admin,
     commands: Commands,
 }
 
@@ -37,7 +39,9 @@ impl Judge {
     ghost use Rattle.nvme_audit.specs.Lives.{Past, done_by};
     ghost use Rattle.nvme_audit.specs.Lawful.{verdict, is_broken, log_after, IsLawfulRun, IsFirstBroken};
     ghost use Rattle.nvme_audit.specs.Standing.{sq_at, cq_at, command_at, StandsAt};
-    ghost use Rattle.nvme_audit.specs.inside.Steps.{verdict_at, PutsSq, PutsCq, sq_told, cq_released, KeepsFetch, KeepsPost, command_in, sq_begun, cq_begun, BeginsSq, Turns};
+    ghost use Rattle.nvme_audit.specs.Answers.{command_in};
+    ghost use Rattle.nvme_audit.specs.declared.event.Event.TheVariants.{Post};
+    ghost use Rattle.nvme_audit.specs.inside.Steps.{verdict_at, mark_at, PutsSq, PutsCq, sq_told, cq_released, KeepsFetch, AsksSq, AsksCq, Asks, KeepsPost, AnswersSq, Answers, sq_begun, cq_begun, cq_joined, cq_parted, BeginsSq, TurnsSq, Turns, Notes};
 
     /// A judge of the first event.
     pub fn new(alloc: Global, start: Start) -> Judge
@@ -47,6 +51,7 @@ impl Judge {
             start,
             sqs: HashMap::new(alloc),
             cqs: HashMap::new(alloc),
+            admin: Admin::first(),
             commands: Commands::new(alloc),
         }
     }
@@ -105,12 +110,34 @@ impl Judge {
                 cq,
                 slot,
                 completion,
-            } => {
-                let command = self.commands.get(completion.sq, completion.cid);
-                let sq = self.sq(completion.sq);
-                Ok(post_verdict(tells, cq, &self.cq(cq), &sq, command, slot, &completion))
-            }
+            } => Ok(self.post_verdict(cq, slot, &completion)),
         }
+    }
+
+    // What is said of a completion by its slot and its name, and then by its status.
+    fn post_verdict(&self, q: u16, slot: Option<u16>, completion: &Completion) -> Verdict
+        ensures { result ≡ verdict_at self.now (Post q slot completion.now) }
+    {
+        let tells = &self.start.tells;
+        let command = self.commands.get(completion.sq, completion.cid);
+        let (cq, sq) = (self.cq(q), self.sq(completion.sq));
+        let posted = post_verdict(tells, q, &cq, &sq, command, slot, completion);
+        if !posted.is_kept() {
+            return posted;
+        }
+        let asked = answered(command, completion);
+        let own_cq = self.cq(cq_named(asked));
+        let own_sq = self.sq(sq_named(asked));
+        answer_verdict(
+            tells,
+            &cq,
+            &own_cq,
+            &sq,
+            &own_sq,
+            &self.admin,
+            command,
+            completion,
+        )
     }
 
     fn keep_tail(&mut self, q: u16, slot: u16, verdict: Verdict) -> Result<(), AuditError>
@@ -131,15 +158,68 @@ impl Judge {
         self.put_cq(q, cq)
     }
 
+    // What is noted of a command at its fetch.
+    fn mark(&self, command: AdminCommand) -> u64
+        ensures { result ≡ mark_at self.now command }
+    {
+        match command {
+            AdminCommand::CreateSq { cqid, .. } => self.cq(cqid).answered,
+            AdminCommand::DeleteCq { .. } => self.admin.answered,
+            AdminCommand::SetFeatures { .. } if self.admin.created => 1,
+            _ => 0,
+        }
+    }
+
     fn keep_fetch(&mut self, q: u16, cid: u16, command: AdminCommand) -> Result<(), AuditError>
         ensures { OnOk result (KeepsFetch self.old self.new q cid command) }
     {
+        let mark = self.mark(command);
         let mut sq = self.sq(q);
         let number = sq.fetched;
         sq.fetched = next(number)?;
-        sq.excused = sq.excused || self.commands.get(q, cid).is_some();
+        sq.excused = self.commands.get(q, cid).is_some() || sq.excused;
         self.put_sq(q, sq)?;
-        self.commands.insert(q, cid, Command { number, command })
+        self.commands.insert(
+            q,
+            cid,
+            Command {
+                number,
+                command,
+                mark,
+            },
+        )
+    }
+
+    // Counts a Create or a Delete that is fetched.
+    fn ask(&mut self, command: AdminCommand) -> Result<(), AuditError>
+        ensures { OnOk result (Asks self.old self.new command) }
+    {
+        match command {
+            AdminCommand::DeleteSq { qid } => self.ask_sq(qid, true),
+            AdminCommand::CreateSq { qid, .. } => self.ask_sq(qid, false),
+            AdminCommand::DeleteCq { qid } | AdminCommand::CreateCq { qid, .. } => self.ask_cq(qid),
+            _ => Ok(()),
+        }
+    }
+
+    fn ask_sq(&mut self, q: u16, deletes: bool) -> Result<(), AuditError>
+        ensures { OnOk result (AsksSq self.old self.new q deletes) }
+    {
+        let mut sq = self.sq(q);
+        self.admin.met = sq.answered < sq.asked || self.admin.met;
+        self.admin.asked = next(self.admin.asked)?;
+        sq.asked = next(sq.asked)?;
+        sq.doomed = deletes || sq.doomed;
+        self.put_sq(q, sq)
+    }
+
+    fn ask_cq(&mut self, q: u16) -> Result<(), AuditError>
+        ensures { OnOk result (AsksCq self.old self.new q) }
+    {
+        let mut cq = self.cq(q);
+        self.admin.met = cq.answered < cq.asked || self.admin.met;
+        cq.asked = next(cq.asked)?;
+        self.put_cq(q, cq)
     }
 
     fn keep_post(&mut self, q: u16, completion: &Completion) -> Result<(), AuditError>
@@ -162,6 +242,32 @@ impl Judge {
         }
     }
 
+    // Counts a Create or a Delete that is answered.
+    fn answer(&mut self, command: AdminCommand) -> Result<(), AuditError>
+        ensures { OnOk result (Answers self.old self.new command) }
+    {
+        match command {
+            AdminCommand::DeleteSq { qid } | AdminCommand::CreateSq { qid, .. } => {
+                self.answer_sq(qid)
+            }
+            AdminCommand::DeleteCq { qid } | AdminCommand::CreateCq { qid, .. } => {
+                let mut cq = self.cq(qid);
+                cq.answered = next(cq.answered)?;
+                self.put_cq(qid, cq)
+            }
+            _ => Ok(()),
+        }
+    }
+
+    fn answer_sq(&mut self, q: u16) -> Result<(), AuditError>
+        ensures { OnOk result (AnswersSq self.old self.new q) }
+    {
+        let mut sq = self.sq(q);
+        sq.answered = next(sq.answered)?;
+        self.admin.answered = next(self.admin.answered)?;
+        self.put_sq(q, sq)
+    }
+
     // Opens or closes the queue of an admin command.
     fn turn(&mut self, done: AdminCommand) -> Result<(), AuditError>
         ensures { OnOk result (Turns self.old self.new done) }
@@ -172,43 +278,75 @@ impl Judge {
                 qsize,
                 cqid,
                 ..
-            } => {
-                let ring = Some(Ring { qsize, cqid });
-                let deleted = self.sq(qid).deleted;
-                self.begin_sq(qid, ring, deleted)
-            }
-            AdminCommand::DeleteSq { qid } => self.begin_sq(qid, None, true),
+            } => self.turn_sq(qid, Some(Ring { qsize, cqid })),
+            AdminCommand::DeleteSq { qid } => self.turn_sq(qid, None),
             AdminCommand::CreateCq { qid, qsize, .. } => self.begin_cq(qid, Some(qsize)),
             AdminCommand::DeleteCq { qid } => self.begin_cq(qid, None),
             _ => Ok(()),
         }
     }
 
-    fn begin_sq(&mut self, q: u16, ring: Option<Ring>, deleted: bool) -> Result<(), AuditError>
-        ensures { OnOk result (BeginsSq self.old self.new q (sq_begun ring deleted)) }
+    // Opens or closes a submission queue, and counts it with its completion queue.
+    fn turn_sq(&mut self, q: u16, ring: Option<Ring>) -> Result<(), AuditError>
+        ensures { OnOk result (TurnsSq self.old self.new q ring) }
     {
-        let sq = Sq {
-            ring,
-            submitted: 0,
-            fetched: 0,
-            deleted,
-            excused: false,
-        };
+        let sq = self.sq(q);
+        if let Some(ring) = ring {
+            self.join(ring.cqid)?;
+        }
+        if let Some(ring) = sq.ring {
+            self.part(ring.cqid)?;
+        }
+        self.begin_sq(q, ring)
+    }
+
+    fn join(&mut self, q: u16) -> Result<(), AuditError>
+        ensures { OnOk result (PutsCq self.old self.new q (cq_joined (cq_at self.old q))) }
+    {
+        let mut cq = self.cq(q);
+        cq.joined = next(cq.joined)?;
+        self.put_cq(q, cq)
+    }
+
+    fn part(&mut self, q: u16) -> Result<(), AuditError>
+        ensures { OnOk result (PutsCq self.old self.new q (cq_parted (cq_at self.old q))) }
+    {
+        let mut cq = self.cq(q);
+        cq.parted = next(cq.parted)?;
+        self.put_cq(q, cq)
+    }
+
+    fn begin_sq(&mut self, q: u16, ring: Option<Ring>) -> Result<(), AuditError>
+        ensures { OnOk result (BeginsSq self.old self.new q (sq_begun ring (sq_at self.old q))) }
+    {
+        let mut sq = self.sq(q);
+        sq.deleted = ring.is_none() || sq.deleted;
+        sq.ring = ring;
+        sq.submitted = 0;
+        sq.fetched = 0;
+        sq.excused = false;
         self.put_sq(q, sq)?;
         self.commands.remove_queue(q);
         Ok(())
     }
 
     fn begin_cq(&mut self, q: u16, qsize: Option<u16>) -> Result<(), AuditError>
-        ensures { OnOk result (PutsCq self.old self.new q (cq_begun qsize)) }
+        ensures { OnOk result (PutsCq self.old self.new q (cq_begun qsize (cq_at self.old q))) }
     {
-        let cq = Cq {
-            qsize,
-            posted: 0,
-            consumed: 0,
-            excused: false,
-        };
+        let mut cq = self.cq(q);
+        cq.qsize = qsize;
+        cq.posted = 0;
+        cq.consumed = 0;
+        cq.excused = false;
         self.put_cq(q, cq)
+    }
+
+    // Notes what a command that succeeds with this Dword 0 says of the I/O queues.
+    fn note(&mut self, done: AdminCommand, dw0: Option<u32>)
+        ensures { Notes self.old self.new done dw0 }
+    {
+        self.admin.created = creates(done) || self.admin.created;
+        self.admin.numbers = numbers_by(done, dw0, self.admin.numbers);
     }
 
     // Counts an event that breaks no rule of the controller.
@@ -223,11 +361,18 @@ impl Judge {
                 cid,
                 command,
                 ..
-            } => self.keep_fetch(sq, cid, command),
+            } => {
+                self.keep_fetch(sq, cid, command)?;
+                self.ask(asking(sq, command))
+            }
             Event::Post { cq, completion, .. } => {
+                let asked = answered(self.commands.get(0, completion.cid), &completion);
                 let done = self.done(&completion);
                 self.keep_post(cq, &completion)?;
-                self.turn(done)
+                self.answer(asked)?;
+                self.turn(done)?;
+                self.note(done, completion.dw0);
+                Ok(())
             }
         }
     }

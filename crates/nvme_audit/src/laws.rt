@@ -1,6 +1,7 @@
 //! Laws of logs and worked examples, over the definitions alone. Each function does nothing: its contract is the law.
 ghost use Rattle.nvme_audit.specs.Laws.{AnsweredOnce, HeadsAreCounts};
 ghost use Rattle.nvme_audit.specs.Examples.{AreJudged, on_the_bus, as_read, doorbells, fetches, completions, late_reads};
+ghost use Rattle.nvme_audit.specs.StatusExamples.{by_name, as_read_by_name, creates, deletes, meetings, foreign, deletions, features, excused, late_statuses};
 
 /// In a log without faults each fetched command is answered once, but for the outstanding ones.
 pub fn answered_once()
@@ -18,4 +19,16 @@ pub fn worked_verdicts()
     ensures fetches { AreJudged on_the_bus fetches }
     ensures completions { AreJudged on_the_bus completions }
     ensures late_reads { AreJudged as_read late_reads }
+{}
+
+/// Worked: what is said of completions by their statuses.
+pub fn worked_statuses()
+    ensures creates { AreJudged by_name creates }
+    ensures deletes { AreJudged by_name deletes }
+    ensures meetings { AreJudged by_name meetings }
+    ensures foreign { AreJudged by_name foreign }
+    ensures deletions { AreJudged by_name deletions }
+    ensures features { AreJudged by_name features }
+    ensures excused { AreJudged by_name excused }
+    ensures late_statuses { AreJudged as_read_by_name late_statuses }
 {}

@@ -2,6 +2,7 @@
 //! completions. It judges by the specification alone, and keeps what is outstanding.
 #![tactic(auto)]
 
+mod answers;
 mod commands;
 mod event;
 mod facts;
@@ -13,5 +14,5 @@ mod verdict;
 pub use event::{Completion, Event};
 pub use facts::{Start, Tells};
 pub use judge::{AuditError, Judge};
-pub use laws::{answered_once, heads_are_counts, worked_verdicts};
+pub use laws::{answered_once, heads_are_counts, worked_statuses, worked_verdicts};
 pub use verdict::{Breach, Rule, Verdict};

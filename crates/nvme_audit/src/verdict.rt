@@ -23,6 +23,16 @@ pub enum Rule {
     Life,
     /// The head is after the command's own entry, and no further than what was fetched.
     Sqhd,
+    /// A command is aborted by the deletion of its queue only where a Delete named that.
+    SqdelUnasked,
+    /// A command specific status is one of the command.
+    StatusForeign,
+    /// The status of a Create is true of some moment between fetch and completion.
+    StatusCreate,
+    /// That of a Delete is.
+    StatusDelete,
+    /// Set Features of Number of Queues tells possible numbers, the same each time, and before the first I/O queue.
+    Features,
 }
 
 /// A rule for the host.

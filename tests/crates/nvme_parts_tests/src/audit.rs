@@ -29,6 +29,7 @@ fn post(cq: u16, slot: u16, sq: u16, cid: u16, sqhd: u16) -> Event {
         sqhd: Some(sqhd),
         phase: Some(true),
         status: Status::SUCCESS,
+        dw0: None,
     };
     Event::Post {
         cq,
