@@ -10,11 +10,13 @@ use Rattle.nvme_occupancy.specs.Occupancies.{Comes}
 use Rattle.nvme_occupancy.specs.declared.occupancy.Occupancy.{Occupancy}
 use Rattle.nvme_simulation.specs.Counts.{ComesIf, may_come}
 use Rattle.nvme_simulation.specs.Devices.{device_in}
+use Rattle.nvme_simulation.specs.Following.{ComesAndFollows, PlansIf, closed_in}
 use Rattle.nvme_simulation.specs.Fronts.{IsFront}
 use Rattle.nvme_simulation.specs.Handling.{Stays}
 use Rattle.nvme_simulation.specs.Machines.{Goes, Works}
 use Rattle.nvme_simulation.specs.Passing.{OneComesIf}
 use Rattle.nvme_simulation.specs.Picks.{IsLawful}
+use Rattle.nvme_simulation.specs.Planning.{ArrivalPlans}
 use Rattle.nvme_simulation.specs.Plans.{Follows, IsFirst, cause, picks_behind}
 use Rattle.nvme_simulation.specs.Progress.{OneComes}
 use Rattle.nvme_simulation.specs.Simulations.{IsSameModel, IsSimulation, counts_next, hosts_of, may_come_to, time_of}
@@ -77,6 +79,34 @@ comes_if a b x qid counts machine counted same may one =
     let third : OneComes qid (time_of b) (counts_next a) (hosts_of a) (hosts_of b) =
     subst (λ (y : Bool). OneComes qid (time_of b) y (hosts_of a) (hosts_of b)) counted second in
     subst (λ (y : Bool). OneComesIf y qid (time_of b) (counts_next a) (hosts_of a) (hosts_of b)) (sym may_then) third
+
+-- and what is planned
+pub arrival_plans : (a b : Simulation) (x : Machine) (qid : ℕ) (counts more : Bool) → x ≡ a.machine → counts ≡ counts_next a → time_of b ≡ time_of a
+    → may_come a.end (time_of a) a.occupancy ≡ true → more ≡ may_come_to b (time_of b) → ComesAndFollows qid counts more x b.machine
+    → ArrivalPlans (may_come_to a (time_of b)) qid (counts_next a) (may_come_to b (time_of b)) a.machine b.machine
+arrival_plans a b x qid counts more machine counted same may goes one =
+    let may_then : may_come_to a (time_of b) ≡ true = ap (λ (t : ℕ). may_come_to a t) same ∙ may in
+    let first : ComesAndFollows qid counts more a.machine b.machine = subst (λ (m : Machine). ComesAndFollows qid counts more m b.machine) machine one in
+    let second : ComesAndFollows qid (counts_next a) more a.machine b.machine = subst (λ (y : Bool). ComesAndFollows qid y more a.machine b.machine) counted first in
+    let third : ComesAndFollows qid (counts_next a) (may_come_to b (time_of b)) a.machine b.machine =
+    subst (λ (y : Bool). ComesAndFollows qid (counts_next a) y a.machine b.machine) goes second in
+    subst (λ (y : Bool). ArrivalPlans y qid (counts_next a) (may_come_to b (time_of b)) a.machine b.machine) (sym may_then) third
+
+-- a closed host thinks: the simulations before and after it have the same end and occupancy
+pub thinks_at : (told thought b : Simulation) (x : Machine) (qid : ℕ) → told.machine ≡ x → thought ≡ record told { machine = thought.machine } → time_of b ≡ time_of told
+    → b ≡ record thought { machine = b.machine }
+    → PlansIf (closed_in told.machine.hosts qid && may_come_to told (time_of told)) qid (time_of told) told.machine thought.machine
+    → PlansIf (closed_in x.hosts qid && may_come_to b (time_of b)) qid (time_of b) x thought.machine
+thinks_at told thought b x qid machine rest same last plans =
+    let may : may_come_to told (time_of told) ≡ may_come_to b (time_of b) =
+    ap (may_come_to told) (sym same)
+    ∙ ap (λ (s : Simulation). may_come s.end (time_of b) s.occupancy) (sym rest)
+    ∙ ap (λ (s : Simulation). may_come s.end (time_of b) s.occupancy) (sym last) in
+    let first : PlansIf (closed_in x.hosts qid && may_come_to told (time_of told)) qid (time_of told) x thought.machine =
+    subst (λ (m : Machine). PlansIf (closed_in m.hosts qid && may_come_to told (time_of told)) qid (time_of told) m thought.machine) machine plans in
+    let second : PlansIf (closed_in x.hosts qid && may_come_to b (time_of b)) qid (time_of told) x thought.machine =
+    subst (λ (y : Bool). PlansIf (closed_in x.hosts qid && y) qid (time_of told) x thought.machine) may first in
+    subst (λ (t : ℕ). PlansIf (closed_in x.hosts qid && may_come_to b (time_of b)) qid t x thought.machine) (sym same) second
 
 pub came_if : (end : End) (t u : ℕ) (o p : Occupancy) → u ≡ t → may_come end t o ≡ true → Comes t o p → ComesIf (may_come end u o) u o p
 came_if end t u o p same may comes = rw (same, may) comes

@@ -1,16 +1,19 @@
 -- How machines go on.
-use Rattle.std.proofs.Common.{◌≡◌, ◌∙◌, ◌≤◌, ◌<◌, ℕ, ◌+◌, ◌-◌, ◌*◌, Bool, true, false, Option, Some, None, Result, Ok, Err, refl, sym, subst, arith}
+use Rattle.std.proofs.Common.{◌≡◌, ◌∙◌, ◌≤◌, ◌<◌, ℕ, ◌+◌, ◌-◌, ◌*◌, Bool, true, false, Option, Some, None, Result, Ok, Err, refl, sym, ap, subst, arith}
 use Rattle.std.specs.Prelude.{IfSome, IsErr, OnOk, OnSome, SomeIff}
 use Rattle.nvme_simulation.specs.Devices.{device_in}
+use Rattle.nvme_channels.specs.Steps.{finish_of}
 use Rattle.nvme_clock.specs.Held.{pushed}
 use Rattle.nvme_simulation.specs.Following.{IsNextOf, PlansIf, PlansNext}
 use Rattle.nvme_simulation.specs.Fronts.{IsFront, StaysFront}
-use Rattle.nvme_simulation.specs.Machines.{Goes, Works}
+use Rattle.nvme_simulation.specs.Machines.{EndsAndStarts, Goes, Works}
 use Rattle.nvme_simulation.specs.Plans.{events_of}
 use Rattle.nvme_simulation.specs.Progress.{AllGoOn, OneComes}
+use Rattle.nvme_simulation.specs.Starts.{AnswersAs, PlansEnd}
 use Rattle.nvme_simulation.specs.Steps.{cost_at}
 use Rattle.nvme_simulation.specs.Times.{now_of}
 use Rattle.nvme_simulation.specs.declared.agenda.Event.TheVariants.{Arrival, Pause}
+use Rattle.nvme_simulation.specs.declared.channels.Started.{Started}
 use Rattle.nvme_simulation.specs.declared.front.Front.{Front}
 use Rattle.nvme_simulation.specs.declared.hosts.Hosts.{Hosts}
 use Rattle.nvme_simulation.specs.declared.machine.Machine.{Machine}
@@ -89,6 +92,16 @@ pub plans_next : (qid time : ℕ) (m n : Machine) (E : Type 0) (next : Option �
 plans_next qid time m n E next (Err e) none plans draws = tt
 plans_next qid time m n E None (Ok x) none plans draws = absurd (cc (none refl))
 plans_next qid time m n E (Some at) (Ok x) none plans draws = record { at = at; next = draws; planned = plans }
+
+-- a command ends at a time that is told, and the next one starts
+pub ends_at : (t channel : ℕ) (m n : Machine) (started : Option Started) → t ≡ now_of m.agenda → AnswersAs (finish_of t channel (device_in m.device)).0 started
+    → device_in n.device ≡ (finish_of t channel (device_in m.device)).1 → PlansEnd started (events_of m.agenda) (events_of n.agenda) → EndsAndStarts channel m n
+ends_at t channel m n started time answers device plans = record {
+  started = started;
+  answers = subst (λ (v : ℕ). AnswersAs (finish_of v channel (device_in m.device)).0 started) time answers;
+  device = device ∙ ap (λ (v : ℕ). (finish_of v channel (device_in m.device)).1) time;
+  plans = plans;
+}
 
 pub plans_if : (b : Bool) (qid t u : ℕ) (m n : Machine) → t ≡ u → b ≡ true → PlansNext qid t m n → PlansIf b qid u m n
 plans_if b qid t u m n time follows plans =

@@ -8,6 +8,7 @@ use Rattle.nvme_simulation.specs.Handling.{Handles, IsOver, Stays}
 use Rattle.nvme_simulation.specs.Machines.{Goes}
 use Rattle.nvme_simulation.specs.Passing.{Passes}
 use Rattle.nvme_simulation.specs.Picks.{IsTimed}
+use Rattle.nvme_simulation.specs.Planning.{PlansFor, StepPlans}
 use Rattle.nvme_simulation.specs.Plans.{Follows, IsFirst, IsOfPicks, events_of, is_pick, picks_behind}
 use Rattle.nvme_simulation.specs.Simulations.{counts_next, may_come_to}
 use Rattle.nvme_simulation.specs.Stepping.{HasStepped}
@@ -38,6 +39,7 @@ pick_steps a m (Picked p) picks goes costs is timed counts passes = record {
   timed = timed;
   counts = counts;
   passes = passes;
+  plans = tt;
   falls = inr (let was : ◌≡◌ {A = ℕ} (cond a.picks 1 0) 1 = ap (λ (b : Bool). cond b 1 0) picks in omega (arith, costs, was));
 }
 pick_steps a m Settled picks goes costs is timed counts passes = record {
@@ -46,6 +48,7 @@ pick_steps a m Settled picks goes costs is timed counts passes = record {
   timed = timed;
   counts = counts;
   passes = passes;
+  plans = tt;
   falls = inr (let was : ◌≡◌ {A = ℕ} (cond a.picks 1 0) 1 = ap (λ (b : Bool). cond b 1 0) picks in omega (arith, costs, was));
 }
 pick_steps a m (Came queue) picks goes costs is timed counts passes = absurd is
@@ -58,6 +61,15 @@ pick_steps a m Over picks goes costs is timed counts passes = absurd is
 abbrev pub reached : Simulation → Agenda → Simulation
 reached a g = record a { machine = record a.machine { agenda = g }; picks = true }
 
+step_plans : (a b : Simulation) (g : Agenda) (h : Happening) → events_of g ≡ (popped (events_of a.machine.agenda)).1 → PlansFor h (reached a g) b → StepPlans h a b
+step_plans a b g (Came queue) rest plans = record { rest = g; is = rest; plans = plans }
+step_plans a b g (Finished command counts) rest plans = record { rest = g; is = rest; plans = plans }
+step_plans a b g (Picked p) rest plans = tt
+step_plans a b g Settled rest plans = tt
+step_plans a b g (Paused channel) rest plans = tt
+step_plans a b g (Resumed channel) rest plans = tt
+step_plans a b g Over rest plans = tt
+
 pub event_steps : (a b : Simulation) (g : Agenda) (event : Event) (h : Happening) → a.picks ≡ false
     → option_map (λ (e : Timed Event). e.what) (popped (events_of a.machine.agenda)).0 ≡ Some event → events_of g ≡ (popped (events_of a.machine.agenda)).1
     → cost_in a.machine.agenda ≡ cost_in g + cost (now_of g) event → Stays (reached a g) b → Handles event (reached a g) b h → HasStepped a b h
@@ -68,6 +80,7 @@ event_steps a b g event h picks what rest costs stays handles = record {
   timed = handles.timed;
   counts = handles.counts;
   passes = handles.passes;
+  plans = step_plans a b g h rest handles.plans;
   falls = inr (let was : ◌≡◌ {A = ℕ} (cond a.picks 1 0) 0 = ap (λ (b : Bool). cond b 1 0) picks in omega (arith, handles.cost, costs, was));
 }
 
@@ -89,5 +102,6 @@ over_steps a g h picks none rest is = record {
   timed = subst (λ (x : Happening). IsTimed (now_of g) x) (sym is.0) tt;
   counts = is.1;
   passes = is.2;
+  plans = subst (λ (x : Happening). StepPlans x a (at_end a g)) (sym is.0) tt;
   falls = inl is.0;
 }

@@ -4,6 +4,7 @@ use Rattle.nvme_simulation.specs.Counts.{Counts}
 use Rattle.nvme_simulation.specs.Machines.{Works}
 use Rattle.nvme_simulation.specs.Passing.{Passes}
 use Rattle.nvme_simulation.specs.Picks.{IsTimed}
+use Rattle.nvme_simulation.specs.Planning.{PlansFor}
 use Rattle.nvme_simulation.specs.Plans.{cause}
 use Rattle.nvme_simulation.specs.Simulations.{counts_next, end_of, hosts_of, may_come_to, occupancy_of, time_of}
 use Rattle.nvme_simulation.specs.Steps.{cost, steps_left}
@@ -23,6 +24,7 @@ pub record Handles (event : Event) (before after : Simulation) (h : Happening) :
   pub timed : IsTimed (time_of after) h
   pub counts : Counts (end_of before) (time_of after) (occupancy_of before) (occupancy_of after) h
   pub passes : Passes (may_come_to before (time_of after)) (counts_next before) (time_of after) (hosts_of before) (hosts_of after) h
+  pub plans : PlansFor h before after
   pub cost : steps_left after + 2 ≤ steps_left before + cost (time_of before) event
 
 -- no event is to come: all that came is done

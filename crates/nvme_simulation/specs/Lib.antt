@@ -12,6 +12,7 @@ pub mod Machines
 pub mod Marks
 pub mod Passing
 pub mod Picks
+pub mod Planning
 pub mod Plans
 pub mod Progress
 pub mod Ranks

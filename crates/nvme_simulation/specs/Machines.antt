@@ -1,12 +1,13 @@
 -- What a step makes of hosts, controller and device. (profile)
-use Rattle.std.specs.Prelude.{◌≡◌, ℕ}
-use Rattle.nvme_channels.specs.Steps.{take_of}
+use Rattle.std.specs.Prelude.{◌≡◌, ℕ, Option}
+use Rattle.nvme_channels.specs.Steps.{finish_of, take_of}
 use Rattle.nvme_simulation.specs.Devices.{IsBehind, device_in}
 use Rattle.nvme_simulation.specs.Fronts.{StaysFront}
 use Rattle.nvme_simulation.specs.Plans.{Follows, events_of}
 use Rattle.nvme_simulation.specs.Progress.{AllGoOn, AsksFor}
-use Rattle.nvme_simulation.specs.Starts.{number_in}
+use Rattle.nvme_simulation.specs.Starts.{AnswersAs, PlansEnd, number_in}
 use Rattle.nvme_simulation.specs.Times.{now_of}
+use Rattle.nvme_simulation.specs.declared.channels.Started.{Started}
 use Rattle.nvme_simulation.specs.declared.flight.Request.{Request}
 use Rattle.nvme_simulation.specs.declared.front.Taken.{Taken}
 use Rattle.nvme_simulation.specs.declared.machine.Machine.{Machine}
@@ -25,6 +26,13 @@ pub record TakesPicked (qid : ℕ) (before after : Machine) : Type 0 where
   pub request : Request
   pub asks : AsksFor qid taken.number before.hosts request
   pub takes : device_in after.device ≡ (take_of (now_of before.agenda) (number_in taken) request.block request.service (device_in before.device)).1
+
+-- the command that runs on a channel ends now, and the next one starts there, if one does: its end is planned, and nothing else
+pub record EndsAndStarts (channel : ℕ) (before after : Machine) : Type 0 where
+  pub started : Option Started
+  pub answers : AnswersAs (finish_of (now_of before.agenda) channel (device_in before.device)).0 started
+  pub device : device_in after.device ≡ (finish_of (now_of before.agenda) channel (device_in before.device)).1
+  pub plans : PlansEnd started (events_of before.agenda) (events_of after.agenda)
 
 -- so, but that commands may come and be done
 pub record Works (before after : Machine) : Type 0 where

@@ -3,6 +3,7 @@ use Rattle.std.specs.Prelude.{◌≡◌}
 use Rattle.nvme_simulation.specs.Counts.{Counts}
 use Rattle.nvme_simulation.specs.Passing.{Passes}
 use Rattle.nvme_simulation.specs.Picks.{IsTimed}
+use Rattle.nvme_simulation.specs.Planning.{StepPlans}
 use Rattle.nvme_simulation.specs.Plans.{IsNext, events_of, picks_behind}
 use Rattle.nvme_simulation.specs.Simulations.{counts_next, end_of, hosts_of, may_come_to, occupancy_of, picks_of, time_of}
 use Rattle.nvme_simulation.specs.Steps.{IsStepLess}
@@ -19,5 +20,7 @@ pub record HasStepped (before after : Simulation) (h : Happening) : Type 0 where
   pub counts : Counts (end_of before) (time_of after) (occupancy_of before) (occupancy_of after) h
   -- how far each command is, the times at which it comes to its stages, and what it asks for
   pub passes : Passes (may_come_to before (time_of after)) (counts_next before) (time_of after) (hosts_of before) (hosts_of after) h
+  -- the events that are planned where a command comes or is done
+  pub plans : StepPlans h before after
   -- fewer steps are left
   pub falls : IsStepLess before after h

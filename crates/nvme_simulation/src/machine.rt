@@ -32,7 +32,7 @@ impl Machine {
     ghost use Rattle.nvme_simulation.specs.Devices.{room_in};
     ghost use Rattle.nvme_simulation.specs.Following.{ComesAndFollows, PlansNext, goes_on};
     ghost use Rattle.nvme_simulation.specs.Fronts.{IsCompletionOf, IsFront, StandsBy};
-    ghost use Rattle.nvme_simulation.specs.Machines.{Goes, TakesPicked, Works};
+    ghost use Rattle.nvme_simulation.specs.Machines.{EndsAndStarts, Goes, TakesPicked, Works};
     ghost use Rattle.nvme_simulation.specs.Passing.{Passes};
     ghost use Rattle.nvme_simulation.specs.Plans.{IsOfPicks, events_of};
     ghost use Rattle.nvme_simulation.specs.Progress.{OneComes, OneEnds};
@@ -196,6 +196,8 @@ impl Machine {
     fn collect(&mut self, taken: Taken) -> Result<(), SimulationFault>
         requires front { IsFront self.old.front }
         ensures goes { Goes self.old self.new }
+        ensures agenda { self.new.agenda ≡ self.old.agenda }
+        ensures device { self.new.device ≡ self.old.device }
         ensures cost { cost_with self.new ≡ cost_with self.old }
     {
         if !self.front.complete(taken.tag) {
@@ -222,6 +224,7 @@ impl Machine {
         requires front { IsFront self.old.front }
         ensures goes { Goes self.old self.new }
         ensures cost { OnOk result (cost_with self.new ≤ cost_with self.old + 5) }
+        ensures plans { OnOk result (EndsAndStarts channel self.old self.new) }
     {
         let (taken, started) = self.device.finish(self.agenda.now(), channel)?;
         self.start(started)?;
@@ -234,6 +237,7 @@ impl Machine {
         requires front { IsFront self.old.front }
         ensures works { Works self.old self.new }
         ensures cost { OnOk result (cost_with self.new ≤ cost_with self.old + 5) }
+        ensures plans { OnOk result (EndsAndStarts channel self.old self.new) }
         ensures ends { IfOk result (λ done. OneEnds done.0.qid done.0.number (now_of self.old.agenda) done.1 self.old.hosts self.new.hosts) }
     {
         let taken = self.end(channel)?;

@@ -15,3 +15,7 @@ returns-clause-works c =
 
 pub returns-clause-ends : goal.returns-clause-ends
 returns-clause-ends c = one_after _ _ _ _ _ _ _ c.end.ensures.goes.hosts (c.in_ok-flight.ensures.ends _)
+
+pub returns-clause-plans : goal.returns-clause-plans
+returns-clause-plans c =
+    let ends = c.in_ok-taken.ensures.plans in record { started = ends.started; answers = ends.answers; device = ends.device; plans = ends.plans }

@@ -1,9 +1,11 @@
-use Rattle.std.proofs.Common.{◌≡◌, ◌∙◌, ◌≤◌, ◌+◌, ℕ, Some, sym, ap, subst, arith}
+use Rattle.std.proofs.Common.{◌≡◌, ◌∙◌, ◌≤◌, ◌+◌, ℕ, Some, refl, sym, ap, subst, arith}
 use Rattle.nvme_occupancy.specs.Occupancies.{Leaves}
 use Rattle.nvme_occupancy.specs.declared.occupancy.Occupancy.{Occupancy}
 use Rattle.nvme_simulation.specs.Handling.{Stays}
 use Rattle.nvme_simulation.specs.Marks.{IsToldOf}
 use Rattle.nvme_simulation.specs.Passing.{EndsTold}
+use Rattle.nvme_simulation.specs.Planning.{EndPlans}
+use Rattle.nvme_simulation.specs.Plans.{events_of}
 use Rattle.nvme_simulation.specs.Progress.{AllGoOn, OneEnds}
 use Rattle.nvme_simulation.specs.Simulations.{hosts_of, time_of}
 use Rattle.nvme_simulation.specs.Steps.{cost_with}
@@ -11,7 +13,7 @@ use Rattle.nvme_simulation.specs.Times.{now_of}
 use Rattle.nvme_simulation.specs.declared.agenda.Event.TheVariants.{End}
 use Rattle.nvme_simulation.specs.declared.machine.Machine.{Machine}
 use Rattle.nvme_simulation.specs.declared.simulation.Simulation.{Simulation}
-use Rattle.nvme_simulation.proofs.Handling.{left_behind, stays_goes, stays_machine, stays_occupancy, stays_then, stays_time}
+use Rattle.nvme_simulation.proofs.Handling.{left_behind, stays_goes, stays_machine, stays_occupancy, stays_then, stays_time, thinks_at}
 use Rattle.nvme_simulation.proofs.Hosted.{all_then, one_before}
 use Rattle.nvme_simulation.proofs.Machines.{all_at, works}
 use Rattle.nvme_simulation.proofs.simulation.Simulation.finish.Goals as goal
@@ -101,6 +103,18 @@ returns-clause-handles c =
                 (subst (λ (n : ℕ). OneEnds taken.qid n (time_of old) flight (hosts_of old) (hosts_of after)) (sym c.in_ok-command.ensures.number) ends);
           } in
           subst (λ (t : ℕ). EndsTold t command flight.request.counts (hosts_of old) (hosts_of after)) (sym (stays_time old after stays)) it;
+      plans =
+          let taken = c.in_ok-taken.taken in
+          let same : time_of after ≡ time_of told = stays_time old after stays ∙ sym (stays_time old told second) in
+          let it : EndPlans c.args.channel taken.qid old.machine after = record {
+            ended = c.finish.new.self;
+            ends = c.in_ok-taken.ensures.plans;
+            thought = thought.machine;
+            thinks = thinks_at told thought after c.finish.new.self taken.qid machine c.think.ensures.rest same refl c.in_ok-think.ensures.plans;
+            events = ap events_of c.submit.ensures.agenda;
+          } in
+          subst (λ (k : ℕ). EndPlans k c.in_ok-command.command.queue old.machine after) (sym c.in_ok-command.ensures.channel)
+          (subst (λ (q : ℕ). EndPlans c.args.channel q old.machine after) (sym c.in_ok-command.ensures.queue) it);
       cost =
           let ends = c.in_ok-taken.ensures.cost in
           let thinks : cost_with thought.machine ≤ cost_with c.finish.new.self + 2 = subst (λ (m : Machine). cost_with thought.machine ≤ cost_with m + 2) machine c.think.ensures.cost in

@@ -22,6 +22,7 @@ returns-clause-handles c =
       timed = tt;
       counts = refl;
       passes = all_at _ _ _ _ (sym (stays_time old after stays)) c.pause.ensures.goes.hosts;
+      plans = tt;
       cost =
           let costs = c.in_ok-pause.ensures.cost in
           let some = c.in-Some.pauses.some in

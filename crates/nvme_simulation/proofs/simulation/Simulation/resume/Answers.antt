@@ -35,6 +35,7 @@ returns-clause-handles c =
       passes =
           let same : time_of resumed ≡ time_of old = works_time old.machine c.resume.new.self (works _ _ c.resume.ensures.goes) in
           all_at _ _ _ _ (sym (stays_time old after stays)) (all_then _ _ _ _ c.resume.ensures.goes.hosts (all_at _ _ _ _ same c.plan_pause.ensures.goes.hosts));
+      plans = tt;
       cost =
           let first = c.resume.ensures.cost in
           let planned = c.in_ok-plan_pause.ensures.cost in

@@ -1,0 +1,44 @@
+-- Which events a step plans where a command comes or is done. (profile)
+use Rattle.std.specs.Prelude.{◌≡◌, ◌&&◌, ℕ, Bool, true, false}
+use Rattle.nvme_clock.specs.Held.{popped}
+use Rattle.nvme_simulation.specs.Following.{ComesAndFollows, PlansIf, closed_in}
+use Rattle.nvme_simulation.specs.Machines.{EndsAndStarts}
+use Rattle.nvme_simulation.specs.Plans.{events_of}
+use Rattle.nvme_simulation.specs.Simulations.{counts_next, may_come_to, time_of}
+use Rattle.nvme_simulation.specs.declared.agenda.Agenda.{Agenda}
+use Rattle.nvme_simulation.specs.declared.happening.Happening.{Happening}
+use Rattle.nvme_simulation.specs.declared.happening.Happening.TheVariants.{Came, Finished}
+use Rattle.nvme_simulation.specs.declared.machine.Machine.{Machine}
+use Rattle.nvme_simulation.specs.declared.simulation.Simulation.{Simulation}
+
+-- a command comes where one may, and the next one of its queue is planned behind it, where more may come and it waits for no completion. Else nothing is planned
+abbrev pub ArrivalPlans : (may : Bool) → (queue : ℕ) → (counts more : Bool) → (before after : Machine) → Type 0
+ArrivalPlans true queue counts more before after = ComesAndFollows queue counts more before after
+ArrivalPlans false queue counts more before after = after ≡ before
+
+-- a command ends on a channel. The end of the one that starts there is planned, and the next command of a closed host, when it thought, where one may come. Nothing
+-- else is planned
+pub record EndPlans (channel queue : ℕ) (before : Machine) (after : Simulation) : Type 0 where
+  pub ended : Machine
+  pub ends : EndsAndStarts channel before ended
+  pub thought : Machine
+  pub thinks : PlansIf (closed_in ended.hosts queue && may_come_to after (time_of after)) queue (time_of after) ended thought
+  pub events : events_of after.machine.agenda ≡ events_of thought.agenda
+
+-- what is planned where a command comes or is done
+abbrev pub PlansFor : Happening → (before after : Simulation) → Type 0
+PlansFor (Came queue) before after =
+    ArrivalPlans (may_come_to before (time_of after)) queue (counts_next before) (may_come_to after (time_of after)) before.machine after.machine
+PlansFor (Finished command counts) before after = EndPlans command.channel command.queue before.machine after
+PlansFor h before after = Unit {0}
+
+-- so in a step, whose first event is gone
+pub record IsPlannedBehind (h : Happening) (before after : Simulation) : Type 0 where
+  pub rest : Agenda
+  pub is : events_of rest ≡ (popped (events_of before.machine.agenda)).1
+  pub plans : PlansFor h (record before { machine = record before.machine { agenda = rest } }) after
+
+abbrev pub StepPlans : Happening → (before after : Simulation) → Type 0
+StepPlans (Came queue) before after = IsPlannedBehind (Came queue) before after
+StepPlans (Finished command counts) before after = IsPlannedBehind (Finished command counts) before after
+StepPlans h before after = Unit {0}
