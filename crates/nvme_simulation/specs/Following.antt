@@ -4,7 +4,7 @@ use Rattle.nvme_clock.specs.Held.{pushed}
 use Rattle.nvme_load.specs.Arrivals.{at_start, ends_at, next_after}
 use Rattle.nvme_simulation.specs.Asking.{words}
 use Rattle.nvme_simulation.specs.Plans.{events_of}
-use Rattle.nvme_simulation.specs.Progress.{BetweenOne, OneComes}
+use Rattle.nvme_simulation.specs.Progress.{AllGoOn, BetweenOne, OneComes}
 use Rattle.nvme_simulation.specs.Stages.{next_in}
 use Rattle.nvme_simulation.specs.Times.{now_of}
 use Rattle.nvme_simulation.specs.declared.agenda.Event.TheVariants.{Arrival}
@@ -59,4 +59,5 @@ pub record ComesAndFollows (qid : ℕ) (counts more : Bool) (before after : Mach
   pub comes : OneComes qid (now_of before.agenda) counts before.hosts came
   pub followed : Machine
   pub plans : PlansIf (more && goes_on came qid) qid (now_of before.agenda) (record before { hosts = came }) followed
+  pub goes : AllGoOn (now_of before.agenda) followed.hosts after.hosts
   pub events : events_of after.agenda ≡ events_of followed.agenda

@@ -3,6 +3,7 @@ pub mod Beginnings
 pub mod Counts
 pub mod Devices
 pub mod Entries
+pub mod Examples
 pub mod First
 pub mod Following
 pub mod Fronts

@@ -4,8 +4,11 @@ use Rattle.nvme_clock.specs.Held.{popped}
 use Rattle.nvme_simulation.specs.Following.{ComesAndFollows, PlansIf, closed_in}
 use Rattle.nvme_simulation.specs.Machines.{EndsAndStarts}
 use Rattle.nvme_simulation.specs.Plans.{events_of}
+use Rattle.nvme_simulation.specs.Progress.{AllGoOn, OneEnds}
 use Rattle.nvme_simulation.specs.Simulations.{counts_next, may_come_to, time_of}
+use Rattle.nvme_simulation.specs.Times.{now_of}
 use Rattle.nvme_simulation.specs.declared.agenda.Agenda.{Agenda}
+use Rattle.nvme_simulation.specs.declared.flight.Flight.{Flight}
 use Rattle.nvme_simulation.specs.declared.happening.Happening.{Happening}
 use Rattle.nvme_simulation.specs.declared.happening.Happening.TheVariants.{Came, Finished}
 use Rattle.nvme_simulation.specs.declared.machine.Machine.{Machine}
@@ -18,18 +21,21 @@ ArrivalPlans false queue counts more before after = after ≡ before
 
 -- a command ends on a channel. The end of the one that starts there is planned, and the next command of a closed host, when it thought, where one may come. Nothing
 -- else is planned
-pub record EndPlans (channel queue : ℕ) (before : Machine) (after : Simulation) : Type 0 where
+pub record EndPlans (channel queue number : ℕ) (before : Machine) (after : Simulation) : Type 0 where
+  pub flight : Flight
   pub ended : Machine
+  pub done : OneEnds queue number (now_of before.agenda) flight before.hosts ended.hosts
   pub ends : EndsAndStarts channel before ended
   pub thought : Machine
   pub thinks : PlansIf (closed_in ended.hosts queue && may_come_to after (time_of after)) queue (time_of after) ended thought
+  pub goes : AllGoOn (now_of before.agenda) thought.hosts after.machine.hosts
   pub events : events_of after.machine.agenda ≡ events_of thought.agenda
 
 -- what is planned where a command comes or is done
 abbrev pub PlansFor : Happening → (before after : Simulation) → Type 0
 PlansFor (Came queue) before after =
     ArrivalPlans (may_come_to before (time_of after)) queue (counts_next before) (may_come_to after (time_of after)) before.machine after.machine
-PlansFor (Finished command counts) before after = EndPlans command.channel command.queue before.machine after
+PlansFor (Finished command counts) before after = EndPlans command.channel command.queue command.number before.machine after
 PlansFor h before after = Unit {0}
 
 -- so in a step, whose first event is gone

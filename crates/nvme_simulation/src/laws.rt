@@ -1,8 +1,20 @@
 //! Laws over the definitions alone. Each function does nothing: its contract is the law.
+ghost use Rattle.nvme_simulation.specs.Examples.{FirstEventsArePlanned, StagesAreTimed};
 ghost use Rattle.nvme_simulation.specs.Runs.{TimesAreOfSteps};
+ghost use Rattle.nvme_simulation.specs.declared.flight.Request.{Request};
 
 /// The times that are told of a command are those of the steps of its run at which it came, was submitted, was picked, started and
 /// was done. So the parts of its latency are the times that it spent between them.
 pub fn times_are_those_of_steps()
     ensures { TimesAreOfSteps }
+{}
+
+/// The worked times of a command's stages.
+pub fn worked_stages()
+    ensures { (r : Request) → StagesAreTimed r }
+{}
+
+/// The worked first events of a queue and of a device that pauses.
+pub fn worked_first_events()
+    ensures { FirstEventsArePlanned }
 {}

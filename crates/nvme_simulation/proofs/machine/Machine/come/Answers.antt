@@ -2,8 +2,8 @@ use Rattle.std.proofs.Common.{◌∙◌, sym, ap, arith}
 use Rattle.nvme_simulation.specs.Plans.{events_of}
 use Rattle.nvme_simulation.specs.declared.machine.Machine.{Machine}
 use Rattle.nvme_simulation.proofs.Hosted.{come_then}
-use Rattle.nvme_simulation.proofs.Machines.{comes_at, front_stays, goes_then, on_ok, plans_if, plans_if_not, works}
-use Rattle.nvme_simulation.proofs.Plans.{follows_self}
+use Rattle.nvme_simulation.proofs.Machines.{all_at, comes_at, front_stays, goes_then, on_ok, plans_if, plans_if_not, works}
+use Rattle.nvme_simulation.proofs.Plans.{follows_self, follows_time}
 use Rattle.nvme_simulation.proofs.Rooms.{behind_none}
 use Rattle.nvme_simulation.proofs.machine.Machine.come.Goals as goal
 
@@ -41,6 +41,7 @@ returns-then-not-is_followed-clause-follows c =
       comes = comes_at _ _ _ _ _ _ c.now-now.ensures.value c.in_ok-come.ensures.comes;
       followed = mid;
       plans = plans_if_not _ _ _ mid (sym c.is_followed.ensures ∙ grind (arith, c.if-not-is_followed.true));
+      goes = c.submit.ensures.goes.hosts;
       events = ap events_of c.submit.ensures.agenda;
     })
 
@@ -53,5 +54,6 @@ returns-clause-follows c =
       followed = c.follow.new.self;
       plans = plans_if _ _ _ _ mid c.follow.new.self c.now-now.ensures.value (sym c.is_followed.ensures ∙ grind (arith, c.if-not-is_followed.false))
           c.in_ok-follow.ensures.plans;
+      goes = all_at _ _ _ _ (follows_time _ _ c.follow.ensures.goes.events) c.submit-2.ensures.goes.hosts;
       events = ap events_of c.submit-2.ensures.agenda;
     })

@@ -106,15 +106,19 @@ returns-clause-handles c =
       plans =
           let taken = c.in_ok-taken.taken in
           let same : time_of after ≡ time_of told = stays_time old after stays ∙ sym (stays_time old told second) in
-          let it : EndPlans c.args.channel taken.qid old.machine after = record {
+          let it : EndPlans c.args.channel taken.qid taken.number old.machine after = record {
+            flight = c.in_ok-taken.flight;
+            done = c.in_ok-taken.ensures.ends;
+            goes = all_at _ _ _ _ (stays_time old thought third) c.submit.ensures.goes.hosts;
             ended = c.finish.new.self;
             ends = c.in_ok-taken.ensures.plans;
             thought = thought.machine;
             thinks = thinks_at told thought after c.finish.new.self taken.qid machine c.think.ensures.rest same refl c.in_ok-think.ensures.plans;
             events = ap events_of c.submit.ensures.agenda;
           } in
-          subst (λ (k : ℕ). EndPlans k c.in_ok-command.command.queue old.machine after) (sym c.in_ok-command.ensures.channel)
-          (subst (λ (q : ℕ). EndPlans c.args.channel q old.machine after) (sym c.in_ok-command.ensures.queue) it);
+          subst (λ (k : ℕ). EndPlans k c.in_ok-command.command.queue c.in_ok-command.command.number old.machine after) (sym c.in_ok-command.ensures.channel)
+          (subst (λ (q : ℕ). EndPlans c.args.channel q c.in_ok-command.command.number old.machine after) (sym c.in_ok-command.ensures.queue)
+          (subst (λ (n : ℕ). EndPlans c.args.channel taken.qid n old.machine after) (sym c.in_ok-command.ensures.number) it));
       cost =
           let ends = c.in_ok-taken.ensures.cost in
           let thinks : cost_with thought.machine ≤ cost_with c.finish.new.self + 2 = subst (λ (m : Machine). cost_with thought.machine ≤ cost_with m + 2) machine c.think.ensures.cost in
