@@ -1,0 +1,10 @@
+use Rattle.std.proofs.Common.{◌≡◌}
+use Rattle.nvme_lines.specs.Lines.{unread, PassesBlank}
+use Rattle.nvme_lines.proofs.told.told_after.Given as goal
+
+-- blank lines were passed
+abbrev pub invariant-loop : goal.invariant-loop
+invariant-loop g l = record {
+  passed : PassesBlank l.fn.number (unread g.R.Read.remaining l.fn.lines) l.number (unread g.R.Read.remaining l.lines);
+  number : l.number ≡ l.counter;
+}

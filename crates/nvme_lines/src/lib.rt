@@ -1,0 +1,8 @@
+//! The lines of a text, which is read as a stream: those that aren't blank, with their numbers.
+#![tactic(auto)]
+
+mod lines;
+mod told;
+
+pub use lines::NextError;
+pub use told::ToldLines;
