@@ -5,19 +5,21 @@ _nvmearb() {
     local cur=${COMP_WORDS[COMP_CWORD]} prev=${COMP_WORDS[COMP_CWORD - 1]} words="" files=""
     COMPREPLY=()
     if [ "$COMP_CWORD" = 1 ]; then
-        words="demo run trace simulate check stats chart lint expand settings once loaded live help --help --version"
+        words="demo run trace simulate check audit stats chart lint expand settings once loaded live help --help --version"
     else
         case $prev in
             --workers) words="1 2 3 4 5 6 7 8" ;;
             --format)
                 case ${COMP_WORDS[1]} in
-                    check) words="text json junit" ;;
+                    check | audit) words="text json junit" ;;
                     run) words="text json" ;;
                     *) words="text json csv" ;;
                 esac
                 ;;
             -o | --output | --log | --trace | --chart) files=any ;;
             --class) words="urgent high medium low" ;;
+            --observer) words="bus host" ;;
+            --only | --without) words="fetch-closed fetch-beyond-tail fetch-slot post-closed slot phase cq-full cq-wrong life sqhd" ;;
             --burst) words="1 2 4 8 16 32 64 none" ;;
             --blocks | --from | --to | --weights | --window | --seed | --commands | --time | --warm-up | --load | --sweep | --seeds | --jobs) return ;;
             *)
@@ -27,12 +29,13 @@ _nvmearb() {
                     simulate) words="--seed --commands --time --warm-up --load --sweep --seeds --jobs --points --no-head --class --format --bounds --log --trace --chart --output --help" files=toml ;;
                     lint | expand) words="--help" files=toml ;;
                     check) words="--spec --all --quiet --format --help" files=any ;;
+                    audit) words="--observer --only --without --quiet --format --help" files=any ;;
                     chart) words="--from --to --no-admin --output --help" files=any ;;
                     stats) words="--from --to --backlogged --window --format --help" files=any ;;
                     loaded | live) words="--workers --help" ;;
                     once) words="--blocks --help" ;;
                     settings) words="--burst --weights --help" ;;
-                    help) words="workload simulation run trace simulate check stats chart lint expand settings once loaded live" ;;
+                    help) words="workload simulation run trace simulate check audit stats chart lint expand settings once loaded live" ;;
                 esac
                 ;;
         esac

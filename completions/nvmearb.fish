@@ -1,7 +1,7 @@
 # SPDX-License-Identifier: MIT
 # Completions of nvmearb for fish.
 
-set -l all demo run trace simulate lint expand check stats chart loaded live once settings help
+set -l all demo run trace simulate lint expand check audit stats chart loaded live once settings help
 
 complete -c nvmearb -f
 complete -c nvmearb -s h -l help -d 'Print help'
@@ -14,6 +14,7 @@ complete -c nvmearb -n "not __fish_seen_subcommand_from $all" -a simulate -d 'Si
 complete -c nvmearb -n "not __fish_seen_subcommand_from $all" -a lint -d 'Look for faults of a workload file'
 complete -c nvmearb -n "not __fish_seen_subcommand_from $all" -a expand -d 'Write a short workload file out'
 complete -c nvmearb -n "not __fish_seen_subcommand_from $all" -a check -d 'Say whether each pick of a trace is the expected one'
+complete -c nvmearb -n "not __fish_seen_subcommand_from $all" -a audit -d 'Say whether a controller keeps the rules in a log'
 complete -c nvmearb -n "not __fish_seen_subcommand_from $all" -a stats -d 'Print picks, shares and waits of a trace'
 complete -c nvmearb -n "not __fish_seen_subcommand_from $all" -a chart -d 'Print a picture of a trace as SVG'
 complete -c nvmearb -n "not __fish_seen_subcommand_from $all" -a loaded -d 'Run a workload of standard input, submitted first'
@@ -28,8 +29,11 @@ complete -c nvmearb -n '__fish_seen_subcommand_from run' -l summary -d 'Print se
 complete -c nvmearb -n '__fish_seen_subcommand_from run' -l format -x -a 'text json' -d 'How the report is written'
 complete -c nvmearb -n '__fish_seen_subcommand_from check' -l spec -d 'Judge by what the specification alone asks'
 complete -c nvmearb -n '__fish_seen_subcommand_from check' -l all -d 'Tell all picks that differ'
-complete -c nvmearb -n '__fish_seen_subcommand_from check' -l quiet -d 'Tell nothing but the status'
-complete -c nvmearb -n '__fish_seen_subcommand_from check' -l format -x -a 'text json junit' -d 'How the answer is written'
+complete -c nvmearb -n '__fish_seen_subcommand_from audit' -l observer -x -a 'bus host' -d 'Judge as if only that were told'
+complete -c nvmearb -n '__fish_seen_subcommand_from audit' -l only -x -a 'fetch-closed fetch-beyond-tail fetch-slot post-closed slot phase cq-full cq-wrong life sqhd' -d 'Rules to judge by'
+complete -c nvmearb -n '__fish_seen_subcommand_from audit' -l without -x -a 'fetch-beyond-tail fetch-slot slot phase cq-full sqhd' -d 'Rules to leave out'
+complete -c nvmearb -n '__fish_seen_subcommand_from check audit' -l quiet -d 'Tell nothing but the status'
+complete -c nvmearb -n '__fish_seen_subcommand_from check audit' -l format -x -a 'text json junit' -d 'How the answer is written'
 complete -c nvmearb -n '__fish_seen_subcommand_from simulate' -l seed -x -d 'Seed of all that is drawn'
 complete -c nvmearb -n '__fish_seen_subcommand_from simulate' -l commands -x -d 'How many commands come'
 complete -c nvmearb -n '__fish_seen_subcommand_from simulate' -l time -x -d 'From when on none comes'
@@ -56,5 +60,5 @@ complete -c nvmearb -n '__fish_seen_subcommand_from once' -l blocks -x -d 'Size 
 complete -c nvmearb -n '__fish_seen_subcommand_from settings' -l burst -x -a '1 2 4 8 16 32 64 none' -d 'Most commands of a pick'
 complete -c nvmearb -n '__fish_seen_subcommand_from settings' -l weights -x -d 'Weights of high, medium and low'
 complete -c nvmearb -n '__fish_seen_subcommand_from run trace simulate lint expand' -k -a '(__fish_complete_suffix .toml)'
-complete -c nvmearb -n '__fish_seen_subcommand_from check chart stats' -F
-complete -c nvmearb -n '__fish_seen_subcommand_from help' -a 'workload simulation run trace simulate lint expand check stats chart loaded live once settings'
+complete -c nvmearb -n '__fish_seen_subcommand_from check audit chart stats' -F
+complete -c nvmearb -n '__fish_seen_subcommand_from help' -a 'workload simulation run trace simulate lint expand check audit stats chart loaded live once settings'

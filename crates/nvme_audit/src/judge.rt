@@ -39,6 +39,7 @@ impl Judge {
     ghost use Rattle.nvme_audit.specs.Lives.{Past, done_by};
     ghost use Rattle.nvme_audit.specs.Lawful.{verdict, is_broken, log_after, IsLawfulRun, IsFirstBroken};
     ghost use Rattle.nvme_audit.specs.Standing.{sq_at, cq_at, command_at, StandsAt};
+    ghost use Rattle.nvme_audit.specs.Facts.{outstanding};
     ghost use Rattle.nvme_audit.specs.Answers.{command_in};
     ghost use Rattle.nvme_audit.specs.declared.event.Event.TheVariants.{Post};
     ghost use Rattle.nvme_audit.specs.inside.Steps.{verdict_at, mark_at, PutsSq, PutsCq, sq_told, cq_released, KeepsFetch, AsksSq, AsksCq, Asks, KeepsPost, AnswersSq, Answers, sq_begun, cq_begun, cq_joined, cq_parted, BeginsSq, TurnsSq, Turns, Notes};
@@ -56,8 +57,8 @@ impl Judge {
         }
     }
 
-    // The facts of a submission queue. The admin queue is open from the start.
-    fn sq(&self, q: u16) -> Sq
+    /// The facts of a submission queue. The admin queue is open from the start.
+    pub fn sq(&self, q: u16) -> Sq
         ensures { result ≡ sq_at self.now q }
     {
         match self.sqs.get(&q) {
@@ -66,14 +67,21 @@ impl Judge {
         }
     }
 
-    // The facts of a completion queue.
-    fn cq(&self, q: u16) -> Cq
+    /// The facts of a completion queue.
+    pub fn cq(&self, q: u16) -> Cq
         ensures { result ≡ cq_at self.now q }
     {
         match self.cqs.get(&q) {
             Some(cq) => *cq,
             None => Cq::first(&self.start, q),
         }
+    }
+
+    /// The outstanding command of a name.
+    pub fn command(&self, sq: u16, cid: u16) -> Option<Command>
+        ensures { (start : Start) (past : Past) → StandsAt start past self.now → result ≡ outstanding past sq cid }
+    {
+        self.commands.get(sq, cid)
     }
 
     fn put_sq(&mut self, q: u16, sq: Sq) -> Result<(), AuditError>

@@ -12,7 +12,7 @@ mod rules;
 mod verdict;
 
 pub use event::{Completion, Event};
-pub use facts::{Start, Tells};
+pub use facts::{Command, Cq, Ring, Sq, Start, Tells};
 pub use judge::{AuditError, Judge};
 pub use laws::{answered_once, heads_are_counts, worked_statuses, worked_verdicts};
 pub use verdict::{Breach, Rule, Verdict};

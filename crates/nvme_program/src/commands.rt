@@ -131,7 +131,8 @@ fn served<R: Read + Drop, W: Write, T: Threads + Wait + Sync>(
 /// clauses don't say what they are. With 2 the output is as it was. So it is with 1, except for the answer of `check`, and with 3, unless a
 /// write failed: then it has a prefix of such an answer.
 ///
-/// `simulate` isn't among its words, since it writes several files: a line of it is refused, and `simulation_asked` reads it.
+/// `simulate` isn't among its words, since it writes several files, nor is `audit`, which may read several: lines of them are
+/// refused, and `simulation_asked` and `audit_asked` read them.
 ///
 /// A fault is told on `errors` in one line, or two, or in the text of `clap`, and a write that fails there is ignored. It
 /// may wait for another thread.

@@ -15,8 +15,9 @@ pub use commands::command;
 pub use nvme_report::{Mode, WriteFault, report};
 pub use nvme_runs::{Ran, RunError, run, run_with, settled_run};
 pub use nvme_words::{
-    Format, InputError, MAX_INPUT, MAX_JOBS, MAX_READS, OnceError, Request, SimulationWords,
-    WordsError, asked_of, file_named, once, output_named, simulation_asked, take_input,
+    AuditWords, Format, InputError, MAX_INPUT, MAX_JOBS, MAX_READS, OnceError, Request,
+    SimulationWords, WordsError, asked_of, audit_asked, file_named, once, output_named,
+    simulation_asked, take_input,
 };
 pub use output::flushed;
 pub use pipes::{Errors, Output};

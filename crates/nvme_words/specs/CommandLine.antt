@@ -101,7 +101,7 @@ lint = with_rule (new_app (codes "lint")) (required file)
 abbrev pub expand : App
 expand = with_rule (new_app (codes "expand")) (required file)
 
--- a subcommand that reads a file, or standard input: a trace, or what is simulated
+-- a subcommand that reads a file, or standard input: a trace, a log, or what is simulated
 abbrev pub trace : Text → App
 trace name = with_rule (new_app name) file
 
@@ -133,6 +133,11 @@ chart = with_rule (with_rule (ranged (codes "chart")) no_admin) output
 
 abbrev pub stats : Names → App
 stats names = with_rule (with_rule (with_rule (ranged (codes "stats")) backlogged) window) (format names)
+
+-- the subcommand that audits a log: through whose eyes, by which rules
+abbrev pub audit : App
+audit =
+    with_rule (with_rule (with_rule (with_rule (with_rule (trace (codes "audit")) (text_option (codes "observer"))) (text_option (codes "only"))) (text_option (codes "without"))) quiet) (text_option (codes "format"))
 
 -- a dword, in place of a file
 abbrev pub dword : Rule
@@ -205,7 +210,7 @@ abbrev pub with_file : App → App
 with_file app = with_subcommand (with_subcommand app lint.top) expand.top
 
 abbrev pub with_trace : Names → App → App
-with_trace names app = with_subcommand (with_subcommand (with_subcommand app check.top) (stats names).top) chart.top
+with_trace names app = with_subcommand (with_subcommand (with_subcommand (with_subcommand app check.top) (stats names).top) chart.top) audit.top
 
 abbrev pub command_line : Names → App
 command_line names = with_input (with_subcommand (with_file (with_trace names (with_run names alone))) settings.top)

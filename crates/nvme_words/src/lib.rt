@@ -1,6 +1,7 @@
 //! What the program `nvmearb` is given: its words, its input, and one entry with its answer.
 #![tactic(auto)]
 
+mod audits;
 mod entries;
 mod files;
 mod input;
@@ -10,6 +11,7 @@ mod requests;
 mod simulations;
 mod words;
 
+pub use audits::{AuditWords, audit_asked};
 pub use entries::{OnceError, once};
 pub use files::{file_named, output_named};
 pub use input::{InputError, MAX_INPUT, MAX_READS, take_input};

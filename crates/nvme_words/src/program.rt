@@ -1,7 +1,7 @@
 // The command line of the program, by `clap`.
 ghost use Rattle.std.specs.Prelude.{◌≡◌, IfOk, codes};
 ghost use Rattle.clap.specs.Words.{App, app_of};
-ghost use Rattle.nvme_words.specs.CommandLine.{OnCommandLine, all, backlogged, blocks, bounded, bounds, chart, check, dword, expand, file, first, format, jobs, last, lint, mode, no_admin, no_head, number, once, points, option, ranged, reported, run, output, quiet, settings, simulate, stats, text_option, trace, traced, window, with_file, with_input, with_run, with_trace, workers, seeds, sweep, swept};
+ghost use Rattle.nvme_words.specs.CommandLine.{OnCommandLine, all, audit, backlogged, blocks, bounded, bounds, chart, check, dword, expand, file, first, format, jobs, last, lint, mode, no_admin, no_head, number, once, points, option, ranged, reported, run, output, quiet, settings, simulate, stats, text_option, trace, traced, window, with_file, with_input, with_run, with_trace, workers, seeds, sweep, swept};
 ghost use Rattle.nvme_words.specs.inside.Built.{AddsIfMade, HasApp, HasRule};
 
 use clap::builder::ValueParser;
@@ -25,12 +25,13 @@ First steps, without a file:
 
 Input:
   FILE            a file, or - for standard input; without FILE simulate, check,
-                  stats and chart read standard input
+                  stats, chart and audit read standard input
   run, trace, lint, expand
                   a workload file: TOML, at most 16777216 bytes
   simulate, lint  a simulation file: TOML, with the tables simulation and device
   check, stats, chart
                   a trace: JSON, a line of at most 4096 bytes for each event
+  audit           a log of a controller: JSON lines as well
   settings        none
   once            a submission entry: 128 hexadecimal digits
   loaded, live    a workload file as expand writes it, from standard input
@@ -47,11 +48,14 @@ Ranges:
 
 Exit status:
   0  done; with lint there is nothing to say, with check each pick is the one that
-     this front makes, or with --spec one that the specification allows
-  1  the input is at fault; with check also: a pick is another one
+     this front makes, or with --spec one that the specification allows; with audit
+     nobody breaks a rule
+  1  the input is at fault; with check also: a pick is another one; with audit also:
+     the controller breaks a rule
   2  the command line is at fault
   3  the run is: a file, a read or a write failed, memory was refused, or not all was done
-  4  with lint: the file is lawful, and there are warnings
+  4  with lint: the file is lawful, and there are warnings; with audit: only the host
+     breaks rules
   141  nobody reads the output any more, as after | head; nothing is told
 
 Example:
@@ -240,6 +244,16 @@ fn all_arg<'a>(alloc: Global) -> Arg<'a>
         .action(ArgAction::SetTrue)
 }
 
+// Whether only the status tells the answer.
+fn quiet_arg<'a>(alloc: Global) -> Arg<'a>
+    ensures { HasRule quiet result }
+{
+    Arg::new(alloc, "quiet")
+        .long("quiet")
+        .help("Tell nothing but the status; faults stay")
+        .action(ArgAction::SetTrue)
+}
+
 // The subcommand that judges a trace.
 fn check_command<'a>(alloc: Global) -> Result<Command<'a>, AllocError>
     ensures { IfOk result (HasApp check) }
@@ -248,17 +262,13 @@ fn check_command<'a>(alloc: Global) -> Result<Command<'a>, AllocError>
         .long("spec")
         .help("Judge by what the NVM Express Base Specification alone asks of a pick")
         .action(ArgAction::SetTrue);
-    let quiet = Arg::new(alloc, "quiet")
-        .long("quiet")
-        .help("Tell nothing but the status; faults stay")
-        .action(ArgAction::SetTrue);
     let format = "text, json or junit; without it text";
     let about =
         "Tells whether each pick of a trace, or of several, is the one that this front makes";
     trace_command(alloc, "check", about)?
         .arg(spec)?
         .arg(all_arg(alloc))?
-        .arg(quiet)?
+        .arg(quiet_arg(alloc))?
         .arg(text_arg(alloc, "format", "FORMAT", format))
 }
 
@@ -334,6 +344,25 @@ fn chart_command<'a>(alloc: Global) -> Result<Command<'a>, AllocError>
     ranged_command(alloc, "chart", about)?
         .arg(no_admin_arg(alloc))?
         .arg(output_arg(alloc))
+}
+
+// The subcommand that audits a log.
+fn audit_command<'a>(alloc: Global) -> Result<Command<'a>, AllocError>
+    ensures { IfOk result (HasApp audit) }
+{
+    let observer = "Judge as if only that were told: bus or host";
+    let only = "Judge by these rules, and by those on which all others rest, alone";
+    let without = "Judge without these rules";
+    let format = "text, json or junit; without it text";
+    let help = "The log; standard input where it is - or is left out";
+    Command::new(alloc, "audit")
+        .about("Tells whether a controller keeps the rules of NVM Express in a log, or in several")
+        .arg(file_arg(alloc, help))?
+        .arg(text_arg(alloc, "observer", "OBSERVER", observer))?
+        .arg(text_arg(alloc, "only", "RULE,..", only))?
+        .arg(text_arg(alloc, "without", "RULE,..", without))?
+        .arg(quiet_arg(alloc))?
+        .arg(text_arg(alloc, "format", "FORMAT", format))
 }
 
 // How numbers are written.
@@ -517,7 +546,7 @@ fn with_file<'a>(alloc: Global, program: Command<'a>) -> Result<Command<'a>, All
     with(program, expand_command(alloc))
 }
 
-// The subcommands that read a trace.
+// The subcommands that read a trace or a log.
 fn with_trace<'a>(
     alloc: Global,
     formats: &'a [&'a str],
@@ -527,7 +556,8 @@ fn with_trace<'a>(
 {
     let program = with(Ok(program), check_command(alloc));
     let program = with(program, stats_command(alloc, formats));
-    with(program, chart_command(alloc))
+    let program = with(program, chart_command(alloc));
+    with(program, audit_command(alloc))
 }
 
 // An option with one value, which is any text.

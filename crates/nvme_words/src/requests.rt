@@ -119,7 +119,8 @@ pub enum WordsError {
     /// They aren't a command line of the program. The text, which may have several lines, says why.
     #[error("{0}")]
     CommandLine(clap::Error),
-    /// The subcommand isn't the first word after the program's name, or it is `simulate`, of which `simulation_asked` tells.
+    /// The subcommand isn't the first word after the program's name, or it is `simulate` or `audit`, of which
+    /// `simulation_asked` and `audit_asked` tell.
     #[error("command line")]
     OtherWord,
     /// Out of memory. The same words may be asked again.

@@ -1,4 +1,4 @@
-// Checks of several traces, and their answers for other programs.
+// Checks of several traces, audits of several logs, and their answers for other programs.
 use crate::kept::Kept;
 use crate::telling::subcommand;
 use std::alloc::{AllocError, Global};
@@ -17,9 +17,38 @@ pub(crate) enum Form {
     Quiet,
 }
 
-/// What a line that asks for checks says: how the answers are written, and the words for the check of each file.
+/// What each file is asked for.
+#[derive(Clone, Copy, Debug, PartialEq, Eq)]
+pub(crate) enum Task {
+    /// Whether the picks of a trace are allowed.
+    Check,
+    /// Whether the controller of a log keeps the rules.
+    Audit,
+}
+
+impl Task {
+    /// Its word on the command line.
+    pub(crate) fn word(self) -> &'static str {
+        match self {
+            Task::Check => "check",
+            Task::Audit => "audit",
+        }
+    }
+
+    // The task of a line.
+    fn of(words: &[String]) -> Option<Task> {
+        match subcommand(words) {
+            "check" => Some(Task::Check),
+            "audit" => Some(Task::Audit),
+            _ => None,
+        }
+    }
+}
+
+/// What a line that asks for checks or audits says: how the answers are written, and the words for each file.
 #[derive(Drop)]
 pub(crate) struct Checks {
+    pub(crate) task: Task,
     pub(crate) form: Form,
     pub(crate) files: Vec<String>,
     // The name of a format that there isn't.
@@ -28,9 +57,10 @@ pub(crate) struct Checks {
 }
 
 impl Checks {
-    // A line of a check before its first option and file.
-    fn new(alloc: Global) -> Checks {
+    // A line before its first option and file.
+    fn new(alloc: Global, task: Task) -> Checks {
         Checks {
+            task,
             form: Form::Text,
             files: Vec::new(alloc),
             unknown: None,
@@ -44,18 +74,21 @@ impl Checks {
         options.any(|it| it.as_str() == "--help" || it.as_str() == "-h")
     }
 
-    /// Whether the answer isn't that of one check as it stands.
+    /// Whether the answer isn't that of one check as it stands. That of an audit never is.
     pub(crate) fn are_more(&self) -> bool {
         if self.ask_for_help() {
             return false;
         }
-        self.form != Form::Text || self.files.len() > 1 || self.unknown.is_some()
+        self.task == Task::Audit
+            || self.form != Form::Text
+            || self.files.len() > 1
+            || self.unknown.is_some()
     }
 
-    /// The words for the check of this file.
+    /// The words for this file.
     pub(crate) fn words_for(&self, alloc: Global, file: &str) -> Result<Vec<String>, AllocError> {
         let mut words = Vec::new(alloc);
-        for word in ["nvmearb", "check"] {
+        for word in ["nvmearb", self.task.word()] {
             words.push(String::from_str(alloc, word)?)?;
         }
         for word in &self.options {
@@ -78,10 +111,16 @@ fn form_named(name: &str) -> Option<Form> {
     }
 }
 
-// What the words behind `check` say. What it takes for an option that isn't its own is left to the command line.
-fn read(alloc: Global, words: &[String]) -> Result<Checks, AllocError> {
-    let mut checks = Checks::new(alloc);
-    let (mut is_quiet, mut ended, mut is_format) = (false, false, false);
+// Whether an option of this name has its value in the next word.
+fn takes_value(word: &str) -> bool {
+    matches!(word, "--observer" | "--only" | "--without")
+}
+
+// What the words behind the task say. What it takes for an option that isn't its own is left to the command line.
+fn read(alloc: Global, task: Task, words: &[String]) -> Result<Checks, AllocError> {
+    let mut checks = Checks::new(alloc, task);
+    let (mut is_quiet, mut ended) = (false, false);
+    let (mut is_format, mut is_value) = (false, false);
     for word in words {
         let word = word.as_str();
         let named = word.strip_prefix("--format=");
@@ -92,6 +131,9 @@ fn read(alloc: Global, words: &[String]) -> Result<Checks, AllocError> {
                 None => checks.unknown = Some(String::from_str(alloc, name)?),
             }
             is_format = false;
+        } else if is_value {
+            checks.options.push(String::from_str(alloc, word)?)?;
+            is_value = false;
         } else if ended || word == "-" || !word.starts_with('-') {
             checks.files.push(String::from_str(alloc, word)?)?;
         } else {
@@ -99,7 +141,10 @@ fn read(alloc: Global, words: &[String]) -> Result<Checks, AllocError> {
                 "--" => ended = true,
                 "--quiet" => is_quiet = true,
                 "--format" => is_format = true,
-                _ => checks.options.push(String::from_str(alloc, word)?)?,
+                _ => {
+                    checks.options.push(String::from_str(alloc, word)?)?;
+                    is_value = takes_value(word);
+                }
             }
         }
     }
@@ -112,17 +157,21 @@ fn read(alloc: Global, words: &[String]) -> Result<Checks, AllocError> {
     Ok(checks)
 }
 
-/// What a line of `check` asks for. `None` where it is another line.
+/// What a line of `check` or `audit` asks for. `None` where it is another line.
 pub(crate) fn asked(alloc: Global, words: &[String]) -> Result<Option<Checks>, AllocError> {
+    let Some(task) = Task::of(words) else {
+        return Ok(None);
+    };
     match words {
-        [_, _, rest @ ..] if subcommand(words) == "check" => Ok(Some(read(alloc, rest)?)),
+        [_, _, rest @ ..] => Ok(Some(read(alloc, task, rest)?)),
         _ => Ok(None),
     }
 }
 
-/// The answer to the check of one file.
+/// The answer to one file.
 #[derive(Drop)]
 pub(crate) struct Judged {
+    pub(crate) task: Task,
     pub(crate) file: String,
     pub(crate) status: u8,
     pub(crate) answer: Kept,
@@ -149,8 +198,10 @@ impl Judged {
         match self.status {
             0 => "lawful",
             1 if self.is_fault() => "faulty",
+            1 if self.task == Task::Audit => "broken",
             1 if self.text().starts_with(b"unlawful") => "unlawful",
             1 => "differs",
+            4 => "host",
             _ => "failed",
         }
     }
@@ -238,9 +289,10 @@ fn put_xml<W: Write>(text: &[u8], output: &mut W) -> io::Result<()> {
     Ok(())
 }
 
-// Writes the answer to one check as a test case.
+// Writes the answer to one file as a test case.
 fn put_case<W: Write>(judged: &Judged, output: &mut W) -> io::Result<()> {
-    output.write_all(b"<testcase classname=\"nvmearb check\" name=\"")?;
+    let word = judged.task.word();
+    write!(output, "<testcase classname=\"nvmearb {word}\" name=\"")?;
     put_xml(judged.file.as_bytes(), output)?;
     if judged.status == 0 {
         return output.write_all(b"\"/>\n");
@@ -256,7 +308,12 @@ fn put_case<W: Write>(judged: &Judged, output: &mut W) -> io::Result<()> {
 }
 
 /// Writes the answers as test cases of JUnit.
-pub(crate) fn put_junit<W: Write>(answers: &[Judged], output: &mut W) -> io::Result<()> {
+pub(crate) fn put_junit<W: Write>(
+    task: Task,
+    answers: &[Judged],
+    output: &mut W,
+) -> io::Result<()> {
+    let word = task.word();
     let faults = answers.iter().filter(|it| it.is_fault()).count();
     let refused = answers
         .iter()
@@ -266,7 +323,7 @@ pub(crate) fn put_junit<W: Write>(answers: &[Judged], output: &mut W) -> io::Res
     writeln!(output, "<?xml version=\"1.0\" encoding=\"UTF-8\"?>")?;
     writeln!(
         output,
-        "<testsuite name=\"nvmearb check\" tests=\"{tests}\" failures=\"{refused}\" errors=\"{faults}\">"
+        "<testsuite name=\"nvmearb {word}\" tests=\"{tests}\" failures=\"{refused}\" errors=\"{faults}\">"
     )?;
     for judged in answers {
         put_case(judged, output)?;

@@ -4,6 +4,7 @@
 
 ghost use Rattle.std.specs.Prelude.{◌≡◌, ◌≤◌, IfSome};
 
+mod auditing;
 mod checks;
 mod demo;
 mod files;
@@ -17,14 +18,15 @@ mod telling;
 mod topics;
 mod watched;
 
-use checks::{Checks, Form, Judged, asked, put_json, put_junit, put_named};
+use auditing::audited;
+use checks::{Checks, Form, Judged, Task, asked, put_json, put_junit, put_named};
 use files::{is_svg, not_svg, put_away};
 use kept::Kept;
 use linting::linted;
 use noted::{Noted, Notes};
 use nvme_program::{
-    Errors, Output, Request, WordsError, asked_of, command, file_named, flushed, output_named,
-    simulation_asked,
+    Errors, Output, Request, WordsError, asked_of, audit_asked, command, file_named, flushed,
+    output_named, simulation_asked,
 };
 use running::ran_otherwise;
 use simulating::simulated;
@@ -143,7 +145,21 @@ where
     put_away(rt, name, &kept, errors)
 }
 
-// Checks one file of several. Standard input is `-`.
+// Audits a log, where the words are a line of `audit`, and tells any others as a fault.
+fn audited_by<R: AllocGlobal + Files + Input + Threads + Wait + Sync>(
+    rt: &R,
+    words: &[String],
+    notes: &Notes,
+    output: &mut Kept,
+    errors: &mut Kept,
+) -> Result<u8, AllocError> {
+    match audit_asked(rt.alloc(), words)? {
+        Some(line) => Ok(audited(rt, &line, notes, output, errors)),
+        None => Ok(served(rt, words, None::<Kept>, notes, output, errors)),
+    }
+}
+
+// Checks or audits one file. Standard input is `-`.
 fn judged<R: AllocGlobal + Files + Input + Threads + Wait + Sync>(
     rt: &R,
     checks: &Checks,
@@ -154,12 +170,16 @@ fn judged<R: AllocGlobal + Files + Input + Threads + Wait + Sync>(
     let notes = Notes::new();
     let (mut answer, mut first, mut told) = (Kept::new(alloc), Kept::new(alloc), Kept::new(alloc));
     let words = words.as_slice();
-    let status = served(rt, words, None::<Kept>, &notes, &mut answer, &mut first);
+    let status = match checks.task {
+        Task::Check => served(rt, words, None::<Kept>, &notes, &mut answer, &mut first),
+        Task::Audit => audited_by(rt, words, &notes, &mut answer, &mut first)?,
+    };
     let status = tell(alloc, words, &first, &notes, status, &mut told);
     if answer.answer().is_none() || told.answer().is_none() {
         return Err(AllocError);
     }
     Ok(Judged {
+        task: checks.task,
         file: String::from_str(alloc, file)?,
         status,
         answer,
@@ -167,7 +187,7 @@ fn judged<R: AllocGlobal + Files + Input + Threads + Wait + Sync>(
     })
 }
 
-// Checks each file. A line that isn't one of the program's ends with its first file.
+// Checks or audits each file. A line that isn't one of the program's ends with its first file.
 fn all_judged<R: AllocGlobal + Files + Input + Threads + Wait + Sync>(
     rt: &R,
     checks: &Checks,
@@ -190,6 +210,10 @@ fn put_texts<W: Write, E: Write>(
     output: &mut W,
     errors: &mut E,
 ) -> io::Result<()> {
+    if let [it] = answers {
+        let _ = errors.write_all(it.told.answer().unwrap_or(b""));
+        return output.write_all(it.answer.answer().unwrap_or(b""));
+    }
     for it in answers {
         let (answer, told) = (it.answer.answer(), it.told.answer());
         put_named(it.file.as_str(), answer.unwrap_or(b""), output)?;
@@ -205,24 +229,37 @@ fn put_faults<E: Write>(answers: &[Judged], errors: &mut E) {
     }
 }
 
-// Writes the answers to checks. The answer is the worst status.
+// The worst status of some answers: a breach of the host alone is the least.
+fn worst(answers: &[Judged]) -> u8
+    ensures { result ≤ 4 }
+{
+    let statuses = answers.iter().map(|it| it.status);
+    let worst = statuses.filter(|status| *status != 4).max().unwrap_or(0);
+    if worst == 0 && answers.iter().any(|it| it.status == 4) {
+        4
+    } else {
+        worst.min(3)
+    }
+}
+
+// Writes the answers. The answer is the worst status.
 fn put_answers<W: Write, E: Write>(
-    form: Form,
+    checks: &Checks,
     answers: &[Judged],
     output: &mut W,
     errors: &mut E,
 ) -> u8
     ensures { result ≤ 4 }
 {
-    let status = answers.iter().map(|it| it.status).max().unwrap_or(0).min(3);
+    let status = worst(answers);
     if answers.iter().any(|it| it.status == BAD_LINE) {
         put_faults(answers, errors);
         return BAD_LINE;
     }
-    let written = match form {
+    let written = match checks.form {
         Form::Text => put_texts(answers, output, errors),
         Form::Json => put_json(answers, output),
-        Form::Junit => put_junit(answers, output),
+        Form::Junit => put_junit(checks.task, answers, output),
         Form::Quiet => {
             put_faults(answers, errors);
             Ok(())
@@ -236,7 +273,7 @@ fn put_answers<W: Write, E: Write>(
     status
 }
 
-// Checks several files, or one whose answer is wanted in another form. The answer is the worst status.
+// Checks several files, or one whose answer is wanted in another form, or audits logs. The answer is the worst status.
 #[inline(never)]
 fn checked<R: AllocGlobal + Files + Input + Threads + Wait + Sync, W: Write, E: Write>(
     rt: &R,
@@ -255,7 +292,7 @@ fn checked<R: AllocGlobal + Files + Input + Threads + Wait + Sync, W: Write, E: 
         return BAD_LINE;
     }
     match all_judged(rt, checks) {
-        Ok(answers) => put_answers(checks.form, answers.as_slice(), output, errors),
+        Ok(answers) => put_answers(checks, answers.as_slice(), output, errors),
         Err(_) => no_memory(errors),
     }
 }
@@ -340,7 +377,7 @@ where
     if has_no_json(words) {
         let _ = writeln!(
             errors,
-            "nvmearb: --json: expected run, check, stats or simulate"
+            "nvmearb: --json: expected run, check, audit, stats or simulate"
         );
         return BAD_LINE;
     }
@@ -386,10 +423,10 @@ where
     if is_unread.get() { UNREAD } else { status }
 }
 
-// The words, in which `--json` of `run`, `stats`, `check` and `simulate` stands for `--format=json`.
+// The words, in which `--json` of `run`, `stats`, `check`, `audit` and `simulate` stands for `--format=json`.
 fn written_out(alloc: Global, mut words: Vec<String>) -> Result<Vec<String>, AllocError> {
     let name = subcommand(words.as_slice());
-    let takes_format = matches!(name, "run" | "stats" | "check" | "simulate");
+    let takes_format = matches!(name, "run" | "stats" | "check" | "audit" | "simulate");
     if !takes_format {
         return Ok(words);
     }

@@ -83,7 +83,7 @@ pub(crate) fn subcommand(words: &[String]) -> &str {
 // Whether the subcommand is one for people, whose faults are told in more words. The others and the help have one fixed
 // line for each fault.
 fn is_for_people(words: &[String]) -> bool {
-    let names = "run trace simulate lint expand check stats chart settings demo";
+    let names = "run trace simulate lint expand check audit stats chart settings demo";
     names.split(' ').any(|name| name == subcommand(words))
 }
 
@@ -103,6 +103,9 @@ fn mistaken(words: &[String], look: Look) -> Option<&'static str> {
         }
         ("run" | "trace" | "simulate" | "lint" | "expand", Look::Trace) => {
             Some("this looks like a trace (JSON lines): take check, stats or chart")
+        }
+        ("audit", Look::Simulation | Look::Workload) => {
+            Some("this looks like a workload or a simulation file (TOML): audit reads logs")
         }
         ("check" | "stats" | "chart", Look::Simulation) => {
             Some("this looks like a simulation file (TOML): take simulate FILE --trace TRACE")

@@ -1,0 +1,6 @@
+pub mod ReadingLemmas
+pub mod HeadLemmas
+pub mod EntryLemmas
+pub mod LineLemmas
+pub mod AuditLemmas
+pub mod FirstLemmas

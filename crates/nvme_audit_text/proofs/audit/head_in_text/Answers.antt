@@ -1,0 +1,12 @@
+use Rattle.std.proofs.Common.{◌≡◌, ℕ, List, rules}
+use Rattle.nvme_lines.specs.Lines.{TakesTold}
+use Rattle.nvme_audit_text.specs.Format.{head_of_line}
+use Rattle.nvme_audit_text.specs.Readings.{Fails}
+use Rattle.nvme_audit_text.proofs.audit.head_in_text.Goals as goal
+
+pub returns-in-Err-clause-err : goal.returns-in-Err-clause-err
+returns-in-Err-clause-err g c =
+    let line = c.told_line.new.lines.latest in
+    let took : TakesTold (λ l. l ≡ line) 0 c.args.lines.now.rest c.told_line.new.lines.number c.told_line.new.lines.rest = search rules in
+    let fails : Fails c.in-Err.fault (head_of_line c.args.through.now line) = search rules in
+    c.head_fault.ensures c.args.through.now c.args.lines.now.rest 0 took fails

@@ -1,0 +1,9 @@
+pub mod Fields
+pub mod Readings
+pub mod Heads
+pub mod Entries
+pub mod Format
+pub mod Views
+pub mod Audits
+pub mod Laws
+pub mod inside

@@ -1,0 +1,2 @@
+-- What only private contracts cite: no public clause reaches it (profile).
+pub mod Steps

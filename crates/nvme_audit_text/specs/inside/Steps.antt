@@ -1,0 +1,89 @@
+-- One line more of an audit.
+use Rattle.std.specs.Prelude.{◌≡◌, ◌≢◌, ◌⊎◌, ℕ, Bool, true, List, [], ◌∷◌, Option, Some, None, Err, MatchBool}
+use Rattle.nvme_lines.specs.Lines.{lines_of, numbered, StartsTold}
+use Rattle.nvme_lines.specs.declared.lines.NextError.{NextError}
+use Rattle.nvme_lines.specs.declared.lines.NextError.TheVariants as next
+use Rattle.nvme_audit.specs.declared.event.Event.{Event}
+use Rattle.nvme_audit.specs.declared.facts.Start.{Start}
+use Rattle.nvme_audit.specs.declared.judge.Judge.{Judge}
+use Rattle.nvme_audit.specs.declared.verdict.Verdict.{Verdict}
+use Rattle.nvme_audit.specs.Lives.{Past}
+use Rattle.nvme_audit.specs.Lawful.{verdict, is_broken, IsLawfulLog}
+use Rattle.nvme_audit.specs.Standing.{StandsAt}
+use Rattle.nvme_audit_text.specs.declared.fault.LineFault.{LineFault}
+use Rattle.nvme_audit_text.specs.declared.fault.LineFault.TheVariants.{NoHead, NoMemory, TooLong}
+use Rattle.nvme_audit_text.specs.declared.fault.LogError.{LogError}
+use Rattle.nvme_audit_text.specs.declared.fault.LogError.TheVariants as error
+use Rattle.nvme_audit_text.specs.declared.views.View.{View}
+use Rattle.nvme_audit_text.specs.declared.head.Head.{Head}
+use Rattle.nvme_audit_text.specs.declared.audit.Finding.{Finding}
+use Rattle.nvme_audit_text.specs.declared.audit.Auditor.{Auditor}
+use Rattle.nvme_audit_text.specs.Format.{head_of_line, event_of_line}
+use Rattle.nvme_audit_text.specs.Audits.{IsLawfulBefore, host_breaches}
+
+-- a judge takes an event
+pub record IsTaken (start : Start) (past : Past) (event : Event) (said : Verdict) (old new : Judge) : Type 0 where
+  pub is : said ≡ verdict start past event
+  pub after : MatchBool (is_broken said) (new ≡ old) (StandsAt start (event ∷ past) new)
+
+-- an error that tells no fault of a line
+abbrev pub IsOther : LogError → Type 0
+IsOther (error.Line line fault note) = ⊥
+IsOther error.Read = Unit {0}
+IsOther error.TooLong = Unit {0}
+IsOther error.NoMemory = Unit {0}
+
+-- an auditor stands at a lawful log
+pub record AuditsAt (start : Start) (past : Past) (auditor : Auditor) : Type 0 where
+  pub stands : StandsAt start past auditor.judge
+  pub lawful : IsLawfulLog start past
+  pub host : auditor.host_breaches ≡ host_breaches start past
+
+-- what is told of an event at which the controller breaks a rule
+pub record IsFinding (start : Start) (past : Past) (line : ℕ) (said : Option Event) (finding : Finding) : Type 0 where
+  pub line_is : finding.line ≡ line
+  pub event_is : said ≡ Some finding.event
+  pub said_is : finding.said ≡ verdict start past finding.event
+  pub broken : is_broken finding.said ≡ true
+
+-- the error tells this fault in the line of this number. Out of memory is told as such
+abbrev pub IsLineFault : LogError → ℕ → LineFault → Type 0
+IsLineFault (error.Line line fault note) number told = (line ≡ number) × (fault ≡ told) × (told ≢ NoMemory)
+IsLineFault error.Read number told = ⊥
+IsLineFault error.TooLong number told = ⊥
+IsLineFault error.NoMemory number told = told ≡ NoMemory
+
+-- no line was taken, and number n comes next
+abbrev pub IsStopped : LogError → NextError → ℕ → Type 0
+IsStopped e next.TooLong n = IsLineFault e n TooLong
+IsStopped e next.Read n = IsOther e
+IsStopped e next.NoMemory n = IsOther e
+
+-- the first line that isn't blank, which is number n, is no head, with this fault. Where all are blank, line 1 has it
+abbrev pub HasHeadFault : View → LineFault → ℕ → Option (List ℕ) → ℕ → Type 0
+HasHeadFault view fault number None n = Unit {0}
+HasHeadFault view fault number (Some xs) n = ((numbered number (lines_of xs) ≡ []) × (fault ≡ NoHead) × (n ≡ 1)) ⊎ StartsTold (λ line. head_of_line view line ≡ Err fault) number (Some xs) n
+
+-- after this many lines
+abbrev pub IsHeadFault : View → LogError → ℕ → Option (List ℕ) → Type 0
+IsHeadFault view (error.Line line fault note) number rest = HasHeadFault view fault number rest line
+IsHeadFault view error.Read number rest = Unit {0}
+IsHeadFault view error.TooLong number rest = Unit {0}
+IsHeadFault view error.NoMemory number rest = Unit {0}
+
+-- the next line that isn't blank tells nothing, with this fault
+abbrev pub IsEventFault : View → Head → LogError → ℕ → Option (List ℕ) → Type 0
+IsEventFault view head (error.Line line fault note) number rest = StartsTold (λ text. event_of_line view head text ≡ Err fault) number rest line
+IsEventFault view head error.Read number rest = Unit {0}
+IsEventFault view head error.TooLong number rest = Unit {0}
+IsEventFault view head error.NoMemory number rest = Unit {0}
+
+-- an auditor stands where this many lines were read
+pub record IsAuditedUpTo (view : View) (text rest : List ℕ) (number : ℕ) (head : Head) (auditor : Auditor) : Type 0 where
+  pub past : Past
+  pub before : IsLawfulBefore view text (numbered number (lines_of rest)) head past
+  pub audits : AuditsAt head.start past auditor
+
+abbrev pub AuditedUpTo : View → List ℕ → Option (List ℕ) → ℕ → Head → Auditor → Type 0
+AuditedUpTo view text None number head auditor = ⊥
+AuditedUpTo view text (Some rest) number head auditor = IsAuditedUpTo view text rest number head auditor

@@ -1,0 +1,314 @@
+// Judges a log, which is read as a stream.
+ghost use Rattle.std.specs.Prelude.{◌≡◌, ◌≤◌, ℕ, List, Option, Ok, length, Some, None, [], ◌∷◌, ◌+◌, IfOk, IfErr, IfSome, OnOk, MatchOption};
+ghost use Rattle.nvme_lines.specs.Lines.{longest_line, MatchTold, TakesTold, HasNoTold};
+ghost use Rattle.nvme_audit.specs.declared.facts.Start.{Start};
+ghost use Rattle.nvme_audit.specs.Lives.{Past};
+ghost use Rattle.nvme_audit.specs.Standing.{StandsAt};
+ghost use Rattle.nvme_audit_text.specs.declared.views.View.{View};
+ghost use Rattle.nvme_audit_text.specs.declared.head.Head.{Head};
+ghost use Rattle.nvme_audit_text.specs.Format.{head_of_line, event_of_line};
+ghost use Rattle.nvme_audit_text.specs.Readings.{Fails};
+ghost use Rattle.nvme_audit_text.specs.Audits.{added, IsAudit, IsFault};
+ghost use Rattle.nvme_audit_text.specs.inside.Steps.{IsTaken, IsOther, AuditsAt, IsFinding, IsLineFault, IsStopped, IsHeadFault, IsEventFault};
+
+use crate::events::{event_of_line, head_of_line};
+use crate::facts::Facts;
+use crate::fault::{LineFault, LogError};
+use crate::head::Head;
+use crate::notes::{event_note, head_note};
+use crate::views::View;
+use nvme_audit::{AuditError, Event, Judge, Start, Verdict};
+use nvme_lines::{NextError, ToldLines};
+use std::alloc::Global;
+use std::io::Read;
+
+// How many breaches of the host are told.
+const MOST_TOLD: usize = 10;
+
+/// A line at which a rule is broken.
+#[derive(Clone, Copy)]
+pub struct Finding {
+    /// The number of the line, from 1 on.
+    pub line: u64,
+    /// What it tells.
+    pub event: Event,
+    /// Who breaks which rule.
+    pub said: Verdict,
+    /// What stood before it.
+    pub facts: Facts,
+}
+
+/// The answer of an audit.
+#[derive(Drop)]
+pub struct Audit {
+    /// How many lines were read.
+    pub lines: u64,
+    /// The first breaches of the host, ten at most.
+    pub host: Vec<Finding>,
+    /// How many there are.
+    pub host_breaches: u64,
+    /// Where the controller breaks a rule first.
+    pub broken: Option<Finding>,
+}
+
+// A judge, and what it told of the host so far.
+#[derive(Drop)]
+struct Auditor {
+    judge: Judge,
+    host: Vec<Finding>,
+    host_breaches: u64,
+}
+
+// Judges an event.
+fn judged(judge: &mut Judge, event: &Event) -> Result<Verdict, LogError>
+    ensures taken { (start : Start) (past : Past) → StandsAt start past judge.old → IfOk result (λ said. IsTaken start past event.now said judge.old judge.new) }
+    ensures other { IfErr result IsOther }
+{
+    match judge.judge(event) {
+        Ok(verdict) => Ok(verdict),
+        Err(AuditError::NoMemory) => Err(LogError::NoMemory),
+        Err(AuditError::TooLong) => Err(LogError::TooLong),
+    }
+}
+
+// One more breach of the host.
+fn one_more(count: u64) -> Result<u64, LogError>
+    ensures more { IfOk result (λ n. n ≡ count + 1) }
+    ensures other { IfErr result IsOther }
+{
+    match count.checked_add(1) {
+        Some(n) => Ok(n),
+        None => Err(LogError::TooLong),
+    }
+}
+
+// Keeps what is told of the host, where little is kept.
+fn keep_first(
+    host: &mut Vec<Finding>,
+    line: u64,
+    event: Event,
+    said: Verdict,
+    facts: Facts,
+) -> Result<(), LogError>
+    ensures other { IfErr result IsOther }
+{
+    if host.len() < MOST_TOLD {
+        host.push(Finding {
+            line,
+            event,
+            said,
+            facts,
+        })?;
+    }
+    Ok(())
+}
+
+impl Auditor {
+    // Nothing was read yet but the head.
+    fn new(alloc: Global, start: Start) -> Auditor
+        ensures { AuditsAt start [] result }
+    {
+        Auditor {
+            judge: Judge::new(alloc, start),
+            host: Vec::new(alloc),
+            host_breaches: 0,
+        }
+    }
+
+    // Takes an event, which the line of this number tells. The answer is a breach of the controller.
+    fn take(&mut self, line: u64, event: Event) -> Result<Option<Finding>, LogError>
+        ensures taken { (start : Start) (past : Past) → AuditsAt start past self.old → IfOk result (λ found. MatchOption found (AuditsAt start (event ∷ past) self.new) (λ finding. IsFinding start past line (Some event) finding × AuditsAt start past self.new)) }
+        ensures other { IfErr result IsOther }
+    {
+        let facts = Facts::of(&self.judge, &event);
+        let said = judged(&mut self.judge, &event)?;
+        match said {
+            Verdict::Kept => Ok(None),
+            Verdict::Broken(_) => Ok(Some(Finding {
+                line,
+                event,
+                said,
+                facts,
+            })),
+            Verdict::Host(_) => {
+                self.host_breaches = one_more(self.host_breaches)?;
+                keep_first(&mut self.host, line, event, said, facts)?;
+                Ok(None)
+            }
+        }
+    }
+
+    // Takes what the line of this number tells.
+    fn note(&mut self, line: u64, said: Option<Event>) -> Result<Option<Finding>, LogError>
+        ensures taken { (start : Start) (past : Past) → AuditsAt start past self.old → IfOk result (λ found. MatchOption found (AuditsAt start (added said past) self.new) (λ finding. IsFinding start past line said finding × AuditsAt start past self.new)) }
+        ensures other { IfErr result IsOther }
+    {
+        match said {
+            Some(event) => self.take(line, event),
+            None => Ok(None),
+        }
+    }
+
+    // The answer after the lines so far.
+    fn answer(self, lines: u64, broken: Option<Finding>) -> Audit
+        ensures broken { result.broken ≡ broken }
+        ensures host { result.host_breaches ≡ self.host_breaches }
+    {
+        Audit {
+            lines,
+            host: self.host,
+            host_breaches: self.host_breaches,
+            broken,
+        }
+    }
+}
+
+// A fault of the line of this number, with a note.
+fn fault_at(number: u64, fault: LineFault, note: String) -> LogError
+    ensures { IsLineFault result number fault }
+{
+    match fault {
+        LineFault::NoMemory => LogError::NoMemory,
+        fault => LogError::Line {
+            line: number,
+            fault,
+            note,
+        },
+    }
+}
+
+// Why the line of this number wasn't taken.
+fn stopped(alloc: Global, number: u64, error: NextError) -> LogError
+    ensures { IsStopped result error number }
+{
+    match error {
+        NextError::TooLong => fault_at(number, LineFault::TooLong, String::new(alloc)),
+        NextError::Read => LogError::Read,
+        NextError::NoMemory => LogError::NoMemory,
+    }
+}
+
+// Reads the next line that isn't blank. The answer is false at the end of the text.
+#[tactic(auto, using(crate::proofs::LineLemmas::stopped_head, crate::proofs::LineLemmas::stopped_event))]
+fn told_line<R: Read>(alloc: Global, lines: &mut ToldLines<R>) -> Result<bool, LogError>
+    ensures ok { IfOk result (λ more. MatchTold more lines.new.latest lines.old.number lines.old.rest lines.new.number lines.new.rest) }
+    ensures short { OnOk result (length lines.new.latest ≤ longest_line) }
+    ensures head { (view : View) → IfErr result (λ e. IsHeadFault view e lines.old.number lines.old.rest) }
+    ensures event { (view : View) (head : Head) → IfErr result (λ e. IsEventFault view head e lines.old.number lines.old.rest) }
+{
+    match lines.next() {
+        Ok(more) => Ok(more),
+        Err(error) => Err(stopped(alloc, lines.number(), error)),
+    }
+}
+
+// The fault of the latest line, which is no head, with its note.
+#[tactic(auto, using(crate::proofs::LineLemmas::head_fails))]
+fn head_fault<R: Read>(alloc: Global, lines: &ToldLines<R>, fault: LineFault) -> LogError
+    ensures { (view : View) (rest : Option (List ℕ)) (m : ℕ) → TakesTold (λ l. l ≡ lines.now.latest) m rest lines.now.number lines.now.rest → Fails fault (head_of_line view lines.now.latest) → IsHeadFault view result m rest }
+{
+    match head_note(alloc, lines.latest(), fault) {
+        Ok(note) => fault_at(lines.number(), fault, note),
+        Err(_) => LogError::NoMemory,
+    }
+}
+
+// The fault of the latest line, which tells nothing, with its note.
+#[tactic(auto, using(crate::proofs::LineLemmas::event_fails))]
+fn event_fault<R: Read>(alloc: Global, lines: &ToldLines<R>, fault: LineFault) -> LogError
+    ensures { (view : View) (head : Head) (rest : Option (List ℕ)) (m : ℕ) → TakesTold (λ l. l ≡ lines.now.latest) m rest lines.now.number lines.now.rest → Fails fault (event_of_line view head lines.now.latest) → IsEventFault view head result m rest }
+{
+    match event_note(alloc, lines.latest(), fault) {
+        Ok(note) => fault_at(lines.number(), fault, note),
+        Err(_) => LogError::NoMemory,
+    }
+}
+
+// The fault of a text with no line but blank ones.
+#[tactic(auto, using(crate::proofs::LineLemmas::no_head))]
+fn no_head(alloc: Global) -> LogError
+    ensures { (view : View) (m : ℕ) (rest : Option (List ℕ)) → HasNoTold m rest → IsHeadFault view result m rest }
+{
+    match head_note(alloc, b"", LineFault::NoHead) {
+        Ok(note) => fault_at(1, LineFault::NoHead, note),
+        Err(_) => LogError::NoMemory,
+    }
+}
+
+// Reads the head, the first line that isn't blank.
+fn head_in_text<R: Read>(
+    alloc: Global,
+    through: &View,
+    lines: &mut ToldLines<R>,
+) -> Result<Head, LogError>
+    requires { lines.old.number ≡ 0 }
+    ensures ok { IfOk result (λ head. TakesTold (λ line. head_of_line through.now line ≡ Ok head) 0 lines.old.rest lines.new.number lines.new.rest) }
+    ensures err { IfErr result (λ e. IsHeadFault through.now e 0 lines.old.rest) }
+{
+    if !told_line(alloc, lines)? {
+        return Err(no_head(alloc));
+    }
+    match head_of_line(alloc, through, lines.latest()) {
+        Ok(head) => Ok(head),
+        Err(fault) => Err(head_fault(alloc, lines, fault)),
+    }
+}
+
+// Reads the next line after the head that isn't blank: the event that it tells, if any. `None` at the end of the log.
+fn said_next<R: Read>(
+    alloc: Global,
+    through: &View,
+    head: &Head,
+    lines: &mut ToldLines<R>,
+) -> Result<Option<Option<Event>>, LogError>
+    ensures ok { IfOk result (λ o. MatchOption o (HasNoTold lines.old.number lines.old.rest) (λ said. TakesTold (λ line. event_of_line through.now head.now line ≡ Ok said) lines.old.number lines.old.rest lines.new.number lines.new.rest)) }
+    ensures err { IfErr result (λ e. IsEventFault through.now head.now e lines.old.number lines.old.rest) }
+{
+    if !told_line(alloc, lines)? {
+        return Ok(None);
+    }
+    match event_of_line(alloc, through, head, lines.latest()) {
+        Ok(said) => Ok(Some(said)),
+        Err(fault) => Err(event_fault(alloc, lines, fault)),
+    }
+}
+
+/// Judges a log, as far as a view shows it, until the controller breaks a rule. The error is of the first line with a
+/// fault, where the controller breaks no rule before it. The log is read as a stream.
+#[tactic(auto, using(crate::proofs::AuditLemmas::head_fault))]
+pub fn audit_log<R: Read + Drop>(
+    alloc: Global,
+    through: &View,
+    reader: R,
+) -> Result<Audit, LogError>
+    ensures answer { IfOk result (λ audit. IfSome (R.remaining reader) (λ text. IsAudit through.now text audit)) }
+    ensures fault { IfErr result (λ e. IfSome (R.remaining reader) (λ text. IsFault through.now text e)) }
+{
+    let mut lines = ToldLines::new(alloc, reader);
+    match head_in_text(alloc, through, &mut lines) {
+        Ok(head) => audited(alloc, through, &head, &mut lines),
+        Err(error) => Err(error),
+    }
+}
+
+// Judges the lines after a head.
+fn audited<R: Read>(
+    alloc: Global,
+    through: &View,
+    head: &Head,
+    lines: &mut ToldLines<R>,
+) -> Result<Audit, LogError>
+    ensures answer { IfOk result (λ audit. (text : List ℕ) → TakesTold (λ line. head_of_line through.now line ≡ Ok head.now) 0 (Some text) lines.old.number lines.old.rest → IsAudit through.now text audit) }
+    ensures fault { IfErr result (λ e. (text : List ℕ) → TakesTold (λ line. head_of_line through.now line ≡ Ok head.now) 0 (Some text) lines.old.number lines.old.rest → IsFault through.now text e) }
+{
+    let mut auditor = Auditor::new(alloc, head.start);
+    for _ in 1..u64::MAX {
+        let Some(said) = said_next(alloc, through, head, lines)? else {
+            return Ok(auditor.answer(lines.number(), None));
+        };
+        if let Some(finding) = auditor.note(lines.number(), said)? {
+            return Ok(auditor.answer(lines.number(), Some(finding)));
+        }
+    }
+    Err(LogError::Read)
+}

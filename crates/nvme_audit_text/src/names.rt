@@ -1,0 +1,93 @@
+// The names of rules, and the sections of the Base Specification that they come from.
+use nvme_audit::{Breach, Rule};
+
+// The rules for the controller, in the order in which they are told.
+const RULES: &[Rule] = &[
+    Rule::FetchClosed,
+    Rule::FetchBeyondTail,
+    Rule::FetchSlot,
+    Rule::PostClosed,
+    Rule::Slot,
+    Rule::Phase,
+    Rule::CqFull,
+    Rule::CqWrong,
+    Rule::Life,
+    Rule::Sqhd,
+    Rule::SqdelUnasked,
+    Rule::StatusForeign,
+    Rule::StatusCreate,
+    Rule::StatusDelete,
+    Rule::Features,
+];
+
+/// The name of a rule for the controller.
+pub fn rule_name(rule: Rule) -> &'static str {
+    match rule {
+        Rule::FetchClosed => "fetch-closed",
+        Rule::FetchBeyondTail => "fetch-beyond-tail",
+        Rule::FetchSlot => "fetch-slot",
+        Rule::PostClosed => "post-closed",
+        Rule::Slot => "slot",
+        Rule::Phase => "phase",
+        Rule::CqFull => "cq-full",
+        Rule::CqWrong => "cq-wrong",
+        Rule::Life => "life",
+        Rule::Sqhd => "sqhd",
+        Rule::SqdelUnasked => "sqdel-unasked",
+        Rule::StatusForeign => "status-foreign",
+        Rule::StatusCreate => "status-create",
+        Rule::StatusDelete => "status-delete",
+        Rule::Features => "features",
+    }
+}
+
+/// The rule for the controller with this name.
+pub fn rule_named(name: &str) -> Option<Rule> {
+    RULES.iter().copied().find(|rule| rule_name(*rule) == name)
+}
+
+/// The rules for the controller.
+pub fn rules() -> &'static [Rule] {
+    RULES
+}
+
+/// The section of a rule for the controller.
+pub(crate) fn section_of(rule: Rule) -> &'static str {
+    match rule {
+        Rule::FetchClosed => "Create I/O Submission Queue, Delete I/O Submission Queue",
+        Rule::FetchBeyondTail => "Submission Queue y Tail Doorbell",
+        Rule::FetchSlot => "Submission Queue",
+        Rule::PostClosed => "Delete I/O Submission Queue, Delete I/O Completion Queue",
+        Rule::Slot => "Completion Queue",
+        Rule::Phase => "Phase Tag",
+        Rule::CqFull => "Full Queue",
+        Rule::CqWrong => "Create I/O Submission Queue",
+        Rule::Life => "Completion Queue Entry",
+        Rule::Sqhd => "SQ Head Pointer",
+        Rule::SqdelUnasked => "Delete I/O Submission Queue",
+        Rule::StatusForeign => "Status Field",
+        Rule::StatusCreate => "Create I/O Submission Queue, Create I/O Completion Queue",
+        Rule::StatusDelete => "Delete I/O Submission Queue, Delete I/O Completion Queue",
+        Rule::Features => "Number of Queues",
+    }
+}
+
+/// The name of a rule for the host.
+pub fn breach_name(breach: Breach) -> &'static str {
+    match breach {
+        Breach::TailRange => "tail-range",
+        Breach::TailFull => "tail-full",
+        Breach::HeadRange => "head-range",
+        Breach::CidReused => "cid-reused",
+    }
+}
+
+/// The section of a rule for the host.
+pub(crate) fn section_of_breach(breach: Breach) -> &'static str {
+    match breach {
+        Breach::TailRange => "Submission Queue y Tail Doorbell",
+        Breach::TailFull => "Full Queue",
+        Breach::HeadRange => "Completion Queue y Head Doorbell",
+        Breach::CidReused => "Command Identifier",
+    }
+}

@@ -1,0 +1,88 @@
+// What of a log is looked at.
+use nvme_audit::Rule;
+
+/// Which completions of a log count.
+#[derive(Clone, Copy, Debug, PartialEq, Eq)]
+pub enum Completions {
+    /// Those that the controller wrote, where the log tells them, and otherwise those that the host took.
+    AsTold,
+    /// Those that the controller wrote.
+    Posts,
+    /// Those that the host took.
+    Reads,
+}
+
+/// Who looks at a controller.
+#[derive(Clone, Copy, Debug, PartialEq, Eq)]
+pub enum Observer {
+    /// Who sees the memory that both share, and the doorbells.
+    Bus,
+    /// The driver: it knows what it submitted and took.
+    Host,
+}
+
+/// What of a log is looked at.
+#[derive(Clone, Copy, Debug, PartialEq, Eq)]
+pub struct View {
+    pub completions: Completions,
+    /// Whether what isn't announced by a tail doorbell may not be fetched.
+    pub tails: bool,
+    /// Whether what isn't released by a head doorbell fills a completion queue.
+    pub heads: bool,
+    /// Whether the slots of fetches are looked at.
+    pub fetch_slots: bool,
+    /// Whether the slots of completions are looked at.
+    pub post_slots: bool,
+    /// Whether phase tags are looked at.
+    pub phases: bool,
+    /// Whether SQHD is looked at.
+    pub sq_heads: bool,
+}
+
+impl View {
+    /// All that a log tells.
+    pub fn whole() -> View {
+        View {
+            completions: Completions::AsTold,
+            tails: true,
+            heads: true,
+            fetch_slots: true,
+            post_slots: true,
+            phases: true,
+            sq_heads: true,
+        }
+    }
+
+    /// What an observer sees of it. The host doesn't see when an entry is fetched, nor from where.
+    pub fn of(observer: Observer) -> View {
+        let whole = View::whole();
+        match observer {
+            Observer::Bus => View {
+                completions: Completions::Posts,
+                ..whole
+            },
+            Observer::Host => View {
+                completions: Completions::Reads,
+                tails: false,
+                fetch_slots: false,
+                ..whole
+            },
+        }
+    }
+
+    /// Looks away from what a rule reads, and no other. Nothing changes for the rules that are always judged: the
+    /// others rest on them.
+    pub fn leave_out(&mut self, rule: Rule) {
+        match rule {
+            Rule::FetchBeyondTail => self.tails = false,
+            Rule::FetchSlot => self.fetch_slots = false,
+            Rule::Slot => self.post_slots = false,
+            Rule::Phase => self.phases = false,
+            Rule::CqFull => self.heads = false,
+            Rule::Sqhd => self.sq_heads = false,
+            Rule::FetchClosed | Rule::PostClosed | Rule::CqWrong | Rule::Life => {}
+            Rule::SqdelUnasked | Rule::StatusForeign | Rule::Features => {}
+            Rule::StatusCreate | Rule::StatusDelete => {}
+        }
+    }
+}

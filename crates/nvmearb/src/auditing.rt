@@ -1,0 +1,149 @@
+// `nvmearb audit`, of one log.
+ghost use Rattle.std.specs.Prelude.{◌≤◌, IfErr};
+
+use crate::noted::{Noted, Notes};
+use crate::telling::{failed, no_memory, unwritten};
+use nvme_audit_text::{
+    Audit, LogError, Observer, Rule, View, audit_log, rule_name, rule_named, rules,
+};
+use nvme_program::AuditWords;
+use std::alloc::Global;
+use std::fs;
+use std::io::{Read, Write};
+use std::rt::Files;
+
+// The exit statuses of a rule that the controller breaks, or of a faulty log, of a fault of the command line, of one at
+// run time, and where only the host breaks rules.
+const BROKEN: u8 = 1;
+
+const BAD_LINE: u8 = 2;
+
+const RUN: u8 = 3;
+
+const HOST: u8 = 4;
+
+// Whether a rule is among these names.
+fn is_among(rule: Rule, names: &str) -> bool {
+    names.split(',').any(|name| rule_named(name) == Some(rule))
+}
+
+// The first name that no rule has.
+fn unknown_in(names: &str) -> Option<&str> {
+    names.split(',').find(|name| rule_named(name).is_none())
+}
+
+// Writes that an option has another value. The answer is the exit status.
+fn unfit<E: Write>(option: &str, value: &str, wanted: &str, errors: &mut E) -> u8
+    ensures { result ≤ 4 }
+{
+    let _ = writeln!(errors, "nvmearb: {option} {value:?}: expected {wanted}");
+    BAD_LINE
+}
+
+// Writes that a name is that of no rule. The answer is the exit status.
+fn no_rule<E: Write>(option: &str, name: &str, errors: &mut E) -> u8
+    ensures { result ≤ 4 }
+{
+    let _ = write!(errors, "nvmearb: {option} {name:?}: expected rules of");
+    let mut before = " ";
+    for rule in rules() {
+        let name = rule_name(*rule);
+        let _ = write!(errors, "{before}{name}");
+        before = ", ";
+    }
+    let _ = writeln!(errors);
+    BAD_LINE
+}
+
+// What a line looks at. Where it says something else, that is told, and the error is the exit status.
+fn view_of<E: Write>(line: &AuditWords, errors: &mut E) -> Result<View, u8>
+    ensures { IfErr result (λ status. status ≤ 4) }
+{
+    let mut view = match line.observer {
+        None => View::whole(),
+        Some("bus") => View::of(Observer::Bus),
+        Some("host") => View::of(Observer::Host),
+        Some(other) => return Err(unfit("--observer", other, "bus or host", errors)),
+    };
+    for (option, names) in [("--only", line.only), ("--without", line.without)] {
+        if let Some(names) = names
+            && let Some(name) = unknown_in(names)
+        {
+            return Err(no_rule(option, name, errors));
+        }
+    }
+    for rule in rules() {
+        let is_out = line.without.is_some_and(|names| is_among(*rule, names));
+        if is_out || line.only.is_some_and(|names| !is_among(*rule, names)) {
+            view.leave_out(*rule);
+        }
+    }
+    Ok(view)
+}
+
+// Writes the answer. The answer is the exit status.
+fn put_audit<W: Write, E: Write>(audit: &Audit, output: &mut W, errors: &mut E) -> u8
+    ensures { result ≤ 4 }
+{
+    if writeln!(output, "{audit}").is_err() {
+        return unwritten(errors);
+    }
+    match &audit.broken {
+        Some(_) => BROKEN,
+        None if audit.host_breaches > 0 => HOST,
+        None => 0,
+    }
+}
+
+// Writes why a log isn't judged. The answer is the exit status.
+fn put_fault<E: Write>(error: &LogError, errors: &mut E) -> u8
+    ensures { result ≤ 4 }
+{
+    let _ = writeln!(errors, "nvmearb: {error}");
+    match error {
+        LogError::Line { .. } => BROKEN,
+        _ => RUN,
+    }
+}
+
+// Audits what is read.
+fn audited_from<R: Read + Drop, W: Write, E: Write>(
+    alloc: Global,
+    view: &View,
+    input: R,
+    output: &mut W,
+    errors: &mut E,
+) -> u8
+    ensures { result ≤ 4 }
+{
+    match audit_log(alloc, view, input) {
+        Ok(answer) => put_audit(&answer, output, errors),
+        Err(LogError::NoMemory) => no_memory(errors),
+        Err(error) => put_fault(&error, errors),
+    }
+}
+
+/// Audits a log. The answer is the exit status.
+#[inline(never)]
+pub(crate) fn audited<R: AllocGlobal + Files + Input, W: Write, E: Write>(
+    rt: &R,
+    line: &AuditWords,
+    notes: &Notes,
+    output: &mut W,
+    errors: &mut E,
+) -> u8
+    ensures { result ≤ 4 }
+{
+    let view = match view_of(line, errors) {
+        Ok(view) => view,
+        Err(status) => return status,
+    };
+    let alloc = rt.alloc();
+    match line.file {
+        Some(name) => match fs::open(rt, name) {
+            Ok(file) => audited_from(alloc, &view, Noted::new(file, notes), output, errors),
+            Err(error) => failed("open", name, &error, errors),
+        },
+        None => audited_from(alloc, &view, Noted::new(rt.reader(), notes), output, errors),
+    }
+}
