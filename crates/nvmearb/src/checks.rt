@@ -148,7 +148,7 @@ fn read(alloc: Global, task: Task, words: &[String]) -> Result<Checks, AllocErro
             }
         }
     }
-    if is_quiet {
+    if is_quiet && checks.form == Form::Text {
         checks.form = Form::Quiet;
     }
     if checks.files.is_empty() {
@@ -273,27 +273,56 @@ pub(crate) fn put_json<W: Write>(answers: &[Judged], output: &mut W) -> io::Resu
     output.write_all(b"]}\n")
 }
 
-// Writes a text of XML. What no XML may have is written as a question mark.
-fn put_xml<W: Write>(text: &[u8], output: &mut W) -> io::Result<()> {
-    for byte in text {
-        match byte {
-            b'&' => output.write_all(b"&amp;")?,
-            b'<' => output.write_all(b"&lt;")?,
-            b'>' => output.write_all(b"&gt;")?,
-            b'"' => output.write_all(b"&quot;")?,
-            b'\t' | b'\n' => output.write_all(&[*byte])?,
-            0..=0x1f => output.write_all(b"?")?,
-            _ => output.write_all(&[*byte])?,
+// Whether U+FFFE or U+FFFF, which no XML may have, begins a text.
+fn begins_with_none(text: Option<&[u8]>) -> bool {
+    matches!(text, Some([0xef, 0xbf, 0xbe | 0xbf, ..]))
+}
+
+// What stands in XML for a byte, and nothing where it is itself. A question mark stands for what no XML may have.
+fn xml_of(byte: u8, breaks: [&'static [u8]; 2]) -> &'static [u8] {
+    match byte {
+        b'&' => b"&amp;",
+        b'<' => b"&lt;",
+        b'>' => b"&gt;",
+        b'"' => b"&quot;",
+        b'\t' => breaks[0],
+        b'\n' => breaks[1],
+        0..=0x1f => b"?",
+        _ => b"",
+    }
+}
+
+// Writes a text of XML, in which these stand for tabs and line breaks.
+fn put_xml<W: Write>(
+    text: &[u8],
+    breaks: [&'static [u8]; 2],
+    output: &mut W,
+) -> io::Result<()> {
+    for (at, byte) in text.iter().enumerate() {
+        let shown = xml_of(*byte, breaks);
+        if begins_with_none(text.get(at..)) {
+            output.write_all(b"?")?;
+        } else if (1..3).any(|back| begins_with_none(at.checked_sub(back).and_then(|from| text.get(from..)))) {
+            continue;
+        } else if shown.is_empty() {
+            output.write_all(&[*byte])?;
+        } else {
+            output.write_all(shown)?;
         }
     }
     Ok(())
 }
 
+// Tabs and line breaks between tags, and in an attribute, where a reader would take them for blanks.
+const BETWEEN: [&[u8]; 2] = [b"\t", b"\n"];
+
+const IN_ATTRIBUTE: [&[u8]; 2] = [b"&#9;", b"&#10;"];
+
 // Writes the answer to one file as a test case.
 fn put_case<W: Write>(judged: &Judged, output: &mut W) -> io::Result<()> {
     let word = judged.task.word();
     write!(output, "<testcase classname=\"nvmearb {word}\" name=\"")?;
-    put_xml(judged.file.as_bytes(), output)?;
+    put_xml(judged.file.as_bytes(), IN_ATTRIBUTE, output)?;
     if judged.status == 0 {
         return output.write_all(b"\"/>\n");
     }
@@ -303,7 +332,7 @@ fn put_case<W: Write>(judged: &Judged, output: &mut W) -> io::Result<()> {
         "failure"
     };
     write!(output, "\"><{kind} message=\"{}\">", judged.result())?;
-    put_xml(lines(judged.text()), output)?;
+    put_xml(lines(judged.text()), BETWEEN, output)?;
     write!(output, "</{kind}></testcase>\n")
 }
 

@@ -222,10 +222,14 @@ fn put_texts<W: Write, E: Write>(
     Ok(())
 }
 
-// Writes the faults of checks whose answers aren't written.
+// Writes the faults of checks whose answers aren't written, each line behind the name of its file where there are several.
 fn put_faults<E: Write>(answers: &[Judged], errors: &mut E) {
     for it in answers {
-        let _ = errors.write_all(it.told.answer().unwrap_or(b""));
+        let told = it.told.answer().unwrap_or(b"");
+        let _ = match answers {
+            [_] => errors.write_all(told),
+            _ => put_named(it.file.as_str(), told, errors),
+        };
     }
 }
 
@@ -289,6 +293,11 @@ fn checked<R: AllocGlobal + Files + Input + Threads + Wait + Sync, W: Write, E: 
             errors,
             "nvmearb: --format {name:?}: expected text, json or junit"
         );
+        return BAD_LINE;
+    }
+    if checks.files.iter().filter(|it| it.as_str() == "-").count() > 1 {
+        let word = checks.task.word();
+        let _ = writeln!(errors, "nvmearb: {word}: standard input is named twice");
         return BAD_LINE;
     }
     match all_judged(rt, checks) {
