@@ -1,11 +1,17 @@
 // How long commands of a model may wait for arbitration.
+ghost use Rattle.std.specs.Prelude.{◌≡◌, ◌≤◌, if◌then◌else◌, IfOk, length, map};
+ghost use Rattle.nvme_bounds.specs.Before.{most_before};
+ghost use Rattle.nvme_arbiter.specs.ByClass.{of_class};
+ghost use Rattle.nvme_waits.specs.Bounds.{count_in, counts_in, is_in, time_of, unbounded};
+ghost use Rattle.nvme_waits.specs.Longest.{longest_drawn, longest_drawn_of, longest_in, longest_listed, longest_of, share_of};
+
 use crate::told::{put_key, put_table};
 use crate::waits::Waits;
 use nvme_arbiter::{ByClass, Class, Pick};
 use nvme_bounds::{Queues, time_behind};
 use nvme_channels::Placement;
-use nvme_load::{Arrivals, Operation};
-use nvme_model::{Finished, Model, Queue};
+use nvme_load::{Arrivals, Operation, Request, Services};
+use nvme_model::{Device, Finished, Model, Queue};
 use nvme_numbers::WriteFault;
 use std::alloc::{AllocError, Global};
 use std::io::Write;
@@ -64,95 +70,167 @@ pub struct Bounds {
     pub(crate) waits: Waits,
 }
 
+// The share that an operation has of the commands of a queue that are drawn.
+fn share_of(queue: &Queue, operation: Operation) -> u32
+    ensures { result ≡ share_of queue.now.mix operation }
+{
+    match operation {
+        Operation::Read => queue.mix.read,
+        Operation::Write => queue.mix.write,
+        Operation::Flush => queue.mix.flush,
+    }
+}
+
+// The longest service of the commands of an operation that are drawn, and 0 where it has no share.
+fn longest_drawn_of(queue: &Queue, operation: Operation) -> u64
+    ensures { result ≡ longest_drawn_of queue.now operation }
+{
+    if share_of(queue, operation) == 0 {
+        0
+    } else {
+        let blocks = queue.places.extent.blocks;
+        queue.services.longest(operation, blocks)
+    }
+}
+
 // The longest service of the commands of a queue that are drawn, whose operations have a share.
-fn longest_drawn(queue: &Queue) -> u64 {
-    let (mix, blocks) = (&queue.mix, queue.places.extent.blocks);
-    let operations = [
-        (mix.read, Operation::Read),
-        (mix.write, Operation::Write),
-        (mix.flush, Operation::Flush),
-    ];
-    let mut longest = 0;
-    for (share, operation) in operations {
-        if share > 0 {
-            longest = queue.services.longest(operation, blocks).max(longest);
-        }
+fn longest_drawn(queue: &Queue) -> u64
+    ensures { result ≡ longest_drawn queue.now }
+{
+    let read = longest_drawn_of(queue, Operation::Read);
+    let write = longest_drawn_of(queue, Operation::Write);
+    let flush = longest_drawn_of(queue, Operation::Flush);
+    read.max(write).max(flush)
+}
+
+// The longest service of the commands of a list.
+fn longest_listed(services: &Services, requests: &[Request]) -> u64
+    ensures { result ≡ longest_listed services.now requests.now }
+{
+    let mut longest = 0u64;
+    for request in requests {
+        longest = longest.max(services.longest(request.operation, request.blocks));
     }
     longest
 }
 
 // The longest service of the commands of a queue.
-fn longest_in(queue: &Queue) -> u64 {
-    let Arrivals::Replay(list) = &queue.arrivals else {
-        return longest_drawn(queue);
-    };
-    let mut longest = 0;
-    for request in &list.requests {
-        let service = queue.services.longest(request.operation, request.blocks);
-        longest = service.max(longest);
+fn longest_in(queue: &Queue) -> u64
+    ensures { result ≡ longest_in queue.now }
+{
+    match &queue.arrivals {
+        Arrivals::Replay(list) => longest_listed(&queue.services, &list.requests),
+        Arrivals::Poisson(_) | Arrivals::Regular(_) | Arrivals::OnOff(_) | Arrivals::Closed(_) =>
+            longest_drawn(queue),
+    }
+}
+
+// The longest service of the commands of queues.
+fn longest_of_all(queues: &[Queue]) -> u64
+    ensures { result ≡ longest_of queues.now }
+{
+    let mut longest = 0u64;
+    for queue in queues {
+        longest = longest.max(longest_in(queue));
     }
     longest
 }
 
-// The longest service of the commands of a model.
-fn longest_of_all(model: &Model) -> u64 {
-    let mut longest = 0;
-    for queue in &model.queues {
-        longest = longest_in(queue).max(longest);
+// Whether a queue is of a class, as a number.
+fn one_if(queue: &Queue, class: Class) -> u16
+    ensures value { result ≡ (if is_in class queue.now then 1 else 0) }
+    ensures few { result ≤ 1 }
+{
+    if queue.class.number() == class.number() {
+        1
+    } else {
+        0
     }
-    longest
+}
+
+// How many queues a class has.
+fn count_in(queues: &[Queue], class: Class) -> u16
+    requires few { length queues.now ≤ 64 }
+    ensures { result ≡ count_in queues.now class }
+{
+    let mut count = 0u16;
+    for queue in queues {
+        count += one_if(queue, class);
+    }
+    count
 }
 
 // How many queues each class has.
-fn counts_of(model: &Model) -> ByClass<u16> {
-    let mut counts = ByClass::same(0u16);
-    for queue in &model.queues {
-        let count = counts.get(queue.class).saturating_add(1);
-        counts.set(queue.class, count);
+fn counts_in(queues: &[Queue]) -> ByClass<u16>
+    requires few { length queues.now ≤ 64 }
+    ensures { result ≡ counts_in queues.now }
+{
+    ByClass {
+        admin: count_in(queues, Class::Admin),
+        urgent: count_in(queues, Class::Urgent),
+        high: count_in(queues, Class::High),
+        medium: count_in(queues, Class::Medium),
+        low: count_in(queues, Class::Low),
     }
-    counts
 }
 
 // Why a device has no bound in time, if it has none.
-fn unbounded(model: &Model) -> Option<NoBound> {
-    if model.device.placement != Placement::Pool {
-        Some(NoBound::Striped)
-    } else if model.device.pauses.is_some() {
-        Some(NoBound::Pauses)
-    } else {
-        None
+fn unbounded(device: &Device) -> Option<NoBound>
+    ensures { result ≡ unbounded device.now.placement device.now.pauses }
+{
+    match (device.placement, device.pauses) {
+        (Placement::Striped(_), _) => Some(NoBound::Striped),
+        (Placement::Pool, Some(_)) => Some(NoBound::Pauses),
+        (Placement::Pool, None) => None,
     }
 }
 
 // How long it takes until so many commands and one more have ended.
-fn time_of(model: &Model, before: Option<u64>, service: u64) -> Result<u128, NoBound> {
+fn time_of(device: &Device, before: Option<u64>, service: u64) -> Result<u128, NoBound>
+    ensures { result ≡ time_of device.now before service }
+{
     let Some(before) = before else {
         return Err(NoBound::Urgent);
     };
-    if let Some(reason) = unbounded(model) {
+    if let Some(reason) = unbounded(device) {
         return Err(reason);
     }
-    let least = (model.device.channels as u64).min(u64::from(model.device.depth));
-    Ok(time_behind(before, least.max(1), service))
+    let least = (device.channels as u64).min(u64::from(device.depth));
+    Ok(time_behind(before, least, service))
+}
+
+// The bound of a class.
+fn bound_of(all: &Queues, device: &Device, service: u64, class: Class) -> Bound
+    ensures { let before = most_before all.now.mechanism all.now.settings (of_class all.now.counts) 1 class in
+        result ≡ record { class = class; before = before; time = time_of device.now before service } }
+{
+    let before = all.most_before(AT_A_TIME, class);
+    Bound {
+        class,
+        before,
+        time: time_of(device, before, service),
+    }
 }
 
 impl Bounds {
+    ghost use Rattle.nvme_waits.specs.Bounds.{bound_of, waits_in};
+    ghost use Rattle.nvme_waits.specs.Longest.{longest_of};
+    ghost use Rattle.nvme_waits.specs.Waits.{Ends};
+
     /// Those of a model, of which no wait was seen.
-    pub fn of(alloc: Global, model: &Model) -> Result<Bounds, AllocError> {
+    pub fn of(alloc: Global, model: &Model) -> Result<Bounds, AllocError>
+        ensures queues { IfOk result (λ b. b.queues.items ≡ map (bound_of model.now) model.now.queues.items) }
+        ensures service { IfOk result (λ b. b.service ≡ longest_of model.now.queues.items) }
+    {
         let all = Queues {
             mechanism: model.mechanism,
             settings: model.settings,
-            counts: counts_of(model),
+            counts: counts_in(&model.queues),
         };
-        let service = longest_of_all(model);
+        let service = longest_of_all(&model.queues);
         let mut queues = Vec::new(alloc);
         for queue in &model.queues {
-            let before = all.most_before(AT_A_TIME, queue.class);
-            queues.push(Bound {
-                class: queue.class,
-                before,
-                time: time_of(model, before, service),
-            })?;
+            queues.push(bound_of(&all, &model.device, service, queue.class))?;
         }
         Ok(Bounds {
             queues,
@@ -167,7 +245,11 @@ impl Bounds {
     }
 
     /// A command is done. Its wait is one of those that are told where numbers count it.
-    pub fn finish(&mut self, command: &Finished, counts: bool) {
+    pub fn finish(&mut self, command: &Finished, counts: bool)
+        ensures waits { Ends command.now counts (waits_in self.old) (waits_in self.new) }
+        ensures queues { self.new.queues ≡ self.old.queues }
+        ensures service { self.new.service ≡ self.old.service }
+    {
         self.waits.finish(command, counts);
     }
 

@@ -2,6 +2,7 @@
 #![tactic(auto)]
 
 mod bounds;
+pub mod laws;
 mod told;
 mod waits;
 

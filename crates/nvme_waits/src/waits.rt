@@ -1,4 +1,7 @@
 // How long commands waited for arbitration, each from when it was the next one of its queue.
+ghost use Rattle.std.specs.Prelude.{◌≡◌, ◌<◌, ◌∷◌, IfSome, IsPermutation, length, position, slice_get, option_and_then};
+ghost use Rattle.nvme_waits.specs.Waits.{Ends, is_of, longer_of, taken_in, wait_of};
+
 use nvme_arbiter::Pick;
 use nvme_model::{Finished, Model};
 use std::alloc::{AllocError, Global};
@@ -28,6 +31,31 @@ struct Queue {
 pub(crate) struct Waits {
     queues: Vec<Queue>,
     taken: Vec<Taken>,
+}
+
+// Where a command stands among those that the device has.
+fn place_of(taken: &[Taken], command: &Finished) -> Option<usize>
+    ensures value { result ≡ position (is_of command.now) taken.now }
+    ensures within { IfSome result (λ i. i < length taken.now) }
+{
+    taken.iter().position(|it| it.queue == command.queue && it.number == command.number)
+}
+
+// How long a command waited as the next one of its queue.
+fn wait_of(command: &Finished, taken: &Taken) -> u64
+    ensures { result ≡ wait_of command.now taken.now }
+{
+    let times = &command.times;
+    times
+        .picked
+        .saturating_sub(times.submitted.max(taken.since))
+}
+
+// The longer of two waits, the first of which may be missing.
+fn longer_of(other: Option<u64>, wait: u64) -> u64
+    ensures { result ≡ longer_of other wait }
+{
+    other.unwrap_or(0).max(wait)
 }
 
 impl Waits {
@@ -63,35 +91,40 @@ impl Waits {
     }
 
     // Takes a command out of those that the device has.
-    fn take(&mut self, command: &Finished) -> Option<Taken> {
-        let place = self.taken.iter().position(|it| it.queue == command.queue
-            && it.number == command.number)?;
-        if place < self.taken.len() {
-            Some(self.taken.swap_remove(place))
-        } else {
-            None
+    fn take(&mut self, command: &Finished) -> Option<Taken>
+        ensures value { result ≡ taken_in self.old command.now }
+        ensures gone { IfSome result (λ t. IsPermutation self.old.taken.items (t ∷ self.new.taken.items)) }
+        ensures queues { self.new.queues ≡ self.old.queues }
+    {
+        match place_of(&self.taken, command) {
+            Some(place) => Some(self.taken.swap_remove(place)),
+            None => None,
         }
     }
 
     // A command is done. The numbers may count it.
-    pub(crate) fn finish(&mut self, command: &Finished, counts: bool) {
+    pub(crate) fn finish(&mut self, command: &Finished, counts: bool)
+        ensures { Ends command.now counts self.old self.new }
+    {
         let Some(taken) = self.take(command) else {
             return;
         };
         let Some(place) = usize::from(command.queue).checked_sub(1) else {
             return;
         };
-        if counts && let Some(queue) = self.queues.get_mut(place) {
-            let times = &command.times;
-            let wait = times
-                .picked
-                .saturating_sub(times.submitted.max(taken.since));
-            queue.longest = Some(queue.longest.unwrap_or(0).max(wait));
+        if !counts {
+            return;
+        }
+        if place < self.queues.len() {
+            let longest = longer_of(self.queues[place].longest, wait_of(command, &taken));
+            self.queues[place].longest = Some(longest);
         }
     }
 
     // The longest wait of a queue, by its place. `None` where none of its commands counts.
-    pub(crate) fn longest(&self, place: usize) -> Option<u64> {
+    pub(crate) fn longest(&self, place: usize) -> Option<u64>
+        ensures { result ≡ option_and_then (λ q. q.longest) (slice_get self.now.queues.items place) }
+    {
         self.queues.get(place).and_then(|queue| queue.longest)
     }
 }

@@ -1,0 +1,5 @@
+pub mod Bounds
+pub mod Examples
+pub mod Laws
+pub mod Longest
+pub mod Waits
