@@ -1,5 +1,5 @@
 // Latencies by their rank.
-ghost use Rattle.std.specs.Prelude.{◌≡◌, ◌≤◌, ◌<◌, ◌⊎◌, ◌+◌, ◌-◌, ◌*◌, ◌/◌, [], IfNone, IfSome, MatchOption, get_or, length, sum};
+ghost use Rattle.std.specs.Prelude.{◌≡◌, ◌≤◌, ◌<◌, ◌⊎◌, ◌+◌, ◌-◌, ◌*◌, ◌/◌, [], IfNone, IfSome, MatchOption, OnSome, get_or, length, sum};
 ghost use Rattle.std.specs.List.Sorted.{IsNonDecreasing, IsSorted};
 ghost use Rattle.std.specs.Ordering.{nat_cmp};
 ghost use Rattle.nvme_latency.specs.declared.ranked.TheConstants.{PARTS};
@@ -58,8 +58,9 @@ impl Ranked {
 
     /// The mean, rounded down to a whole picosecond. None where there is none.
     pub fn mean(&self) -> Option<u64>
-        ensures { MatchOption result (ranked_times self.now ≡ [])
+        ensures value { MatchOption result (ranked_times self.now ≡ [])
             (λ m. m ≡ sum (ranked_times self.now) / length (ranked_times self.now)) }
+        ensures some { OnSome result (0 < length (ranked_times self.now)) }
     {
         match self.longest() {
             Some(longest) => Some(mean_of(self.sum(), self.times.len(), longest)),
@@ -106,7 +107,8 @@ impl Ranked {
     pub fn quantile(&self, parts: u32) -> Option<u64>
         requires some { 0 < parts }
         requires whole { parts ≤ PARTS }
-        ensures { MatchOption result (ranked_times self.now ≡ []) (λ q. IsQuantile parts (ranked_times self.now) q) }
+        ensures value { MatchOption result (ranked_times self.now ≡ []) (λ q. IsQuantile parts (ranked_times self.now) q) }
+        ensures some { OnSome result (0 < length (ranked_times self.now)) }
     {
         if self.times.is_empty() {
             return None;

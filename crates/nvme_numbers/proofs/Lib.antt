@@ -1,2 +1,4 @@
+pub mod Classes
+pub mod Jain
 pub mod Ranks
 pub mod Tallies

@@ -1,7 +1,8 @@
 -- Queues whose latencies are ranked have the same commands.
-use Rattle.std.proofs.Common.{◌≡◌, ◌∙◌, ℕ, suc, ◌<◌, Bool, true, false, cond, All, List, [], ◌∷◌, ◌++◌, Option, Some, None, length, length-append, get_or, sym, refl, arith}
+use Rattle.std.proofs.Common.{◌≡◌, ◌∙◌, ℕ, suc, ◌<◌, Bool, true, false, cond, ◌||◌, List, [], ◌∷◌, ◌++◌, Option, Some, None, length, length-append, get_or, sym, ap, refl, arith}
 use Rattle.std.specs.List.{fold}
 use Rattle.std.specs.List.Sorted.{IsPermutation}
+use Rattle.std.proofs.lemmas.List.Elements.{filter_agree}
 use Rattle.std.proofs.lemmas.List.Sorted.{IsPermutation-append, IsPermutation-refl, length_permutation}
 use Rattle.nvme_arbiter.specs.declared.settings.Class.{Class}
 use Rattle.nvme_latency.specs.Times.{ranked_times, times_of}
@@ -9,8 +10,8 @@ use Rattle.nvme_model.specs.declared.queue.Queue.{Queue}
 use Rattle.nvme_numbers.specs.Collected.{AreFresh, IsFresh, queues_of}
 use Rattle.nvme_numbers.specs.Rows.{IsRow}
 use Rattle.nvme_numbers.specs.Sums.{no_sums, sums_plus}
-use Rattle.nvme_numbers.specs.Told.{IsQueueRow, Tells, TellsUnion, commands_of, is_of, latencies_in, span_of, tallied_sums, tallied_times, totals_in}
-use Rattle.nvme_numbers.specs.inside.Unions.{AreRanked, AreRows, IsClassRow, IsRanked, IsRowOf, IsUnionRow, RowsAgree, all_sums, all_times, sums_in, times_in}
+use Rattle.nvme_numbers.specs.Told.{IsQueueRow, Tells, TellsUnion, all_classes, commands_of, has_queue, is_of, latencies_in, span_of, tallied_sums, tallied_times, totals_in}
+use Rattle.nvme_numbers.specs.inside.Unions.{AreClassRows, AreRanked, AreRows, IsRanked, IsRowOf, IsUnionRow, RowsAgree, all_sums, all_times, has_ranked, sums_in, times_in}
 use Rattle.nvme_numbers.specs.declared.answer.Member.{Member}
 use Rattle.nvme_numbers.specs.declared.answer.RankedQueue.{RankedQueue}
 use Rattle.nvme_numbers.specs.declared.numbers.QueueTally.{QueueTally}
@@ -63,6 +64,16 @@ pub same_sums : (class : Option Class) (queues : List QueueTally) (ranked : List
     → totals_in class queues ≡ all_sums class ranked
 same_sums class queues ranked is = sums_from class no_sums queues ranked is
 
+-- the same classes have a queue
+same_classes : (class : Class) (queues : List QueueTally) (ranked : List RankedQueue) → AreRanked queues ranked → has_ranked ranked class ≡ has_queue queues class
+same_classes class [] [] is = refl
+same_classes class [] (r ∷ ranked) is = absurd (omega (arith, is.count))
+same_classes class (q ∷ queues) [] is = absurd (omega (arith, is.count))
+same_classes class (q ∷ queues) (r ∷ ranked) is =
+    let here : IsRanked q r = is.each 0 q r (omega arith) in
+    ap (λ (v : Class). is_of (Some class) v || has_ranked ranked class) here.priority
+    ∙ ap (λ (b : Bool). is_of (Some class) q.class || b) (same_classes class queues ranked (rest q r queues ranked is))
+
 -- one row more
 pub rows_more : (span whole i : ℕ) (queues : List RankedQueue) (rows next : List Member) (q : RankedQueue) (m : Member) → length rows ≡ i → i < length queues
     → q ≡ get_or queues i q → IsRowOf span whole q m → next ≡ rows ++ m ∷ [] → RowsAgree span whole queues rows → RowsAgree span whole queues next
@@ -103,7 +114,7 @@ queue_told n end span whole q r m a b is row = (
 )
 
 pub told : (n : Numbers) (end span : ℕ) (ranked : List RankedQueue) (rows classes : List Member) (all : Row) → span ≡ span_of n end → AreRanked (queues_of n) ranked
-    → IsUnionRow span all.commands None ranked all → AreRows span all.commands ranked rows → All (IsClassRow span all.commands ranked) classes
+    → IsUnionRow span all.commands None ranked all → AreRows span all.commands ranked rows → AreClassRows span all.commands ranked all_classes classes
     → Tells n end rows classes all
 told n end span ranked rows classes all a so together each by_class =
     let whole : all.commands ≡ commands_of n =
@@ -114,6 +125,7 @@ told n end span ranked rows classes all a so together each by_class =
           let r : RankedQueue = first_of ranked (omega (arith, l, each.count)) in
           queue_told n end span all.commands (get_or (queues_of n) k q) (get_or ranked k r) (get_or rows k m) a whole
           (so.each k q r (omega (arith, l, each.count))) (each.agree.each k r m l);
-      by_class = λ k m l. union_told n end span all.commands ranked (Some (get_or classes k m).class) (get_or classes k m).row a whole so (by_class k m l);
+      classes_are = by_class.of_each ∙ filter_agree (has_ranked ranked) (has_queue (queues_of n)) (λ class. same_classes class (queues_of n) ranked so) all_classes;
+      by_class = λ k m l. union_told n end span all.commands ranked (Some (get_or classes k m).class) (get_or classes k m).row a whole so (by_class.each k m l);
       together = union_told n end span all.commands ranked None all a whole so together;
     }

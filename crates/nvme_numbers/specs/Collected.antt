@@ -6,6 +6,7 @@ use Rattle.nvme_model.specs.declared.finished.Finished.{Finished}
 use Rattle.nvme_model.specs.declared.model.Model.{Model}
 use Rattle.nvme_model.specs.declared.queue.Queue.{Queue}
 use Rattle.nvme_numbers.specs.Sums.{no_sums, sums_with}
+use Rattle.nvme_numbers.specs.declared.numbers.Asked.{Asked}
 use Rattle.nvme_numbers.specs.declared.numbers.Numbers.{Numbers}
 use Rattle.nvme_numbers.specs.declared.numbers.QueueTally.{QueueTally}
 
@@ -13,9 +14,13 @@ use Rattle.nvme_numbers.specs.declared.numbers.QueueTally.{QueueTally}
 abbrev pub queues_of : Numbers → List QueueTally
 queues_of n = n.queues.items
 
+-- what the model says, as it is told beside the numbers
+abbrev pub asked_of : Numbers → Asked
+asked_of n = n.asked
+
 -- the settings of the model
 abbrev pub settings_of : Numbers → ArbitrationFields
-settings_of n = n.asked.settings
+settings_of n = (asked_of n).settings
 
 -- when the first command that counts came
 abbrev pub began_of : Numbers → Option ℕ
@@ -36,12 +41,20 @@ pub record IsFresh (q : Queue) (t : QueueTally) : Type 0 where
 pub record AreFresh (queues : List Queue) (tallies : List QueueTally) : Type 0 where
   pub each : (k : ℕ) (q : Queue) (t : QueueTally) → k < length tallies → IsFresh (slice_index_or queues k q) (slice_index_or tallies k t)
 
+-- what a model says: all of it but its queues and its end
+pub record SaysAsModel (m : Model) (a : Asked) : Type 0 where
+  pub mechanism : a.mechanism ≡ m.mechanism
+  pub settings : a.settings ≡ m.settings
+  pub device : a.device ≡ m.device
+  pub seed : a.seed ≡ m.seed
+  pub warm_up : a.warm_up ≡ m.warm_up
+
 -- no command of a model yet
 pub record IsNew (m : Model) (n : Numbers) : Type 0 where
   pub count : length (queues_of n) ≡ length m.queues.items
   pub fresh : AreFresh m.queues.items (queues_of n)
   pub began : began_of n ≡ None
-  pub weights : settings_of n ≡ m.settings
+  pub says : SaysAsModel m (asked_of n)
 
 -- a queue with one command more: exactly its latency and the times of its parts are added
 pub record AddsCommand (f : Finished) (old new : QueueTally) : Type 0 where
@@ -56,6 +69,7 @@ pub record Adds (f : Finished) (old new : Numbers) : Type 0 where
       → AddsCommand f (slice_index_or (queues_of old) k d) (slice_index_or (queues_of new) k d)
   pub others : (k : ℕ) (d : QueueTally) → ¬ (k + 1 ≡ f.queue) → slice_index_or (queues_of new) k d ≡ slice_index_or (queues_of old) k d
   pub began : 1 ≤ f.queue → f.queue ≤ length (queues_of old) → began_of new ≡ Some (earlier_of (began_of old) f.times.came)
+  pub says : asked_of new ≡ asked_of old
 
 -- what was counted stays
 pub record Keeps (old new : Numbers) : Type 0 where
@@ -64,3 +78,4 @@ pub record Keeps (old new : Numbers) : Type 0 where
       → times_of (slice_index_or (queues_of new) k d).tally.latencies ≡ times_of (slice_index_or (queues_of old) k d).tally.latencies
   pub sums : (k : ℕ) (d : QueueTally) → (slice_index_or (queues_of new) k d).tally.sums ≡ (slice_index_or (queues_of old) k d).tally.sums
   pub began : began_of new ≡ began_of old
+  pub says : asked_of new ≡ asked_of old

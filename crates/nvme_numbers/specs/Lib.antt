@@ -1,8 +1,11 @@
+pub mod Answers
 pub mod Collected
 pub mod Examples
 pub mod Fairness
 pub mod inside
+pub mod Names
 pub mod Quotients
 pub mod Rows
 pub mod Sums
+pub mod Texts
 pub mod Told

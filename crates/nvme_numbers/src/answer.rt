@@ -1,9 +1,11 @@
 // What is told of a simulation.
-ghost use Rattle.std.specs.Prelude.{◌≡◌, ◌++◌, All, IfOk, OnOk, option_to_list};
+ghost use Rattle.std.specs.Prelude.{◌≡◌, ◌++◌, IfOk, OnOk, option_to_list};
 ghost use Rattle.nvme_latency.specs.Times.{times_of};
-ghost use Rattle.nvme_numbers.specs.Fairness.{IsJain, commands_of_each, level_part, level_parts};
+ghost use Rattle.nvme_numbers.specs.Answers.{busy_of};
+ghost use Rattle.nvme_numbers.specs.Fairness.{IsJain, IsJainByWeight, commands_of_each, level_part, level_parts};
 ghost use Rattle.nvme_numbers.specs.Sums.{sums_plus};
-ghost use Rattle.nvme_numbers.specs.inside.Unions.{AreRanked, AreRows, IsClassRow, IsRanked, IsUnion, IsUnionRow, sums_in, times_in};
+ghost use Rattle.nvme_numbers.specs.Told.{is_of};
+ghost use Rattle.nvme_numbers.specs.inside.Unions.{AreClassRows, AreRanked, AreRows, IsRanked, IsUnion, IsUnionRow, has_ranked, sums_in, times_in};
 
 mod object;
 mod sheet;
@@ -175,18 +177,34 @@ fn all_row(alloc: Global, queues: &[RankedQueue], span: u64) -> Result<Row, Allo
     Ok(row_of(&union, span, union.latencies.count()))
 }
 
-// The rows of the classes that have a queue.
+// Whether a queue is of a class.
+fn is_of(queue: &RankedQueue, class: Class) -> bool
+    ensures { result ≡ is_of (Some class) queue.now.class }
+{
+    class.number() == queue.class.number()
+}
+
+// Whether a class has a queue.
+fn has_queue(queues: &[RankedQueue], class: Class) -> bool
+    ensures { result ≡ has_ranked queues.now class }
+{
+    queues.iter().any(|queue| is_of(queue, class))
+}
+
+// The rows of those classes that have a queue.
 fn class_rows(
     alloc: Global,
     queues: &[RankedQueue],
+    classes: &[Class],
     span: u64,
     whole: usize,
 ) -> Result<Vec<Member>, AllocError>
-    ensures { IfOk result (λ rows. All (IsClassRow span whole queues.now) rows.items) }
+    ensures { IfOk result (λ rows. AreClassRows span whole queues.now classes.now rows.items) }
 {
     let mut rows = Vec::new(alloc);
-    for class in CLASSES {
-        if queues.iter().any(|queue| queue.class == class) {
+    for class in classes {
+        let class = *class;
+        if has_queue(queues, class) {
             let row = class_row(alloc, queues, class, span, whole)?;
             rows.push(Member { class, row })?;
         }
@@ -221,27 +239,50 @@ fn jain_of_queues(alloc: Global, queues: &[Member]) -> Result<Option<u128>, Allo
 }
 
 // Jain's index of the commands of the queues of levels, each divided by its weight.
-fn jain_of_levels(
+fn jain_of_weighted(
     alloc: Global,
-    asked: &Asked,
+    settings: &Settings,
     queues: &[Member],
 ) -> Result<Option<u128>, AllocError>
-    ensures { IfOk result (IsJain (level_parts asked.now.settings queues.now)) }
+    ensures { IfOk result (IsJain (level_parts settings.now queues.now)) }
 {
-    if asked.mechanism == Mechanism::RoundRobin {
-        return Ok(None);
-    }
     let mut parts = Vec::new(alloc);
     for member in queues {
-        if let Some(part) = weighted(&asked.settings, member) {
+        if let Some(part) = weighted(settings, member) {
             parts.push(part)?;
         }
     }
     Ok(jain(&parts))
 }
 
+// The same, where weights are heeded.
+fn jain_of_levels(
+    alloc: Global,
+    asked: &Asked,
+    queues: &[Member],
+) -> Result<Option<u128>, AllocError>
+    ensures { IfOk result (IsJainByWeight asked.now.mechanism (level_parts asked.now.settings queues.now)) }
+{
+    match asked.mechanism {
+        Mechanism::RoundRobin => Ok(None),
+        Mechanism::Weighted => jain_of_weighted(alloc, &asked.settings, queues),
+    }
+}
+
+// How long all channels ran commands.
+fn busy_of(channels: &[Channel]) -> u128
+    ensures { result ≡ busy_of channels.now }
+{
+    let mut busy = 0u128;
+    for channel in channels {
+        busy += u128::from(channel.busy);
+    }
+    busy
+}
+
 impl Numbers {
-    ghost use Rattle.nvme_numbers.specs.Collected.{settings_of};
+    ghost use Rattle.nvme_numbers.specs.Answers.{about_in, asked_in};
+    ghost use Rattle.nvme_numbers.specs.Collected.{asked_of, began_of, settings_of};
     ghost use Rattle.nvme_numbers.specs.Told.{Tells};
 
     /// What is told of the simulation, which ended at this time and left the channels like this. The latencies of the commands
@@ -254,7 +295,12 @@ impl Numbers {
     ) -> Result<Answer<'a>, AllocError>
         ensures told { IfOk result (λ a. Tells self end a.queues.items a.classes.items a.all) }
         ensures jain { IfOk result (λ a. IsJain (commands_of_each a.queues.items) a.jain) }
-        ensures jain_by_weight { IfOk result (λ a. IsJain (level_parts (settings_of self) a.queues.items) a.jain_by_weight) }
+        ensures jain_by_weight { IfOk result (λ a. IsJainByWeight (asked_of self).mechanism (level_parts (settings_of self) a.queues.items) a.jain_by_weight) }
+        ensures began { IfOk result (λ a. a.began ≡ began_of self) }
+        ensures end { IfOk result (λ a. a.end ≡ end) }
+        ensures channels { IfOk result (λ a. a.channels.now ≡ channels.now) }
+        ensures asked { IfOk result (λ a. asked_in a ≡ asked_of self) }
+        ensures about { IfOk result (λ a. about_in a ≡ about.entry) }
     {
         let Numbers {
             asked,
@@ -272,7 +318,7 @@ impl Numbers {
             asked,
             began,
             end,
-            classes: class_rows(alloc, &ranked, span, whole)?,
+            classes: class_rows(alloc, &ranked, &CLASSES, span, whole)?,
             all,
             channels,
             jain: jain_of_queues(alloc, &rows)?,
@@ -283,6 +329,7 @@ impl Numbers {
 }
 
 impl Answer<'_> {
+    ghost use Rattle.nvme_numbers.specs.Answers.{time_of};
     ghost use Rattle.nvme_numbers.specs.Quotients.{IsQuotient};
 
     /// The part of the simulated time in which a channel ran commands, in thousandths of a percent, rounded. `None` where no
@@ -294,13 +341,11 @@ impl Answer<'_> {
     }
 
     /// The same of all channels together.
-    pub fn utilization(&self) -> Option<u128> {
-        let mut busy = 0u128;
-        for channel in self.channels {
-            busy = busy.checked_add(u128::from(channel.busy))?;
-        }
-        let whole = u128::from(self.end).checked_mul(self.channels.len() as u128)?;
-        quotient(busy, THOUSANDTHS, whole)
+    pub fn utilization(&self) -> Option<u128>
+        ensures { IsQuotient (busy_of self.now.channels.now) THOUSANDTHS (time_of self.now.end self.now.channels.now) result }
+    {
+        let whole = u128::from(self.end) * self.channels.len() as u128;
+        quotient(busy_of(self.channels), THOUSANDTHS, whole)
     }
 
     /// Writes tables for people: the rates of each queue, each class and all, then their latencies and then the means of the

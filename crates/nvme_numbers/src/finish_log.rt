@@ -1,4 +1,7 @@
 // The log of the commands that are done, as comma-separated values.
+ghost use Rattle.nvme_numbers.specs.Texts.{log_text};
+ghost use Rattle.nvme_output.specs.Written.{Writes};
+
 use crate::names::operation_name;
 use nvme_model::Finished;
 use nvme_output::{Piece, WriteFault, put_line};
@@ -14,7 +17,9 @@ pub fn log_header<W: Write>(writer: &mut W) -> Result<(), WriteFault> {
 }
 
 /// Writes the line of a command. Times are in picoseconds. `WriteFault` where a write failed.
-pub fn log_line<W: Write>(finished: &Finished, writer: &mut W) -> Result<(), WriteFault> {
+pub fn log_line<W: Write>(finished: &Finished, writer: &mut W) -> Result<(), WriteFault>
+    ensures { Writes (W.contents writer.old) (W.contents writer.new) result (log_text finished.now) }
+{
     let times = &finished.times;
     let comma = Piece::Words(",");
     put_line(

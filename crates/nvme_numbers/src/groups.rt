@@ -1,7 +1,7 @@
 // The latencies of the commands of a queue, or of a class.
-ghost use Rattle.std.specs.Prelude.{◌≡◌, ◌++◌, IfOk, IsPermutation, OnOk};
+ghost use Rattle.std.specs.Prelude.{◌≡◌, ◌++◌, IfOk, IsPermutation, OnOk, slice_get};
 ghost use Rattle.nvme_latency.specs.Times.{ranked_times, times_of};
-ghost use Rattle.nvme_numbers.specs.Told.{latencies_in, tallied_times};
+ghost use Rattle.nvme_numbers.specs.Told.{latencies_at, latencies_if, latencies_in, tallied_times};
 
 use crate::numbers::{Numbers, QueueTally};
 use nvme_arbiter::Class;
@@ -30,6 +30,20 @@ fn union_of(alloc: Global, queues: &[QueueTally], class: Class) -> Result<Latenc
     Ok(union)
 }
 
+// The latencies of the queue at a place. There is none where there is no queue.
+fn latencies_at(alloc: Global, queues: &[QueueTally], place: usize) -> Result<Latencies, AllocError>
+    ensures { IfOk result (λ latencies. times_of latencies ≡ latencies_if (slice_get queues.now place)) }
+{
+    let mut latencies = Latencies::new(alloc);
+    match queues.get(place) {
+        Some(queue) => {
+            latencies.join(&queue.tally.latencies)?;
+            Ok(latencies)
+        }
+        None => Ok(latencies),
+    }
+}
+
 impl Numbers {
     ghost use Rattle.nvme_numbers.specs.Collected.{queues_of};
 
@@ -43,13 +57,13 @@ impl Numbers {
 
     /// The latencies of the commands of the queue of this number so far, from the shortest to the longest. There is none of
     /// a queue that the model doesn't have.
-    pub fn of_queue(&self, number: usize) -> Result<Ranked, AllocError> {
-        let mut latencies = Latencies::new(self.alloc);
-        if let Some(at) = number.checked_sub(1)
-            && let Some(queue) = self.queues.get(at)
-        {
-            latencies.join(&queue.tally.latencies)?;
-        }
+    pub fn of_queue(&self, number: usize) -> Result<Ranked, AllocError>
+        ensures { IfOk result (λ ranked. IsPermutation (latencies_at number (queues_of self.now)) (ranked_times ranked)) }
+    {
+        let Some(place) = number.checked_sub(1) else {
+            return Ok(Latencies::new(self.alloc).ranked());
+        };
+        let latencies = latencies_at(self.alloc, &self.queues, place)?;
         Ok(latencies.ranked())
     }
 }

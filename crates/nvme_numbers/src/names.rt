@@ -1,10 +1,15 @@
 // The names of classes, mechanisms and operations, and of settings.
+ghost use Rattle.std.specs.Prelude.{◌≡◌};
+ghost use Rattle.nvme_numbers.specs.Names.{class_text, mechanism_text, operation_text};
+
 use nvme_arbiter::{Class, Mechanism, Settings};
 use nvme_load::Operation;
 use std::fmt;
 
 /// The name of a class.
-pub fn class_name(class: Class) -> &'static str {
+pub fn class_name(class: Class) -> &'static str
+    ensures { result.now ≡ class_text class }
+{
     match class {
         Class::Admin => "admin",
         Class::Urgent => "urgent",
@@ -15,7 +20,9 @@ pub fn class_name(class: Class) -> &'static str {
 }
 
 /// The name of a mechanism.
-pub fn mechanism_name(mechanism: Mechanism) -> &'static str {
+pub fn mechanism_name(mechanism: Mechanism) -> &'static str
+    ensures { result.now ≡ mechanism_text mechanism }
+{
     match mechanism {
         Mechanism::RoundRobin => "round-robin",
         Mechanism::Weighted => "weighted",
@@ -23,7 +30,9 @@ pub fn mechanism_name(mechanism: Mechanism) -> &'static str {
 }
 
 /// The name of an operation.
-pub fn operation_name(operation: Operation) -> &'static str {
+pub fn operation_name(operation: Operation) -> &'static str
+    ensures { result.now ≡ operation_text operation }
+{
     match operation {
         Operation::Read => "read",
         Operation::Write => "write",

@@ -1,6 +1,6 @@
 -- The commands of queues together. (profile)
-use Rattle.std.specs.Prelude.{◌≡◌, ◌<◌, ℕ, if◌then◌else◌, IsPermutation, List, [], Option, Some, length, slice_index_or}
-use Rattle.std.specs.List.{flat_map, fold}
+use Rattle.std.specs.Prelude.{◌≡◌, ◌<◌, ℕ, Bool, if◌then◌else◌, All, IsPermutation, List, [], Option, Some, filter, length, map, slice_index_or}
+use Rattle.std.specs.List.{flat_map, fold, list_any}
 use Rattle.nvme_arbiter.specs.declared.settings.Class.{Class}
 use Rattle.nvme_latency.specs.Times.{ranked_times, times_of}
 use Rattle.nvme_numbers.specs.Sums.{no_sums, sums_plus}
@@ -38,6 +38,15 @@ IsUnionRow span whole class queues row = IsRow span whole (all_times class queue
 
 abbrev pub IsClassRow : (span whole : ℕ) → List RankedQueue → Member → Type 0
 IsClassRow span whole queues m = IsUnionRow span whole (Some m.class) queues m.row
+
+-- a class has a queue
+abbrev pub has_ranked : List RankedQueue → Class → Bool
+has_ranked queues class = list_any (λ q. is_of (Some class) q.class) queues
+
+-- a row for each of some classes that has one
+pub record AreClassRows (span whole : ℕ) (queues : List RankedQueue) (classes : List Class) (rows : List Member) : Type 0 where
+  pub of_each : map (λ m. m.class) rows ≡ filter (has_ranked queues) classes
+  pub each : All (IsClassRow span whole queues) rows
 
 -- queues whose latencies are ranked
 pub record IsRanked (q : QueueTally) (r : RankedQueue) : Type 0 where

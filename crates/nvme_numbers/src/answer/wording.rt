@@ -1,4 +1,7 @@
 // Numbers as texts and in JSON.
+ghost use Rattle.std.specs.Prelude.{◌≡◌};
+ghost use Rattle.nvme_numbers.specs.Texts.{micros_of};
+
 use std::io::{self, Write};
 
 /// A time in microseconds with three digits behind the point, rounded.
@@ -9,7 +12,9 @@ pub struct Micros {
 }
 
 /// A time in picoseconds as microseconds.
-pub fn micros_of(time: u128) -> Micros {
+pub fn micros_of(time: u128) -> Micros
+    ensures { result ≡ micros_of time }
+{
     let nanos = time / 1_000 + (time % 1_000 + 500) / 1_000;
     Micros {
         whole: nanos / 1_000,

@@ -1,6 +1,6 @@
-use Rattle.std.proofs.Common.{◌≡◌, All, List, None, subst, rules}
-use Rattle.nvme_numbers.specs.Told.{span_of}
-use Rattle.nvme_numbers.specs.inside.Unions.{AreRows, IsClassRow, IsUnionRow}
+use Rattle.std.proofs.Common.{◌≡◌, List, None, subst, rules}
+use Rattle.nvme_numbers.specs.Told.{all_classes, span_of}
+use Rattle.nvme_numbers.specs.inside.Unions.{AreClassRows, AreRows, IsUnionRow}
 use Rattle.nvme_numbers.specs.declared.answer.RankedQueue.{RankedQueue}
 use Rattle.nvme_numbers.proofs.Ranks.{told}
 use Rattle.nvme_numbers.proofs.numbers.Numbers.answer.Goals as goal
@@ -15,8 +15,8 @@ returns-clause-told c =
     let time : span ≡ span_of c.args.self c.args.end = search rules in
     let one : IsUnionRow span all.commands None c.deref.result.now all = c.in_ok-all.ensures in
     let each : AreRows span all.commands c.deref-2.result.now rows = c.in_ok-rows.ensures in
-    let some : All (IsClassRow span all.commands c.deref-3.result.now) classes = c.in_ok-class_rows.ensures in
+    let some : AreClassRows span all.commands c.deref-3.result.now all_classes classes = c.in_ok-class_rows.ensures in
     told c.args.self c.args.end span ranked rows classes all time c.in_ok-ranked.ensures
     (subst (λ (v : List RankedQueue). IsUnionRow span all.commands None v all) c.deref.ensures.value one)
     (subst (λ (v : List RankedQueue). AreRows span all.commands v rows) c.deref-2.ensures.value each)
-    (subst (λ (v : List RankedQueue). All (IsClassRow span all.commands v) classes) c.deref-3.ensures.value some)
+    (subst (λ (v : List RankedQueue). AreClassRows span all.commands v all_classes classes) c.deref-3.ensures.value some)

@@ -1,0 +1,26 @@
+-- Numbers and lines as texts. (profile)
+use Rattle.std.specs.Prelude.{ℕ, ◌/◌, ◌%◌, ◌++◌, List, [], ◌∷◌, codes, decimal}
+use Rattle.nvme_model.specs.declared.finished.Finished.{Finished}
+use Rattle.nvme_numbers.specs.Names.{operation_text}
+use Rattle.nvme_numbers.specs.Quotients.{rounded}
+use Rattle.nvme_numbers.specs.declared.answer.wording.Micros.{Micros}
+
+-- picoseconds as microseconds, rounded to the nearest nanosecond, and half of one up
+abbrev pub micros_of : ℕ → Micros
+micros_of time = record { whole = rounded time 1_000 / 1_000; part = rounded time 1_000 % 1_000 }
+
+-- cells with commas between them
+abbrev pub cells_behind : List (List ℕ) → List ℕ
+cells_behind [] = []
+cells_behind (cell ∷ cells) = codes "," ++ (cell ++ cells_behind cells)
+
+abbrev pub cells_of : List (List ℕ) → List ℕ
+cells_of [] = []
+cells_of (cell ∷ cells) = cell ++ cells_behind cells
+
+-- the line of a command in the log
+abbrev pub log_text : Finished → List ℕ
+log_text f =
+    cells_of (decimal f.queue ∷ decimal f.number ∷ operation_text f.operation ∷ decimal f.block ∷ decimal f.blocks ∷ decimal f.channel
+    ∷ decimal f.times.came ∷ decimal f.times.submitted ∷ decimal f.times.picked ∷ decimal f.times.started ∷ decimal f.times.done ∷ [])
+    ++ codes "\n"
