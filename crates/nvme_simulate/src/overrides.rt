@@ -1,7 +1,8 @@
 // What a command line says in place of a simulation file.
-ghost use Rattle.std.specs.Prelude.{◌≡◌, ◌⊎◌, ◌↔◌, ℕ, None, Some, IfErr, IfOk, IfSome, IsErrOf, IsOk, OnSome, map, unwrap_or};
+ghost use Rattle.std.specs.Prelude.{◌≡◌, ◌⊎◌, ◌↔◌, ℕ, None, Some, IfErr, IfOk, IfSome, IsErrOf, IsOk, OnSome, map, option_map, unwrap_or};
 ghost use Rattle.nvme_model_form.specs.Views.{asking_of, running_of};
 ghost use Rattle.nvme_simulate.specs.Loads.{offered_in};
+ghost use Rattle.nvme_simulate.specs.Chosen.{IsEndOf, IsLoadOf, TellsOverrideFault};
 ghost use Rattle.nvme_simulate.specs.Scaling.{AreScaled, IsLongGapOf, fine_parts, offered_of, target_of};
 
 use crate::scaling::scaled;
@@ -42,7 +43,10 @@ pub struct Overrides {
 }
 
 // The end that options say: after so many commands, or at a time.
-fn end_of(commands: Option<u64>, time: Option<&str>) -> Result<Option<End>, OverrideFault> {
+fn end_of(commands: Option<u64>, time: Option<&str>) -> Result<Option<End>, OverrideFault>
+    ensures ok { IfOk result (IsEndOf commands (option_map (λ t. t.now) time.entry)) }
+    ensures err { IfErr result (TellsOverrideFault commands (option_map (λ t. t.now) time.entry) None) }
+{
     match (commands, time) {
         (None, None) => Ok(None),
         (Some(commands), None) => match End::after(commands) {
@@ -58,7 +62,10 @@ fn end_of(commands: Option<u64>, time: Option<&str>) -> Result<Option<End>, Over
 }
 
 // The load that an option says.
-fn load_of(load: Option<&str>) -> Result<Option<Load>, OverrideFault> {
+fn load_of(load: Option<&str>) -> Result<Option<Load>, OverrideFault>
+    ensures ok { IfOk result (IsLoadOf (option_map (λ t. t.now) load.entry)) }
+    ensures err { IfErr result (TellsOverrideFault None None (option_map (λ t. t.now) load.entry)) }
+{
     let Some(text) = load else {
         return Ok(None);
     };
@@ -116,7 +123,10 @@ impl Overrides {
         load: Option<&str>,
     ) -> Result<Overrides, OverrideFault>
         ensures seed { IfOk result (λ o. o.seed ≡ seed) }
+        ensures end { IfOk result (λ o. IsEndOf commands (option_map (λ t. t.now) time.entry) o.end) }
         ensures warm_up { IfOk result (λ o. o.warm_up ≡ warm_up) }
+        ensures load { IfOk result (λ o. IsLoadOf (option_map (λ t. t.now) load.entry) o.load) }
+        ensures err { IfErr result (TellsOverrideFault commands (option_map (λ t. t.now) time.entry) (option_map (λ t. t.now) load.entry)) }
     {
         let end = end_of(commands, time)?;
         let load = load_of(load)?;

@@ -1,5 +1,6 @@
 // The load that a command line asks for.
-ghost use Rattle.std.specs.Prelude.{◌≤◌, ◌<◌};
+ghost use Rattle.std.specs.Prelude.{◌≡◌, ◌≤◌, ◌<◌, ◌+◌, ◌*◌, IfErr, IfOk, Err, Ok, Some, length, option_map};
+ghost use Rattle.nvme_simulate.specs.Options.{around_point, cut_off_64, millionths_in, number_in, unit_behind, units_of};
 ghost use Rattle.nvme_simulate.specs.declared.target.TheConstants.{MAX_LOAD};
 
 use std::fmt;
@@ -46,8 +47,17 @@ pub struct Load {
     ghost at_most: { millionths ≤ MAX_LOAD },
 }
 
+// What a number becomes with one digit more behind it, or the greatest one where that doesn't fit.
+fn with_digit(number: u64, digit: u64) -> u64
+    ensures { result ≡ cut_off_64 (number * 10 + digit) }
+{
+    number.saturating_mul(10).saturating_add(digit)
+}
+
 // The number that digits say, or the greatest one where it doesn't fit. `None` where there is no digit, or another byte.
-fn number_in(digits: &[u8]) -> Option<u64> {
+fn number_in(digits: &[u8]) -> Option<u64>
+    ensures { result ≡ number_in digits.now }
+{
     if digits.is_empty() {
         return None;
     }
@@ -56,32 +66,60 @@ fn number_in(digits: &[u8]) -> Option<u64> {
         if !digit.is_ascii_digit() {
             return None;
         }
-        number = number
-            .saturating_mul(10)
-            .saturating_add(u64::from(*digit - b'0'));
+        number = with_digit(number, u64::from(*digit - b'0'));
     }
     Some(number)
 }
 
+// What the last of so many digits behind a point counts, in millionths. `None` of none, and of more than six.
+fn unit_behind(count: usize) -> Option<u64>
+    ensures { result ≡ unit_behind count }
+{
+    match count {
+        1 => Some(100_000),
+        2 => Some(10_000),
+        3 => Some(1_000),
+        4 => Some(100),
+        5 => Some(10),
+        6 => Some(1),
+        _ => None,
+    }
+}
+
+// So many of a unit as digits say, or the greatest number where that doesn't fit.
+fn units_in(digits: &[u8], unit: u64) -> Option<u64>
+    ensures { result ≡ units_of (number_in digits.now) (Some unit) }
+{
+    let number = number_in(digits)?;
+    Some(number.saturating_mul(unit))
+}
+
 // The millionths that digits behind a point say.
-fn part_in(digits: &[u8]) -> Option<u64> {
-    let mut millionths = number_in(digits)?;
-    if digits.len() > DIGITS {
-        return None;
-    }
-    for _ in digits.len()..DIGITS {
-        millionths = millionths.saturating_mul(10);
-    }
-    Some(millionths)
+fn part_in(digits: &[u8]) -> Option<u64>
+    ensures { result ≡ units_of (number_in digits.now) (unit_behind (length digits.now)) }
+{
+    let number = number_in(digits)?;
+    let unit = unit_behind(digits.len())?;
+    Some(number.saturating_mul(unit))
+}
+
+// The two parts of a text around its first point.
+fn around_point(text: &str) -> Option<(&str, &str)>
+    ensures { option_map (λ parts. (parts.0.now, parts.1.now)) result ≡ around_point text.now }
+{
+    text.split_once('.')
 }
 
 // The millionths that a text says.
-fn millionths_in(text: &str) -> Option<u64> {
-    let Some((whole, part)) = text.split_once('.') else {
-        return Some(number_in(text.as_bytes())?.saturating_mul(MILLION));
+fn millionths_in(text: &str) -> Option<u64>
+    ensures { result ≡ millionths_in text.now }
+{
+    let Some((before, behind)) = around_point(text) else {
+        return units_in(text.as_bytes(), MILLION);
     };
-    let whole = number_in(whole.as_bytes())?.saturating_mul(MILLION);
-    Some(whole.saturating_add(part_in(part.as_bytes())?))
+    let whole = units_in(before.as_bytes(), MILLION)?;
+    let part = part_in(behind.as_bytes())?;
+    Some(whole.saturating_add(part))
 }
 
 impl fmt::Display for Load {
@@ -103,8 +141,13 @@ impl fmt::Display for Load {
 }
 
 impl Load {
+    ghost use Rattle.nvme_simulate.specs.Options.{load_in};
+
     /// The load that a text says, as `0.7`: digits, or digits, a point and one to six digits. It is above 0 and at most 4.
-    pub fn new(text: &str) -> Result<Load, LoadFault> {
+    pub fn new(text: &str) -> Result<Load, LoadFault>
+        ensures ok { IfOk result (λ load. load_in text.now ≡ Ok load.millionths) }
+        ensures err { IfErr result (λ e. load_in text.now ≡ Err e) }
+    {
         let Some(millionths) = millionths_in(text) else {
             return Err(LoadFault::Digits);
         };
