@@ -1,4 +1,7 @@
 // What fields say.
+ghost use Rattle.std.specs.Prelude.{◌≡◌, ◌<◌, ◌+◌, ◌*◌, ◌^◌, SomeIff};
+ghost use Rattle.nvme_replay.specs.Texts.{number_in};
+
 use crate::fault::LineFault;
 use nvme_load::{MAX_BLOCKS, Operation};
 
@@ -23,23 +26,32 @@ pub(crate) struct Ordered {
     pub(crate) line: u64,
 }
 
-/// What a digit counts.
-pub(crate) fn digit_in(byte: u8) -> Option<u64> {
-    if byte.is_ascii_digit() {
-        Some(u64::from(byte - b'0'))
-    } else {
-        None
-    }
+/// What a number becomes with one digit more behind it, where that is below 2^64.
+pub(crate) fn with_digit(number: u64, digit: u64) -> Option<u64>
+    ensures { SomeIff result (number * 10 + digit < 2 ^ 64) (number * 10 + digit) }
+{
+    let Some(tenfold) = number.checked_mul(10) else {
+        return None;
+    };
+    tenfold.checked_add(digit)
 }
 
 /// The number that digits write, where there are any and it is below 2^64.
-pub(crate) fn number_in(digits: &[u8]) -> Option<u64> {
+pub(crate) fn number_in(digits: &[u8]) -> Option<u64>
+    ensures { result ≡ number_in digits.now }
+{
     if digits.is_empty() {
         return None;
     }
     let mut number: u64 = 0;
-    for byte in digits {
-        number = number.checked_mul(10)?.checked_add(digit_in(*byte)?)?;
+    for digit in digits {
+        if !digit.is_ascii_digit() {
+            return None;
+        }
+        let Some(next) = with_digit(number, u64::from(*digit - b'0')) else {
+            return None;
+        };
+        number = next;
     }
     Some(number)
 }

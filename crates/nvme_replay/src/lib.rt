@@ -6,6 +6,7 @@ mod fault;
 mod fields;
 mod fio;
 mod form;
+pub mod laws;
 mod list;
 mod log;
 mod records;

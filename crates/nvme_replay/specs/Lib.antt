@@ -1,0 +1,5 @@
+pub mod Examples
+pub mod Fractions
+pub mod Lists
+pub mod Speeds
+pub mod Texts
