@@ -17,7 +17,8 @@ use Rattle.nvme_audit.specs.declared.verdict.Rule.{Rule}
 use Rattle.nvme_audit.specs.declared.verdict.Rule.TheVariants.{FetchBeyondTail, FetchSlot}
 use Rattle.nvme_audit.specs.Lives.{Past, asked, turns_sq, done}
 use Rattle.nvme_audit.specs.Rings.{slots_of, number_of}
-use Rattle.nvme_audit.specs.Turns.{mark_of}
+use Rattle.nvme_audit.specs.Aborts.{was_named}
+use Rattle.nvme_audit.specs.Marks.{mark_of, owes}
 use Rattle.nvme_audit.specs.Host.{is_kept, is_sq_excused, is_cq_excused, tail_verdict, head_verdict}
 use Rattle.nvme_audit.specs.Facts.{sq_after, cq_after, outstanding}
 use Rattle.nvme_audit.specs.Rules.{is_other, fetch_rules, fetch_verdict, name_rules, name_verdict, if_kept, post_verdict}
@@ -54,7 +55,7 @@ not_excused false v e h = h
 -- a fetch finds its identifier free
 fetch_free : (start : Start) (past : Past) (sq cid : ℕ) (slot : Option ℕ) → is_sq_excused start past sq ≡ false → fetch_verdict start.tells (sq_after start past sq) slot (is_some (outstanding past sq cid)) ≡ Kept → is_some (asked past sq cid) ≡ false
 fetch_free start past sq cid slot e h =
-    sym (same_out (asked past sq cid) (number_of past sq cid) (mark_of past sq cid)) ∙ rules_free start.tells (sq_after start past sq) _ slot _ (not_excused _ _ e h)
+    sym (same_out (asked past sq cid) (number_of past sq cid) (mark_of past sq cid) (was_named past sq cid) (owes past sq cid)) ∙ rules_free start.tells (sq_after start past sq) _ slot _ (not_excused _ _ e h)
 
 or_false : (a b : Bool) → a ≡ false → b ≡ false → (a || b) ≡ false
 or_false true b g h = cc
@@ -105,7 +106,7 @@ verdict_named tells cqid sq out head posts e h = rules_named cqid sq sq.ring out
 answers : (start : Start) (past : Past) (cq : ℕ) (slot : Option ℕ) (completion : Completion) → start.tells.posts ≡ true → IsFaultlessLog start past
     → post_verdict start.tells cq (cq_after start past cq) (sq_after start past completion.sq) (outstanding past completion.sq completion.cid) slot completion ≡ Kept → is_some (asked past completion.sq completion.cid) ≡ true
 answers start past cq slot completion posts log h =
-    sym (same_out (asked past completion.sq completion.cid) (number_of past completion.sq completion.cid) (mark_of past completion.sq completion.cid))
+    sym (same_out (asked past completion.sq completion.cid) (number_of past completion.sq completion.cid) (mark_of past completion.sq completion.cid) (was_named past completion.sq completion.cid) (owes past completion.sq completion.cid))
     ∙ verdict_named start.tells cq (sq_after start past completion.sq) _ _ posts (none_excused start past log completion.sq).0 (both_kept _ _ (not_excused _ _ (none_excused start past log cq).1 h))
 
 -- ---- counts

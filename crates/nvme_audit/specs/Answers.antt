@@ -1,6 +1,7 @@
 -- What the controller owes by the status of a completion: it is true of some moment between the fetch of the command and its
 -- completion. Of two faults either may be told. (Base Specification, Create and Delete I/O Submission Queue, Create and Delete I/O
--- Completion Queue, Command Specific Status Values, Command Aborted due to SQ Deletion, Number of Queues; all by memory)
+-- Completion Queue, Command Specific Status Values, Command Aborted due to SQ Deletion, Number of Queues, Abort, Command Abort
+-- Requested; all by memory)
 use Rattle.std.specs.Prelude.{ℕ, ◌+◌, ◌/◌, ◌%◌, ◌==◌, ◌&&◌, ◌||◌, nat_le, nat_lt, Bool, true, false, not, is_none, is_some, Option, Some, None, if◌then◌else◌}
 use Rattle.nvme_entry.specs.Status.{StatusCode}
 use Rattle.nvme_entry.specs.declared.admin.AdminCommand.{AdminCommand}
@@ -16,6 +17,7 @@ use Rattle.nvme_audit.specs.declared.verdict.Verdict.TheVariants.{Kept, Broken}
 use Rattle.nvme_audit.specs.declared.verdict.Rule.TheVariants as rule
 use Rattle.nvme_audit.specs.Lives.{is_success}
 use Rattle.nvme_audit.specs.Turns.{number_of_queues, answered_by}
+use Rattle.nvme_audit.specs.Aborts.{is_abort, is_aborted, told_of}
 
 -- ---- statuses of other commands (Command Specific Status Values; C0h to FFh are the vendor's)
 abbrev pub has_specific : AdminCommand → ℕ → Bool
@@ -53,40 +55,19 @@ abbrev pub is_cq_within : Option ℕ → ℕ → Bool
 is_cq_within None qid = false
 is_cq_within (Some numbers) qid = is_within (numbers / 0x10000) qid
 
--- the submission queue and the completion queue that a command names
-abbrev pub sq_named : AdminCommand → ℕ
-sq_named (DeleteSq qid) = qid
-sq_named (CreateSq qid qsize prp1 cqid qprio pc) = qid
-sq_named (DeleteCq qid) = 0
-sq_named (CreateCq qid qsize prp1 pc) = 0
-sq_named (Abort sqid cid) = 0
-sq_named (SetFeatures fid sv cdw11) = 0
-sq_named (GetFeatures fid) = 0
-sq_named Other = 0
-
-abbrev pub cq_named : AdminCommand → ℕ
-cq_named (DeleteSq qid) = 0
-cq_named (CreateSq qid qsize prp1 cqid qprio pc) = cqid
-cq_named (DeleteCq qid) = qid
-cq_named (CreateCq qid qsize prp1 pc) = qid
-cq_named (Abort sqid cid) = 0
-cq_named (SetFeatures fid sv cdw11) = 0
-cq_named (GetFeatures fid) = 0
-cq_named Other = 0
-
 -- ---- statuses that aren't true
 -- Create I/O Submission Queue. An identifier is free (Queue Identifier), a queue has two slots at least (Queue Size), and its completion
 -- queue is open (Completion Queue Identifier; what is said of CQID 0 isn't judged)
 abbrev pub is_untrue_of_create_sq : Sq → Cq → Option ℕ → (mark qid qsize cqid : ℕ) → StatusCode → Bool
 is_untrue_of_create_sq sq cq numbers mark qid qsize cqid status =
-    if is_success status then (qid == 0) || is_some sq.ring || (qsize == 0) || (is_settled cq.asked mark && is_none cq.qsize)
+    if is_success status then is_some sq.ring || (qsize == 0) || (is_settled cq.asked mark && is_none cq.qsize)
     else if is_specific status 0x00 then not (cqid == 0) && is_settled cq.asked mark && is_some cq.qsize
     else is_specific status 0x01 && is_sq_within numbers qid && is_none sq.ring && is_cq_within numbers cqid
 
 -- Create I/O Completion Queue
 abbrev pub is_untrue_of_create_cq : Cq → Option ℕ → (qid qsize : ℕ) → StatusCode → Bool
 is_untrue_of_create_cq cq numbers qid qsize status =
-    if is_success status then (qid == 0) || is_some cq.qsize || (qsize == 0)
+    if is_success status then is_some cq.qsize || (qsize == 0)
     else is_specific status 0x01 && is_cq_within numbers qid && is_none cq.qsize
 
 -- Delete I/O Submission Queue
@@ -153,10 +134,26 @@ mark_in (Some command) = command.mark
 abbrev pub answered_in : Option Command → Completion → AdminCommand
 answered_in command completion = answered_by (command_in command) completion
 
--- what is judged of a completion by its name is judged by its status: `sq` is its submission queue, `own` and `other` are the queues that
--- its command names
-abbrev pub answer_verdict : Tells → (cq own_cq : Cq) → (sq own_sq : Sq) → Admin → Option Command → Completion → Verdict
-answer_verdict tells cq own_cq sq own_sq admin command completion =
+-- Command Abort Requested: an Abort named the command. And a command that an Abort says was aborted ends so
+abbrev pub is_unnamed : Option Command → StatusCode → Bool
+is_unnamed None status = false
+is_unnamed (Some command) status = is_aborted status && not command.named
+
+abbrev pub is_not_as_told : Option Command → StatusCode → Bool
+is_not_as_told None status = false
+is_not_as_told (Some command) status = command.owed && not (is_aborted status)
+
+-- an Abort says that it aborted a command, and there is none: `sq` and `target` are the queue and the command that it names
+abbrev pub is_untrue_abort : Tells → Sq → Option Command → ℕ → Completion → AdminCommand → Bool
+is_untrue_abort tells sq target mark completion command =
+    is_abort command && is_none target && told_of sq.stirred mark completion && not (sq.excused || (not tells.posts && sq.deleted))
+
+-- what is judged of a completion by its name is judged by its status: `sq` is its submission queue, `own_cq`, `own_sq` and `target` are
+-- what its command names
+abbrev pub answer_verdict : Tells → (cq own_cq : Cq) → (sq own_sq : Sq) → Admin → (command target : Option Command) → Completion → Verdict
+answer_verdict tells cq own_cq sq own_sq admin command target completion =
     if cq.excused || (sq.excused || (not tells.posts && sq.deleted)) then Kept
     else if is_undoomed sq completion.status then Broken rule.SqdelUnasked
+    else if is_unnamed command completion.status then Broken rule.AbortUnasked
+    else if is_not_as_told command completion.status || is_untrue_abort tells own_sq target (mark_in command) completion (answered_in command completion) then Broken rule.AbortUntrue
     else own_rules own_sq own_cq admin (mark_in command) completion (answered_in command completion)

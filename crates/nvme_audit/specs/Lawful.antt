@@ -10,7 +10,8 @@ use Rattle.nvme_audit.specs.Lives.{Past}
 use Rattle.nvme_audit.specs.Host.{tail_verdict, head_verdict}
 use Rattle.nvme_audit.specs.Facts.{sq_after, cq_after, admin_after, outstanding}
 use Rattle.nvme_audit.specs.Rules.{fetch_verdict, if_kept, post_verdict}
-use Rattle.nvme_audit.specs.Answers.{sq_named, cq_named, answered_in, answer_verdict}
+use Rattle.nvme_audit.specs.Turns.{sq_named, cq_named, cid_named}
+use Rattle.nvme_audit.specs.Answers.{answered_in, answer_verdict}
 
 abbrev pub verdict : Start → Past → Event → Verdict
 verdict start past (Tail sq slot) = tail_verdict (sq_after start past sq) slot
@@ -27,6 +28,7 @@ verdict start past (Post cq slot completion) =
     (sq_after start past (sq_named (answered_in (outstanding past completion.sq completion.cid) completion)))
     (admin_after past)
     (outstanding past completion.sq completion.cid)
+    (outstanding past (sq_named (answered_in (outstanding past completion.sq completion.cid) completion)) (cid_named (answered_in (outstanding past completion.sq completion.cid) completion)))
     completion)
 
 abbrev pub is_broken : Verdict → Bool

@@ -2,6 +2,8 @@ pub mod Lives
 pub mod Queues
 pub mod Rings
 pub mod Turns
+pub mod Aborts
+pub mod Marks
 pub mod Host
 pub mod Facts
 pub mod Rules

@@ -89,6 +89,7 @@ creates =
     ∷ answered_with bad_identifier numbered_and_opened (create_sq 16 1 33) Kept
     ∷ answered_with bad_identifier numbered_and_opened (create_sq 16 1 0) Kept
     ∷ answered_with (code 0 0x02) opened (create_sq 2 1 1) Kept
+    ∷ answered_with (code 2 0x00) opened (create_sq 2 1 1) Kept
     ∷ []
 
 abbrev pub deletes : List Case
@@ -175,6 +176,62 @@ deletions =
     ∷ after (Fetch 1 None 3 (DeleteSq 1) ∷ read ∷ opened) (reply_with None 1 7 by_deletion) (Broken rule.SqdelUnasked)
     ∷ []
 
+-- ---- Aborts
+abbrev pub aborted : StatusCode
+aborted = code 0 0x07
+
+-- command 7 of queue 1 ends
+abbrev pub ends : StatusCode → Event
+ends status = reply_with None 1 7 status
+
+-- an Abort that says that it aborted a command
+abbrev pub says_so : ℕ → Event
+says_so cid = reply_with (Some 0) 0 cid success
+
+abbrev pub opened_anew : Past
+opened_anew = reply 6 success ∷ ask 6 (create_sq 1 1 1) ∷ reply 5 success ∷ ask 5 (DeleteSq 1) ∷ opened
+
+abbrev pub unasked_aborts : List Case
+unasked_aborts =
+    after (read ∷ opened) (ends aborted) (Broken rule.AbortUnasked)
+    ∷ after (ask 3 (Abort 1 7) ∷ read ∷ opened) (ends aborted) Kept
+    ∷ after (ask 3 (Abort 1 8) ∷ read ∷ opened) (ends aborted) (Broken rule.AbortUnasked)
+    ∷ after (ask 3 (Abort 2 7) ∷ read ∷ opened) (ends aborted) (Broken rule.AbortUnasked)
+    ∷ after (Fetch 1 None 3 (Abort 1 7) ∷ read ∷ opened) (ends aborted) (Broken rule.AbortUnasked)
+    ∷ after (reply 3 success ∷ ask 3 (Abort 1 7) ∷ read ∷ opened) (ends aborted) Kept
+    -- it may meet a command that is fetched after it
+    ∷ after (read ∷ ask 3 (Abort 1 7) ∷ opened) (ends aborted) Kept
+    ∷ after (read ∷ reply 3 success ∷ ask 3 (Abort 1 7) ∷ opened) (ends aborted) (Broken rule.AbortUnasked)
+    ∷ after (read ∷ opened_anew) (ends aborted) (Broken rule.AbortUnasked)
+    ∷ []
+
+abbrev pub untrue_aborts : List Case
+untrue_aborts =
+    -- the command is there, and ends otherwise
+    after (ask 3 (Abort 1 7) ∷ read ∷ opened) (says_so 3) Kept
+    ∷ after (says_so 3 ∷ ask 3 (Abort 1 7) ∷ read ∷ opened) (ends aborted) Kept
+    ∷ after (says_so 3 ∷ ask 3 (Abort 1 7) ∷ read ∷ opened) (ends success) (Broken rule.AbortUntrue)
+    ∷ after (reply_with (Some 1) 0 3 success ∷ ask 3 (Abort 1 7) ∷ read ∷ opened) (ends success) Kept
+    ∷ after (reply_with (Some 0) 0 3 (code 1 0x03) ∷ ask 3 (Abort 1 7) ∷ read ∷ opened) (ends success) Kept
+    ∷ after (read ∷ ends aborted ∷ says_so 3 ∷ ask 3 (Abort 1 7) ∷ read ∷ opened) (ends success) Kept
+    -- there is none
+    ∷ after (ask 3 (Abort 1 7) ∷ opened) (says_so 3) (Broken rule.AbortUntrue)
+    ∷ after (ask 3 (Abort 1 8) ∷ read ∷ opened) (says_so 3) (Broken rule.AbortUntrue)
+    ∷ after (ask 3 (Abort 2 7) ∷ read ∷ opened) (says_so 3) (Broken rule.AbortUntrue)
+    ∷ after (ask 3 (Abort 1 7) ∷ opened) (reply_with (Some 2) 0 3 success) (Broken rule.AbortUntrue)
+    ∷ after (ask 3 (Abort 1 7) ∷ opened) (reply_with (Some 1) 0 3 success) Kept
+    ∷ after (ask 3 (Abort 1 7) ∷ opened) (reply 3 success) Kept
+    ∷ after (ask 3 (create_cq 2 1) ∷ opened) (says_so 3) Kept
+    ∷ after (ask 3 (Abort 1 7) ∷ Tail 1 9 ∷ opened) (says_so 3) Kept
+    ∷ after (ask 3 (Abort 1 7) ∷ opened_anew) (says_so 3) (Broken rule.AbortUntrue)
+    -- it ended in the time of the Abort
+    ∷ after (ends aborted ∷ ask 3 (Abort 1 7) ∷ read ∷ opened) (says_so 3) Kept
+    ∷ after (ends success ∷ ask 3 (Abort 1 7) ∷ read ∷ opened) (says_so 3) (Broken rule.AbortUntrue)
+    ∷ after (ask 3 (Abort 1 7) ∷ ends aborted ∷ ask 4 (Abort 1 7) ∷ read ∷ opened) (says_so 3) (Broken rule.AbortUntrue)
+    ∷ after (says_so 3 ∷ read ∷ ends aborted ∷ ask 3 (Abort 1 7) ∷ read ∷ opened) (ends success) Kept
+    ∷ after (reply 4 success ∷ ask 4 (DeleteSq 1) ∷ ask 3 (Abort 1 7) ∷ read ∷ opened) (says_so 3) Kept
+    ∷ []
+
 abbrev pub set_numbers : AdminCommand
 set_numbers = SetFeatures 0x07 false 0
 
@@ -207,4 +264,8 @@ abbrev pub late_statuses : List Case
 late_statuses =
     after (read ∷ opened) (reply_with None 1 7 by_deletion) (Broken rule.SqdelUnasked)
     ∷ answered_with success opened (create_cq 0 1) (Broken rule.StatusCreate)
+    ∷ after (read ∷ opened) (ends aborted) (Broken rule.AbortUnasked)
+    ∷ after (read ∷ opened_anew) (ends aborted) Kept
+    ∷ after (ask 3 (Abort 1 7) ∷ opened) (says_so 3) (Broken rule.AbortUntrue)
+    ∷ after (ask 3 (Abort 1 7) ∷ opened_anew) (says_so 3) Kept
     ∷ []

@@ -1,6 +1,6 @@
 -- Creates and Deletes of queues: how many were fetched and how many of them are answered, and what depends on them.
 -- (Base Specification, Create and Delete I/O Submission Queue, Create and Delete I/O Completion Queue, Number of Queues)
-use Rattle.std.specs.Prelude.{ℕ, ◌+◌, ◌==◌, ◌&&◌, ◌||◌, nat_lt, Bool, true, false, [], ◌∷◌, Option, Some, None, if◌then◌else◌}
+use Rattle.std.specs.Prelude.{ℕ, ◌+◌, ◌==◌, ◌||◌, nat_lt, Bool, true, false, [], ◌∷◌, Option, Some, None, if◌then◌else◌}
 use Rattle.nvme_entry.specs.declared.admin.AdminCommand.{AdminCommand}
 use Rattle.nvme_entry.specs.declared.admin.AdminCommand.TheVariants.{DeleteSq, CreateSq, DeleteCq, CreateCq, Abort, SetFeatures, GetFeatures, Other}
 use Rattle.nvme_audit.specs.declared.event.Event.TheVariants.{Tail, Head, Fetch, Post}
@@ -21,6 +21,38 @@ answered_by (Some command) completion = if completion.sq == 0 then command else 
 
 abbrev pub answered : Past → Completion → AdminCommand
 answered past completion = answered_by (asked past 0 completion.cid) completion
+
+-- the submission queue and the completion queue that a command names
+abbrev pub sq_named : AdminCommand → ℕ
+sq_named (DeleteSq qid) = qid
+sq_named (CreateSq qid qsize prp1 cqid qprio pc) = qid
+sq_named (DeleteCq qid) = 0
+sq_named (CreateCq qid qsize prp1 pc) = 0
+sq_named (Abort sqid cid) = sqid
+sq_named (SetFeatures fid sv cdw11) = 0
+sq_named (GetFeatures fid) = 0
+sq_named Other = 0
+
+abbrev pub cq_named : AdminCommand → ℕ
+cq_named (DeleteSq qid) = 0
+cq_named (CreateSq qid qsize prp1 cqid qprio pc) = cqid
+cq_named (DeleteCq qid) = qid
+cq_named (CreateCq qid qsize prp1 pc) = qid
+cq_named (Abort sqid cid) = 0
+cq_named (SetFeatures fid sv cdw11) = 0
+cq_named (GetFeatures fid) = 0
+cq_named Other = 0
+
+-- the identifier of the command that an Abort names
+abbrev pub cid_named : AdminCommand → ℕ
+cid_named (DeleteSq qid) = 0
+cid_named (CreateSq qid qsize prp1 cqid qprio pc) = 0
+cid_named (DeleteCq qid) = 0
+cid_named (CreateCq qid qsize prp1 pc) = 0
+cid_named (Abort sqid cid) = cid
+cid_named (SetFeatures fid sv cdw11) = 0
+cid_named (GetFeatures fid) = 0
+cid_named Other = 0
 
 -- ---- counts
 -- how many admin commands of a kind were fetched
@@ -183,24 +215,3 @@ numbers (Tail sq slot ∷ past) = numbers past
 numbers (Head cq slot ∷ past) = numbers past
 numbers (Fetch sq slot cid command ∷ past) = numbers past
 numbers (Post cq slot completion ∷ past) = numbers_by (done past completion) completion.dw0 (numbers past)
-
--- ---- what stood at the fetch of a command
--- how many of the commands that may change what it depends on were answered: of a Create of a submission queue those of its completion
--- queue, of a Delete of a completion queue those of submission queues. Of Set Features, whether an I/O queue was created
-abbrev pub mark_for : Past → AdminCommand → ℕ
-mark_for past (DeleteSq qid) = 0
-mark_for past (CreateSq qid qsize prp1 cqid qprio pc) = cq_replies past cqid
-mark_for past (DeleteCq qid) = sqs_replies past
-mark_for past (CreateCq qid qsize prp1 pc) = 0
-mark_for past (Abort sqid cid) = 0
-mark_for past (SetFeatures fid sv cdw11) = if was_created past then 1 else 0
-mark_for past (GetFeatures fid) = 0
-mark_for past Other = 0
-
--- of the newest command fetched under a name
-abbrev pub mark_of : Past → (sq cid : ℕ) → ℕ
-mark_of [] q c = 0
-mark_of (Tail sq slot ∷ past) q c = mark_of past q c
-mark_of (Head cq slot ∷ past) q c = mark_of past q c
-mark_of (Fetch sq slot cid command ∷ past) q c = if (sq == q) && (cid == c) then mark_for past command else mark_of past q c
-mark_of (Post cq slot completion ∷ past) q c = mark_of past q c

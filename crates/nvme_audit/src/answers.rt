@@ -1,8 +1,9 @@
 // The rules for the status of a completion, over the facts of the queues, of the admin commands and of the command.
 ghost use Rattle.std.specs.Prelude.{◌≡◌};
-ghost use Rattle.nvme_audit.specs.Turns.{asking, creates, numbers_by};
+ghost use Rattle.nvme_audit.specs.Turns.{asking, sq_named, cq_named, cid_named, creates, numbers_by};
 ghost use Rattle.nvme_audit.specs.declared.verdict.Verdict.TheVariants.{Broken};
-ghost use Rattle.nvme_audit.specs.Answers.{has_specific, is_foreign, is_specific, is_within, is_sq_within, is_cq_within, sq_named, cq_named, is_untrue_of_create_sq, is_untrue_of_create_cq, is_untrue_of_delete_sq, is_untrue_of_delete_cq, are_numbers, is_untrue_of_features, broken_if, status_rules, own_rules, is_undoomed, answered_in, mark_in, answer_verdict};
+ghost use Rattle.nvme_audit.specs.Aborts.{told_of};
+ghost use Rattle.nvme_audit.specs.Answers.{has_specific, is_foreign, is_specific, is_within, is_sq_within, is_cq_within, is_untrue_of_create_sq, is_untrue_of_create_cq, is_untrue_of_delete_sq, is_untrue_of_delete_cq, are_numbers, is_untrue_of_features, broken_if, status_rules, own_rules, is_undoomed, is_unnamed, is_not_as_told, is_untrue_abort, answered_in, mark_in, answer_verdict};
 
 use crate::event::Completion;
 use crate::facts::{Admin, Command, Cq, Sq, Tells};
@@ -114,6 +115,17 @@ pub fn sq_named(command: AdminCommand) -> u16
 {
     match command {
         AdminCommand::DeleteSq { qid } | AdminCommand::CreateSq { qid, .. } => qid,
+        AdminCommand::Abort { sqid, .. } => sqid,
+        _ => 0,
+    }
+}
+
+/// The identifier of the command that an Abort names.
+pub fn cid_named(command: AdminCommand) -> u16
+    ensures { result ≡ cid_named command }
+{
+    match command {
+        AdminCommand::Abort { cid, .. } => cid,
         _ => 0,
     }
 }
@@ -143,7 +155,7 @@ fn is_untrue_of_create_sq(
 {
     let settled = cq.asked <= mark;
     if status == Status::SUCCESS {
-        qid == 0 || sq.ring.is_some() || qsize == 0 || (settled && cq.qsize.is_none())
+        sq.ring.is_some() || qsize == 0 || (settled && cq.qsize.is_none())
     } else if is_specific(status, 0x00) {
         cqid != 0 && settled && cq.qsize.is_some()
     } else {
@@ -164,7 +176,7 @@ fn is_untrue_of_create_cq(
     ensures { result ≡ is_untrue_of_create_cq cq.now numbers qid qsize status }
 {
     if status == Status::SUCCESS {
-        qid == 0 || cq.qsize.is_some() || qsize == 0
+        cq.qsize.is_some() || qsize == 0
     } else {
         is_specific(status, 0x01) && is_cq_within(numbers, qid) && cq.qsize.is_none()
     }
@@ -294,7 +306,54 @@ fn is_undoomed(sq: &Sq, status: Status) -> bool
     status == Status::ABORTED_BY_DELETION && !sq.doomed
 }
 
-fn mark_in(command: Option<Command>) -> u64
+/// Whether an Abort is answered that it aborted a command, and no command of the queue ended so since its fetch.
+pub fn told_of(stirred: u64, mark: u64, completion: &Completion) -> bool
+    ensures { result ≡ told_of stirred mark completion.now }
+{
+    completion.status == Status::SUCCESS
+        && completion.dw0.is_some_and(|dw0| dw0 % 2 == 0)
+        && stirred == mark
+}
+
+// Whether a command is aborted that no Abort named.
+fn is_unnamed(command: Option<Command>, status: Status) -> bool
+    ensures { result ≡ is_unnamed command status }
+{
+    match command {
+        Some(command) => status == Status::ABORT_REQUESTED && !command.named,
+        None => false,
+    }
+}
+
+// Whether a command that an Abort says was aborted ends otherwise.
+fn is_not_as_told(command: Option<Command>, status: Status) -> bool
+    ensures { result ≡ is_not_as_told command status }
+{
+    match command {
+        Some(command) => command.owed && status != Status::ABORT_REQUESTED,
+        None => false,
+    }
+}
+
+// Whether an Abort says that it aborted a command, and there is none.
+fn is_untrue_abort(
+    tells: &Tells,
+    sq: &Sq,
+    target: Option<Command>,
+    mark: u64,
+    completion: &Completion,
+    command: AdminCommand,
+) -> bool
+    ensures { result ≡ is_untrue_abort tells.now sq.now target mark completion.now command }
+{
+    matches!(command, AdminCommand::Abort { .. })
+        && target.is_none()
+        && told_of(sq.stirred, mark, completion)
+        && !(sq.excused || (!tells.posts && sq.deleted))
+}
+
+/// What was noted of a command at its fetch.
+pub fn mark_in(command: Option<Command>) -> u64
     ensures { result ≡ mark_in command }
 {
     match command {
@@ -303,7 +362,7 @@ fn mark_in(command: Option<Command>) -> u64
     }
 }
 
-/// What is said of a completion by its status. `own_cq` and `own_sq` are the queues that its command names.
+/// What is said of a completion by its status. `own_cq`, `own_sq` and `target` are what its command names.
 pub fn answer_verdict(
     tells: &Tells,
     cq: &Cq,
@@ -312,9 +371,10 @@ pub fn answer_verdict(
     own_sq: &Sq,
     admin: &Admin,
     command: Option<Command>,
+    target: Option<Command>,
     completion: &Completion,
 ) -> Verdict
-    ensures { result ≡ answer_verdict tells.now cq.now own_cq.now sq.now own_sq.now admin.now command completion.now }
+    ensures { result ≡ answer_verdict tells.now cq.now own_cq.now sq.now own_sq.now admin.now command target completion.now }
 {
     if cq.excused || sq.excused || (!tells.posts && sq.deleted) {
         return Verdict::Kept;
@@ -322,6 +382,15 @@ pub fn answer_verdict(
     if is_undoomed(sq, completion.status) {
         return Verdict::Broken(Rule::SqdelUnasked);
     }
+    if is_unnamed(command, completion.status) {
+        return Verdict::Broken(Rule::AbortUnasked);
+    }
     let asked = answered(command, completion);
-    own_rules(own_sq, own_cq, admin, mark_in(command), completion, asked)
+    let mark = mark_in(command);
+    if is_not_as_told(command, completion.status)
+        || is_untrue_abort(tells, own_sq, target, mark, completion, asked)
+    {
+        return Verdict::Broken(Rule::AbortUntrue);
+    }
+    own_rules(own_sq, own_cq, admin, mark, completion, asked)
 }

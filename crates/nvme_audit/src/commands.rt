@@ -14,6 +14,7 @@ pub struct Commands {
 
 impl Commands {
     ghost use Rattle.nvme_audit.specs.Standing.{command_at};
+    ghost use Rattle.nvme_audit.specs.inside.Steps.{flagged};
 
     /// No command.
     pub fn new(alloc: Global) -> Commands
@@ -39,6 +40,24 @@ impl Commands {
         match self.by_name.insert((sq, cid), command) {
             Ok(_) => Ok(()),
             Err(_) => Err(AuditError::NoMemory),
+        }
+    }
+
+    /// Notes of the command of a name that an Abort names it, or says that it was aborted.
+    pub fn flag(&mut self, sq: u16, cid: u16, named: bool, owed: bool) -> Result<(), AuditError>
+        ensures { OnOk result ((q c : ℕ) → command_at self.new q c ≡ (if (sq == q) && (cid == c) then flagged named owed (command_at self.old q c) else command_at self.old q c)) }
+    {
+        match self.get(sq, cid) {
+            Some(command) => self.insert(
+                sq,
+                cid,
+                Command {
+                    named: named || command.named,
+                    owed: owed || command.owed,
+                    ..command
+                },
+            ),
+            None => Ok(()),
         }
     }
 

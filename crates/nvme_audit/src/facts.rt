@@ -25,14 +25,14 @@ pub struct Start {
 }
 
 /// What the latest Create of a submission queue asked: QSIZE, zero based, and CQID.
-#[derive(Clone, Copy, Debug, PartialEq, Eq)]
+#[derive(Clone, Copy)]
 pub struct Ring {
     pub qsize: u16,
     pub cqid: u16,
 }
 
 /// The facts of a submission queue. The counts are those since it was created.
-#[derive(Clone, Copy, Debug, PartialEq, Eq)]
+#[derive(Clone, Copy)]
 pub struct Sq {
     /// `None` where the queue isn't open.
     pub ring: Option<Ring>,
@@ -50,10 +50,12 @@ pub struct Sq {
     pub answered: u64,
     /// Whether a Delete of the queue was ever fetched.
     pub doomed: bool,
+    /// How often a command of the queue was aborted, or all ended with their queue.
+    pub stirred: u64,
 }
 
 /// The facts of a completion queue. The counts are those since it was created.
-#[derive(Clone, Copy, Debug, PartialEq, Eq)]
+#[derive(Clone, Copy)]
 pub struct Cq {
     /// QSIZE, zero based. `None` where the queue isn't open.
     pub qsize: Option<u16>,
@@ -74,7 +76,7 @@ pub struct Cq {
 }
 
 /// The facts of the admin commands.
-#[derive(Clone, Copy, Debug, PartialEq, Eq)]
+#[derive(Clone, Copy)]
 pub struct Admin {
     /// How many Creates and Deletes of submission queues were fetched.
     pub asked: u64,
@@ -86,10 +88,14 @@ pub struct Admin {
     pub created: bool,
     /// What the first Set Features of Number of Queues was answered.
     pub numbers: Option<u32>,
+    /// How many Aborts were fetched.
+    pub aborts_asked: u64,
+    /// How many of them were answered.
+    pub aborts_answered: u64,
 }
 
 /// An outstanding command.
-#[derive(Clone, Copy, Debug, PartialEq, Eq)]
+#[derive(Clone, Copy)]
 pub struct Command {
     /// How many commands of its queue were fetched before it.
     pub number: u64,
@@ -97,6 +103,10 @@ pub struct Command {
     pub command: AdminCommand,
     /// Of the commands on which its status depends, how many were answered when it was fetched.
     pub mark: u64,
+    /// Whether an Abort named it, or may have.
+    pub named: bool,
+    /// Whether an Abort says that it was aborted.
+    pub owed: bool,
 }
 
 impl Sq {
@@ -124,6 +134,7 @@ impl Sq {
             asked: 0,
             answered: 0,
             doomed: false,
+            stirred: 0,
         }
     }
 }
@@ -164,6 +175,8 @@ impl Admin {
             met: false,
             created: false,
             numbers: None,
+            aborts_asked: 0,
+            aborts_answered: 0,
         }
     }
 }

@@ -1,7 +1,10 @@
 // Judges a log, event by event.
 ghost use Rattle.std.specs.Prelude.{◌≡◌, ◌+◌, IfOk};
 
-use crate::answers::{answer_verdict, answered, asking, cq_named, creates, numbers_by, sq_named};
+use crate::answers::{
+    answer_verdict, answered, asking, cid_named, cq_named, creates, mark_in, numbers_by, sq_named,
+    told_of,
+};
 use crate::commands::Commands;
 use crate::event::{Completion, Event};
 use crate::facts::{Admin, Command, Cq, Ring, Sq, Start};
@@ -42,7 +45,7 @@ impl Judge {
     ghost use Rattle.nvme_audit.specs.Facts.{outstanding};
     ghost use Rattle.nvme_audit.specs.Answers.{command_in};
     ghost use Rattle.nvme_audit.specs.declared.event.Event.TheVariants.{Post};
-    ghost use Rattle.nvme_audit.specs.inside.Steps.{verdict_at, mark_at, PutsSq, PutsCq, sq_told, cq_released, KeepsFetch, AsksSq, AsksCq, Asks, KeepsPost, AnswersSq, Answers, sq_begun, cq_begun, cq_joined, cq_parted, BeginsSq, TurnsSq, Turns, Notes};
+    ghost use Rattle.nvme_audit.specs.inside.Steps.{verdict_at, mark_at, PutsSq, PutsCq, sq_told, cq_released, KeepsFetch, AsksSq, AsksCq, Asks, KeepsPost, AnswersSq, Answers, told_at, Owes, sq_begun, cq_begun, cq_joined, cq_parted, BeginsSq, TurnsSq, Turns, Notes};
 
     /// A judge of the first event.
     pub fn new(alloc: Global, start: Start) -> Judge
@@ -136,6 +139,7 @@ impl Judge {
         let asked = answered(command, completion);
         let own_cq = self.cq(cq_named(asked));
         let own_sq = self.sq(sq_named(asked));
+        let target = self.commands.get(sq_named(asked), cid_named(asked));
         answer_verdict(
             tells,
             &cq,
@@ -144,6 +148,7 @@ impl Judge {
             &own_sq,
             &self.admin,
             command,
+            target,
             completion,
         )
     }
@@ -173,6 +178,7 @@ impl Judge {
         match command {
             AdminCommand::CreateSq { cqid, .. } => self.cq(cqid).answered,
             AdminCommand::DeleteCq { .. } => self.admin.answered,
+            AdminCommand::Abort { sqid, .. } => self.sq(sqid).stirred,
             AdminCommand::SetFeatures { .. } if self.admin.created => 1,
             _ => 0,
         }
@@ -187,15 +193,15 @@ impl Judge {
         sq.fetched = next(number)?;
         sq.excused = self.commands.get(q, cid).is_some() || sq.excused;
         self.put_sq(q, sq)?;
-        self.commands.insert(
-            q,
-            cid,
-            Command {
-                number,
-                command,
-                mark,
-            },
-        )
+        let named = self.admin.aborts_answered < self.admin.aborts_asked;
+        let taken = Command {
+            number,
+            command,
+            mark,
+            named,
+            owed: false,
+        };
+        self.commands.insert(q, cid, taken)
     }
 
     // Counts a Create or a Delete that is fetched.
@@ -206,6 +212,10 @@ impl Judge {
             AdminCommand::DeleteSq { qid } => self.ask_sq(qid, true),
             AdminCommand::CreateSq { qid, .. } => self.ask_sq(qid, false),
             AdminCommand::DeleteCq { qid } | AdminCommand::CreateCq { qid, .. } => self.ask_cq(qid),
+            AdminCommand::Abort { sqid, cid } => {
+                self.admin.aborts_asked = next(self.admin.aborts_asked)?;
+                self.commands.flag(sqid, cid, true, false)
+            }
             _ => Ok(()),
         }
     }
@@ -237,7 +247,11 @@ impl Judge {
         cq.posted = next(cq.posted)?;
         self.put_cq(q, cq)?;
         self.commands.remove(completion.sq, completion.cid);
-        Ok(())
+        let mut sq = self.sq(completion.sq);
+        if completion.status == Status::ABORT_REQUESTED {
+            sq.stirred = next(sq.stirred)?;
+        }
+        self.put_sq(completion.sq, sq)
     }
 
     // The admin command that a completion carries to its end.
@@ -263,6 +277,10 @@ impl Judge {
                 cq.answered = next(cq.answered)?;
                 self.put_cq(qid, cq)
             }
+            AdminCommand::Abort { .. } => {
+                self.admin.aborts_answered = next(self.admin.aborts_answered)?;
+                Ok(())
+            }
             _ => Ok(()),
         }
     }
@@ -274,6 +292,26 @@ impl Judge {
         sq.answered = next(sq.answered)?;
         self.admin.answered = next(self.admin.answered)?;
         self.put_sq(q, sq)
+    }
+
+    // Whether an Abort is answered that it aborted a command.
+    fn told(&self, command: AdminCommand, completion: &Completion) -> bool
+        ensures { result ≡ told_at self.now completion.now command }
+    {
+        let mark = mark_in(self.commands.get(0, completion.cid));
+        told_of(self.sq(sq_named(command)).stirred, mark, completion)
+    }
+
+    // Notes of the command that an Abort names what is said of it.
+    fn owe(&mut self, command: AdminCommand, told: bool) -> Result<(), AuditError>
+        ensures { OnOk result (Owes self.old self.new command told) }
+    {
+        match command {
+            AdminCommand::Abort { sqid, cid } if told => {
+                self.commands.flag(sqid, cid, false, true)
+            }
+            _ => Ok(()),
+        }
     }
 
     // Opens or closes the queue of an admin command.
@@ -333,6 +371,7 @@ impl Judge {
         sq.submitted = 0;
         sq.fetched = 0;
         sq.excused = false;
+        sq.stirred = next(sq.stirred)?;
         self.put_sq(q, sq)?;
         self.commands.remove_queue(q);
         Ok(())
@@ -375,8 +414,10 @@ impl Judge {
             }
             Event::Post { cq, completion, .. } => {
                 let asked = answered(self.commands.get(0, completion.cid), &completion);
+                let told = self.told(asked, &completion);
                 let done = self.done(&completion);
                 self.keep_post(cq, &completion)?;
+                self.owe(asked, told)?;
                 self.answer(asked)?;
                 self.turn(done)?;
                 self.note(done, completion.dw0);

@@ -1,7 +1,7 @@
 //! Laws of logs and worked examples, over the definitions alone. Each function does nothing: its contract is the law.
 ghost use Rattle.nvme_audit.specs.Laws.{AnsweredOnce, HeadsAreCounts};
 ghost use Rattle.nvme_audit.specs.Examples.{AreJudged, on_the_bus, as_read, doorbells, fetches, completions, late_reads};
-ghost use Rattle.nvme_audit.specs.StatusExamples.{by_name, as_read_by_name, creates, deletes, meetings, foreign, deletions, features, excused, late_statuses};
+ghost use Rattle.nvme_audit.specs.StatusExamples.{by_name, as_read_by_name, creates, deletes, meetings, foreign, deletions, unasked_aborts, untrue_aborts, features, excused, late_statuses};
 
 /// In a log without faults each fetched command is answered once, but for the outstanding ones.
 pub fn answered_once()
@@ -28,6 +28,8 @@ pub fn worked_statuses()
     ensures meetings { AreJudged by_name meetings }
     ensures foreign { AreJudged by_name foreign }
     ensures deletions { AreJudged by_name deletions }
+    ensures unasked_aborts { AreJudged by_name unasked_aborts }
+    ensures untrue_aborts { AreJudged by_name untrue_aborts }
     ensures features { AreJudged by_name features }
     ensures excused { AreJudged by_name excused }
     ensures late_statuses { AreJudged as_read_by_name late_statuses }

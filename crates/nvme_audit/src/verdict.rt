@@ -25,6 +25,10 @@ pub enum Rule {
     Sqhd,
     /// A command is aborted by the deletion of its queue only where a Delete named that.
     SqdelUnasked,
+    /// A command is aborted only where an Abort named it.
+    AbortUnasked,
+    /// A command that an Abort says was aborted is outstanding, and ends so.
+    AbortUntrue,
     /// A command specific status is one of the command.
     StatusForeign,
     /// The status of a Create is true of some moment between fetch and completion.

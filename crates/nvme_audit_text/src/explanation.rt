@@ -159,8 +159,12 @@ fn put_wanted_name<W: fmt::Write>(
 fn put_wanted_status<W: fmt::Write>(rule: Rule, f: &mut fmt::Formatter<W>) -> fmt::Result {
     let wanted = match rule {
         Rule::SqdelUnasked => "another status: no Delete names the submission queue",
+        Rule::AbortUnasked => "another status: no Abort names the command",
+        Rule::AbortUntrue =>
+            "bit 0 of Dword 0 set: no command that the Abort names is outstanding, or ended as aborted since it was fetched",
         Rule::StatusForeign => "a status of the command: this one is that of other commands",
-        Rule::Features => "possible numbers of queues in Dword 0, the same each time, and before the first I/O queue",
+        Rule::Features =>
+            "possible numbers of queues in Dword 0, the same each time, and before the first I/O queue",
         _ => "a status that is true of some moment since the command was fetched",
     };
     write!(f, "{wanted}")
@@ -181,6 +185,8 @@ fn put_wanted<W: fmt::Write>(
         (Rule::PostClosed, _, Some(cq)) if cq.qsize.is_none() => put_wanted_place(rule, cq, f),
         (
             Rule::SqdelUnasked
+            | Rule::AbortUnasked
+            | Rule::AbortUntrue
             | Rule::StatusForeign
             | Rule::StatusCreate
             | Rule::StatusDelete

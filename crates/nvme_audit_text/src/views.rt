@@ -81,7 +81,8 @@ impl View {
             Rule::CqFull => self.heads = false,
             Rule::Sqhd => self.sq_heads = false,
             Rule::FetchClosed | Rule::PostClosed | Rule::CqWrong | Rule::Life => {}
-            Rule::SqdelUnasked | Rule::StatusForeign | Rule::Features => {}
+            Rule::SqdelUnasked | Rule::AbortUnasked | Rule::AbortUntrue => {}
+            Rule::StatusForeign | Rule::Features => {}
             Rule::StatusCreate | Rule::StatusDelete => {}
         }
     }

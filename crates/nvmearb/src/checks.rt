@@ -293,16 +293,14 @@ fn xml_of(byte: u8, breaks: [&'static [u8]; 2]) -> &'static [u8] {
 }
 
 // Writes a text of XML, in which these stand for tabs and line breaks.
-fn put_xml<W: Write>(
-    text: &[u8],
-    breaks: [&'static [u8]; 2],
-    output: &mut W,
-) -> io::Result<()> {
+fn put_xml<W: Write>(text: &[u8], breaks: [&'static [u8]; 2], output: &mut W) -> io::Result<()> {
     for (at, byte) in text.iter().enumerate() {
         let shown = xml_of(*byte, breaks);
         if begins_with_none(text.get(at..)) {
             output.write_all(b"?")?;
-        } else if (1..3).any(|back| begins_with_none(at.checked_sub(back).and_then(|from| text.get(from..)))) {
+        } else if (1..3).any(|back| begins_with_none(
+            at.checked_sub(back).and_then(|from| text.get(from..)),
+        )) {
             continue;
         } else if shown.is_empty() {
             output.write_all(&[*byte])?;

@@ -1,5 +1,5 @@
 -- What an event changes of what a judge keeps.
-use Rattle.std.specs.Prelude.{◌≡◌, ℕ, ◌+◌, ◌==◌, ◌&&◌, ◌||◌, nat_lt, not, Bool, false, is_none, is_some, Option, Some, None, if◌then◌else◌}
+use Rattle.std.specs.Prelude.{◌≡◌, ℕ, ◌+◌, ◌==◌, ◌&&◌, ◌||◌, nat_lt, not, Bool, true, false, is_none, is_some, Option, Some, None, if◌then◌else◌}
 use Rattle.nvme_entry.specs.declared.admin.AdminCommand.{AdminCommand}
 use Rattle.nvme_entry.specs.declared.admin.AdminCommand.TheVariants.{DeleteSq, CreateSq, DeleteCq, CreateCq, Abort, SetFeatures, GetFeatures, Other}
 use Rattle.nvme_audit.specs.declared.event.Event.{Event}
@@ -15,10 +15,11 @@ use Rattle.nvme_audit.specs.declared.judge.Judge.{Judge}
 use Rattle.nvme_audit.specs.Lives.{turns_sq}
 use Rattle.nvme_audit.specs.Queues.{ring_by, deletes_sq, turns_cq, qsize_by}
 use Rattle.nvme_audit.specs.Rings.{advanced_where_open, qsize_in}
-use Rattle.nvme_audit.specs.Turns.{is_of_sqs, joins, is_on, creates, numbers_by}
+use Rattle.nvme_audit.specs.Turns.{sq_named, cq_named, cid_named, is_of_sqs, joins, is_on, creates, numbers_by}
+use Rattle.nvme_audit.specs.Aborts.{is_abort, names, is_aborted, told_of}
 use Rattle.nvme_audit.specs.Host.{is_kept, tail_verdict, head_verdict}
 use Rattle.nvme_audit.specs.Rules.{fetch_verdict, if_kept, post_verdict}
-use Rattle.nvme_audit.specs.Answers.{sq_named, cq_named, answered_in, answer_verdict}
+use Rattle.nvme_audit.specs.Answers.{answered_in, mark_in, answer_verdict}
 use Rattle.nvme_audit.specs.Standing.{sq_at, cq_at, command_at}
 
 -- ---- verdicts, by what is kept
@@ -37,6 +38,7 @@ verdict_at judge (Post cq slot completion) =
     (sq_at judge (sq_named (answered_in (command_at judge.commands completion.sq completion.cid) completion)))
     judge.admin
     (command_at judge.commands completion.sq completion.cid)
+    (command_at judge.commands (sq_named (answered_in (command_at judge.commands completion.sq completion.cid) completion)) (cid_named (answered_in (command_at judge.commands completion.sq completion.cid) completion)))
     completion)
 
 -- what is noted of a command at its fetch
@@ -45,7 +47,7 @@ mark_at judge (DeleteSq qid) = 0
 mark_at judge (CreateSq qid qsize prp1 cqid qprio pc) = (cq_at judge cqid).answered
 mark_at judge (DeleteCq qid) = judge.admin.answered
 mark_at judge (CreateCq qid qsize prp1 pc) = 0
-mark_at judge (Abort sqid cid) = 0
+mark_at judge (Abort sqid cid) = (sq_at judge sqid).stirred
 mark_at judge (SetFeatures fid sv cdw11) = if judge.admin.created then 1 else 0
 mark_at judge (GetFeatures fid) = 0
 mark_at judge Other = 0
@@ -81,6 +83,7 @@ sq_told sq slot verdict = record {
   asked = sq.asked;
   answered = sq.answered;
   doomed = sq.doomed;
+  stirred = sq.stirred;
 }
 
 abbrev pub cq_released : Cq → ℕ → Verdict → Cq
@@ -105,6 +108,7 @@ sq_fetched sq out = record {
   asked = sq.asked;
   answered = sq.answered;
   doomed = sq.doomed;
+  stirred = sq.stirred;
 }
 
 abbrev pub cq_posted : Cq → Cq
@@ -119,6 +123,19 @@ cq_posted cq = record {
   parted = cq.parted;
 }
 
+abbrev pub sq_ended : Completion → Sq → Sq
+sq_ended completion sq = record {
+  ring = sq.ring;
+  submitted = sq.submitted;
+  fetched = sq.fetched;
+  deleted = sq.deleted;
+  excused = sq.excused;
+  asked = sq.asked;
+  answered = sq.answered;
+  doomed = sq.doomed;
+  stirred = if is_aborted completion.status then sq.stirred + 1 else sq.stirred;
+}
+
 -- ---- what an admin command does when it is fetched
 abbrev pub sq_asking : AdminCommand → ℕ → Sq → Sq
 sq_asking command q sq = record {
@@ -130,6 +147,7 @@ sq_asking command q sq = record {
   asked = if turns_sq command q then sq.asked + 1 else sq.asked;
   answered = sq.answered;
   doomed = deletes_sq command q || sq.doomed;
+  stirred = sq.stirred;
 }
 
 abbrev pub cq_asking : AdminCommand → ℕ → Cq → Cq
@@ -151,11 +169,13 @@ admin_asking meets command admin = record {
   met = meets || admin.met;
   created = admin.created;
   numbers = admin.numbers;
+  aborts_asked = if is_abort command then admin.aborts_asked + 1 else admin.aborts_asked;
+  aborts_answered = admin.aborts_answered;
 }
 
 -- a Create or a Delete of the queue
 abbrev pub sq_asked : Bool → Sq → Sq
-sq_asked deletes sq = record { ring = sq.ring; submitted = sq.submitted; fetched = sq.fetched; deleted = sq.deleted; excused = sq.excused; asked = sq.asked + 1; answered = sq.answered; doomed = deletes || sq.doomed }
+sq_asked deletes sq = record { ring = sq.ring; submitted = sq.submitted; fetched = sq.fetched; deleted = sq.deleted; excused = sq.excused; asked = sq.asked + 1; answered = sq.answered; doomed = deletes || sq.doomed; stirred = sq.stirred }
 
 abbrev pub cq_asked : Cq → Cq
 cq_asked cq = record { qsize = cq.qsize; posted = cq.posted; consumed = cq.consumed; excused = cq.excused; asked = cq.asked + 1; answered = cq.answered; joined = cq.joined; parted = cq.parted }
@@ -171,6 +191,7 @@ sq_answering command q sq = record {
   asked = sq.asked;
   answered = if turns_sq command q then sq.answered + 1 else sq.answered;
   doomed = sq.doomed;
+  stirred = sq.stirred;
 }
 
 abbrev pub cq_answering : AdminCommand → ℕ → Cq → Cq
@@ -192,10 +213,12 @@ admin_answering command admin = record {
   met = admin.met;
   created = admin.created;
   numbers = admin.numbers;
+  aborts_asked = admin.aborts_asked;
+  aborts_answered = if is_abort command then admin.aborts_answered + 1 else admin.aborts_answered;
 }
 
 abbrev pub sq_answered : Sq → Sq
-sq_answered sq = record { ring = sq.ring; submitted = sq.submitted; fetched = sq.fetched; deleted = sq.deleted; excused = sq.excused; asked = sq.asked; answered = sq.answered + 1; doomed = sq.doomed }
+sq_answered sq = record { ring = sq.ring; submitted = sq.submitted; fetched = sq.fetched; deleted = sq.deleted; excused = sq.excused; asked = sq.asked; answered = sq.answered + 1; doomed = sq.doomed; stirred = sq.stirred }
 
 -- ---- and when it succeeds
 abbrev pub sq_turned : AdminCommand → ℕ → Sq → Sq
@@ -208,6 +231,7 @@ sq_turned command q sq = record {
   asked = sq.asked;
   answered = sq.answered;
   doomed = sq.doomed;
+  stirred = if turns_sq command q then sq.stirred + 1 else sq.stirred;
 }
 
 abbrev pub cq_turned : AdminCommand → Option Ring → ℕ → Cq → Cq
@@ -235,6 +259,8 @@ admin_noting command dw0 admin = record {
   met = admin.met;
   created = creates command || admin.created;
   numbers = numbers_by command dw0 admin.numbers;
+  aborts_asked = admin.aborts_asked;
+  aborts_answered = admin.aborts_answered;
 }
 
 -- ---- changes of a judge
@@ -259,21 +285,26 @@ pub record KeepsFetch (old new : Judge) (sq cid : ℕ) (command : AdminCommand) 
   pub sqs : (k : ℕ) → sq_at new k ≡ (if sq == k then sq_fetched (sq_at old sq) (command_at old.commands sq cid) else sq_at old k)
   pub cqs_stay : (k : ℕ) → cq_at new k ≡ cq_at old k
   pub admin_stays : new.admin ≡ old.admin
-  pub commands : (k c : ℕ) → command_at new.commands k c ≡ (if (sq == k) && (cid == c) then Some (record { number = (sq_at old sq).fetched; command = command; mark = mark_at old command }) else command_at old.commands k c)
+  pub commands : (k c : ℕ) → command_at new.commands k c ≡ (if (sq == k) && (cid == c) then Some (record { number = (sq_at old sq).fetched; command = command; mark = mark_at old command; named = nat_lt old.admin.aborts_answered old.admin.aborts_asked; owed = false }) else command_at old.commands k c)
+
+-- an outstanding command that an Abort names, or says that it was aborted
+abbrev pub flagged : (named owed : Bool) → Option Command → Option Command
+flagged named owed None = None
+flagged named owed (Some command) = Some (record { number = command.number; command = command.command; mark = command.mark; named = named || command.named; owed = owed || command.owed })
 
 -- a Create or a Delete of one queue
 pub record AsksSq (old new : Judge) (q : ℕ) (deletes : Bool) : Type 0 where
   pub start_stays : new.start ≡ old.start
   pub sqs : (k : ℕ) → sq_at new k ≡ (if q == k then sq_asked deletes (sq_at old q) else sq_at old k)
   pub cqs_stay : (k : ℕ) → cq_at new k ≡ cq_at old k
-  pub admin : new.admin ≡ record { asked = old.admin.asked + 1; answered = old.admin.answered; met = nat_lt (sq_at old q).answered (sq_at old q).asked || old.admin.met; created = old.admin.created; numbers = old.admin.numbers }
+  pub admin : new.admin ≡ record { asked = old.admin.asked + 1; answered = old.admin.answered; met = nat_lt (sq_at old q).answered (sq_at old q).asked || old.admin.met; created = old.admin.created; numbers = old.admin.numbers; aborts_asked = old.admin.aborts_asked; aborts_answered = old.admin.aborts_answered }
   pub commands_stay : new.commands ≡ old.commands
 
 pub record AsksCq (old new : Judge) (q : ℕ) : Type 0 where
   pub start_stays : new.start ≡ old.start
   pub sqs_stay : (k : ℕ) → sq_at new k ≡ sq_at old k
   pub cqs : (k : ℕ) → cq_at new k ≡ (if q == k then cq_asked (cq_at old q) else cq_at old k)
-  pub admin : new.admin ≡ record { asked = old.admin.asked; answered = old.admin.answered; met = nat_lt (cq_at old q).answered (cq_at old q).asked || old.admin.met; created = old.admin.created; numbers = old.admin.numbers }
+  pub admin : new.admin ≡ record { asked = old.admin.asked; answered = old.admin.answered; met = nat_lt (cq_at old q).answered (cq_at old q).asked || old.admin.met; created = old.admin.created; numbers = old.admin.numbers; aborts_asked = old.admin.aborts_asked; aborts_answered = old.admin.aborts_answered }
   pub commands_stay : new.commands ≡ old.commands
 
 pub record Asks (old new : Judge) (command : AdminCommand) : Type 0 where
@@ -281,11 +312,11 @@ pub record Asks (old new : Judge) (command : AdminCommand) : Type 0 where
   pub sqs : (k : ℕ) → sq_at new k ≡ sq_asking command k (sq_at old k)
   pub cqs : (k : ℕ) → cq_at new k ≡ cq_asking command k (cq_at old k)
   pub admin : new.admin ≡ admin_asking (meets_at old command) command old.admin
-  pub commands_stay : new.commands ≡ old.commands
+  pub commands : (k c : ℕ) → command_at new.commands k c ≡ (if names command k c then flagged true false (command_at old.commands k c) else command_at old.commands k c)
 
 pub record KeepsPost (old new : Judge) (cq : ℕ) (completion : Completion) : Type 0 where
   pub start_stays : new.start ≡ old.start
-  pub sqs_stay : (k : ℕ) → sq_at new k ≡ sq_at old k
+  pub sqs : (k : ℕ) → sq_at new k ≡ (if completion.sq == k then sq_ended completion (sq_at old completion.sq) else sq_at old k)
   pub cqs : (k : ℕ) → cq_at new k ≡ (if cq == k then cq_posted (cq_at old cq) else cq_at old k)
   pub admin_stays : new.admin ≡ old.admin
   pub commands : (k c : ℕ) → command_at new.commands k c ≡ (if (completion.sq == k) && (completion.cid == c) then None else command_at old.commands k c)
@@ -294,7 +325,7 @@ pub record AnswersSq (old new : Judge) (q : ℕ) : Type 0 where
   pub start_stays : new.start ≡ old.start
   pub sqs : (k : ℕ) → sq_at new k ≡ (if q == k then sq_answered (sq_at old q) else sq_at old k)
   pub cqs_stay : (k : ℕ) → cq_at new k ≡ cq_at old k
-  pub admin : new.admin ≡ record { asked = old.admin.asked; answered = old.admin.answered + 1; met = old.admin.met; created = old.admin.created; numbers = old.admin.numbers }
+  pub admin : new.admin ≡ record { asked = old.admin.asked; answered = old.admin.answered + 1; met = old.admin.met; created = old.admin.created; numbers = old.admin.numbers; aborts_asked = old.admin.aborts_asked; aborts_answered = old.admin.aborts_answered }
   pub commands_stay : new.commands ≡ old.commands
 
 pub record Answers (old new : Judge) (command : AdminCommand) : Type 0 where
@@ -303,6 +334,17 @@ pub record Answers (old new : Judge) (command : AdminCommand) : Type 0 where
   pub cqs : (k : ℕ) → cq_at new k ≡ cq_answering command k (cq_at old k)
   pub admin : new.admin ≡ admin_answering command old.admin
   pub commands_stay : new.commands ≡ old.commands
+
+-- what an Abort says of the command that it names
+abbrev pub told_at : Judge → Completion → AdminCommand → Bool
+told_at judge completion command = told_of (sq_at judge (sq_named command)).stirred (mark_in (command_at judge.commands 0 completion.cid)) completion
+
+pub record Owes (old new : Judge) (command : AdminCommand) (told : Bool) : Type 0 where
+  pub start_stays : new.start ≡ old.start
+  pub sqs_stay : (k : ℕ) → sq_at new k ≡ sq_at old k
+  pub cqs_stay : (k : ℕ) → cq_at new k ≡ cq_at old k
+  pub admin_stays : new.admin ≡ old.admin
+  pub commands : (k c : ℕ) → command_at new.commands k c ≡ (if names command k c && told then flagged false true (command_at old.commands k c) else command_at old.commands k c)
 
 -- a queue that is opened or closed
 abbrev pub sq_begun : Option Ring → Sq → Sq
@@ -315,6 +357,7 @@ sq_begun ring sq = record {
   asked = sq.asked;
   answered = sq.answered;
   doomed = sq.doomed;
+  stirred = sq.stirred + 1;
 }
 
 abbrev pub cq_begun : Option ℕ → Cq → Cq

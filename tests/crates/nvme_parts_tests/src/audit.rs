@@ -100,3 +100,17 @@ fn run_ends_at_the_first_broken_rule(rt: HostRuntime) -> Result<(), Fail> {
     assert_eq!(rt; twice, Some((1, Rule::Life)));
     Ok(())
 }
+
+#[test]
+fn statuses_are_judged(rt: HostRuntime) -> Result<(), Fail> {
+    let mut judge = Judge::new(rt.alloc(), START);
+    assert_eq!(rt; judge.judge_run(&opening())?, None);
+    let deletion = [
+        Event::Tail { sq: 0, slot: 3 },
+        fetch(0, 2, 12, AdminCommand::DeleteCq { qid: 1 }),
+        post(0, 2, 0, 12, 3),
+    ];
+    let in_use = judge.judge_run(&deletion)?;
+    assert_eq!(rt; in_use, Some((2, Rule::StatusDelete)));
+    Ok(())
+}

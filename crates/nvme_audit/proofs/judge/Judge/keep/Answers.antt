@@ -20,10 +20,12 @@ returns-in_ok-keep_fetch-in-Fetch c = λ start past stands verdict.
 pub returns-in_ok-turn-in-Post : goal.returns-in_ok-turn-in-Post
 returns-in_ok-turn-in-Post c = λ start past stands verdict.
     subst (λ (e : Event). StandsAt start (e ∷ past) c.note.new.self) (sym c.in-Post.is)
-    (post_stands start past c.args.self.now c.keep_post.new.self c.answer.new.self c.turn.new.self c.note.new.self c.in-Post.cq c.in-Post.slot c.in-Post.completion c.answered-asked.result c.done-done.result stands
+    (post_stands start past c.args.self.now c.keep_post.new.self c.owe.new.self c.answer.new.self c.turn.new.self c.note.new.self c.in-Post.cq c.in-Post.slot c.in-Post.completion c.answered-asked.result c.done-done.result c.told-told.result stands
     (c.answered-asked.ensures ∙ ap (λ (o : Option Command). answered_in o c.in-Post.completion) c.get.ensures)
+    c.told-told.ensures
     c.done-done.ensures
     c.in_ok-keep_post-in-Post.ensures
+    c.in_ok-owe-in-Post.ensures
     c.in_ok-answer-in-Post.ensures
     c.in_ok-turn-in-Post.ensures
     c.note.ensures)
