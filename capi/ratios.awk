@@ -1,7 +1,6 @@
-# Adds to each row 'from C, NAME' the time that it takes of the row NAME. Makes one row of the lines of a loop that tell times,
-# 'NAME: from Rattle ..' and 'NAME: by hand .., from C ..', and one of those that tell instructions, 'NAME|from Rattle|COUNT',
-# 'NAME|by hand|COUNT' and 'NAME|from C|COUNT'. The line from Rattle is the first and can be left out. Where its checksum isn't
-# that by hand, the row says so, and the status is 1.
+# Makes one row of the lines of a loop that tell times, 'NAME: from Rattle ..' and 'NAME: by hand .., from C ..', and one of
+# those that tell instructions, 'NAME|from Rattle|COUNT', 'NAME|by hand|COUNT' and 'NAME|from C|COUNT'. The line from Rattle is
+# the first and can be left out. Where its checksum isn't that by hand, the row says so, and the status is 1.
 /: from Rattle [0-9.]+ ns, checksum / {
     split($0, it, /: from Rattle | ns, checksum /)
     times[it[1]] = it[2]
@@ -39,13 +38,4 @@
     next
 }
 { print }
-match($0, /: [0-9]+ a second/) {
-    name = substr($0, 1, RSTART - 1)
-    rate = substr($0, RSTART + 2) + 0
-    sub(/, [0-9]+ commands/, "", name)
-    if (!sub(/^from C, /, "", name))
-        rates[name] = rate
-    else if (name in rates && rate > 0)
-        printf "C to Rust: %d %%\n", 100 * rates[name] / rate
-}
 END { exit failed }

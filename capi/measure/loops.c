@@ -1,6 +1,6 @@
 /* SPDX-License-Identifier: MIT */
 /*
- * Compares the loop over the library with the loop by hand (loop.c), by the time of a command: the least of five runs of
+ * Compares the loop over the library with the loop by hand (loop.c), by the time of a command: the least of nine runs of
  * COUNT commands, which take turns. All that comes out must be the same, or the program fails.
  *
  *   loops COUNT [counted]
@@ -17,7 +17,7 @@
 #include <string.h>
 #include <time.h>
 
-#define RUNS 5
+#define RUNS 9
 
 static const loop *const both[2] = {&loop_by_hand, &loop_from_c};
 

@@ -13,7 +13,6 @@ use crate::loops::making::make;
 use crate::loops::refusals::refuse;
 use crate::loops::rounds::counted;
 use crate::loops::workload::{Case, Kept};
-use crate::picks::name_of;
 use anyhow::Result;
 use nvme_arbiter::Mechanism;
 use nvme_ctrl::{Controller, Slot};
@@ -24,7 +23,7 @@ use std::time::{CpuClock, Duration};
 const POOL: u16 = 4096;
 
 // The runs of a case, of which the fastest is told.
-const RUNS: u32 = 5;
+const RUNS: u32 = 9;
 
 // What runs of a case came to.
 #[derive(Clone, Copy)]
@@ -74,6 +73,14 @@ fn run<R: CpuClock + Alloc<A = Global>>(rt: &R, case: Case, count: u32, runs: u3
         least,
         sum: kept.sum,
     })
+}
+
+// The name of a mechanism in the figures.
+const fn name_of(mechanism: Mechanism) -> &'static str {
+    match mechanism {
+        Mechanism::RoundRobin => "round robin",
+        Mechanism::Weighted => "weighted",
+    }
 }
 
 // The name of a case in the figures.

@@ -1,5 +1,0 @@
-use Rattle.nvme_pool.specs.Seat.{SameSeat}
-use Rattle.nvme_bench.proofs.jobs.lead.Given as goal
-
-abbrev pub invariant-loop : goal.invariant-loop
-invariant-loop g l = SameSeat l.initial.seat l.seat
