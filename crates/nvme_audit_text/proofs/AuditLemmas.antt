@@ -1,17 +1,16 @@
 -- An auditor goes through the lines of a text.
-use Rattle.std.proofs.Common.{◌≡◌, ℕ, ◌+◌, Bool, true, false, List, [], ◌∷◌, ◌++◌, reverse, Option, Some, None, Ok, inl, inr, refl, sym, ap, subst, ◌∙◌, append_assoc, append-nil, arith}
-use Rattle.std.specs.Prelude.{IfSome, IfOk, IfErr, MatchBool, MatchOption, Result, Err, if◌then◌else◌}
+use Rattle.std.proofs.Common.{◌≡◌, ℕ, Bool, true, false, List, [], ◌∷◌, ◌++◌, reverse, Option, Some, None, Ok, inl, inr, refl, sym, ap, subst, ◌∙◌, append_assoc, arith}
+use Rattle.std.specs.Prelude.{IfSome, IfOk, IfErr, MatchBool, MatchOption, Result, Err}
 use mathlib.Core.List.{reverse-cons}
-use Rattle.nvme_lines.specs.Lines.{lines_of, numbered, told_lines, TakesTold, StartsTold, HasNoTold}
+use Rattle.nvme_lines.specs.Lines.{lines_of, numbered, told_lines, TakesTold, HasNoTold, AreInAll}
 use Rattle.nvme_audit.specs.declared.event.Event.{Event}
 use Rattle.nvme_audit.specs.declared.facts.Start.{Start}
 use Rattle.nvme_audit.specs.declared.judge.Judge.{Judge}
 use Rattle.nvme_audit.specs.declared.verdict.Rule.{Rule}
-use Rattle.nvme_audit.specs.declared.verdict.Breach.{Breach}
 use Rattle.nvme_audit.specs.declared.verdict.Verdict.{Verdict}
-use Rattle.nvme_audit.specs.declared.verdict.Verdict.TheVariants.{Kept, Host, Broken}
+use Rattle.nvme_audit.specs.declared.verdict.Verdict.TheVariants.{Broken}
 use Rattle.nvme_audit.specs.Lives.{Past}
-use Rattle.nvme_audit.specs.Lawful.{verdict, is_broken}
+use Rattle.nvme_audit.specs.Lawful.{is_broken}
 use Rattle.nvme_audit.specs.Standing.{StandsAt}
 use Rattle.nvme_audit_text.specs.Format.{head_of_line, event_of_line}
 use Rattle.nvme_audit_text.specs.declared.fault.LogError.{LogError}
@@ -21,7 +20,7 @@ use Rattle.nvme_audit_text.specs.declared.head.Head.{Head}
 use Rattle.nvme_audit_text.specs.declared.audit.Finding.{Finding}
 use Rattle.nvme_audit_text.specs.declared.audit.Audit.{Audit}
 use Rattle.nvme_audit_text.specs.declared.audit.Auditor.{Auditor}
-use Rattle.nvme_audit_text.specs.Audits.{added, TellEvents, is_host, host_breaches, IsLawfulText, IsBrokenText, IsAudit, IsFault, IsFound}
+use Rattle.nvme_audit_text.specs.Audits.{added, host_at, IsLawfulText, IsBrokenText, IsAudit, IsFault, IsFound}
 use Rattle.nvme_audit_text.specs.inside.Steps.{IsTaken, IsOther, AuditsAt, IsFinding, IsHeadFault, IsEventFault, AuditedUpTo}
 
 -- ---- one event
@@ -39,38 +38,14 @@ at_some P Q o x m e = subst (λ r. MatchOption r P Q) e m
 pub at_none : {A : Type 0} (P : Type 0) (Q : A → Type 0) (o : Option A) → MatchOption o P Q → o ≡ None → P
 at_none P Q o m e = subst (λ r. MatchOption r P Q) e m
 
-counts : (start : Start) (past : Past) (event : Event) (b : Bool) → is_host (verdict start past event) ≡ b → host_breaches start (event ∷ past) ≡ host_breaches start past + (if b then 1 else 0)
-counts start past event b is = ap (λ (x : Bool). host_breaches start past + (if x then 1 else 0)) is
-
--- it breaks no rule
-pub audits_kept : (start : Start) (past : Past) (event : Event) (said : Verdict) (old new : Auditor) (judge : Judge) → IsTaken start past event said old.judge judge → said ≡ Kept → new.judge ≡ judge → new.host_breaches ≡ old.host_breaches
-    → AuditsAt start past old → AuditsAt start (event ∷ past) new
-audits_kept start past event said old new judge taken kept there same at =
-    let is : verdict start past event ≡ Kept = sym taken.is ∙ kept in
-    let more : host_breaches start (event ∷ past) ≡ host_breaches start past + 0 = counts start past event false (ap is_host is) in record {
-      stands = subst (StandsAt start (event ∷ past)) (sym there) (match_false _ _ (is_broken said) (ap is_broken kept) taken.after);
-      lawful = (ap is_broken is, at.lawful);
-      host = omega (arith, same, at.host, more);
-    }
-
--- the host breaks one
-pub audits_host : (start : Start) (past : Past) (event : Event) (said : Verdict) (breach : Breach) (old new : Auditor) (judge : Judge) → IsTaken start past event said old.judge judge → said ≡ Host breach → new.judge ≡ judge → new.host_breaches ≡ old.host_breaches + 1
-    → AuditsAt start past old → AuditsAt start (event ∷ past) new
-audits_host start past event said breach old new judge taken host there one at =
-    let is : verdict start past event ≡ Host breach = sym taken.is ∙ host in
-    let more : host_breaches start (event ∷ past) ≡ host_breaches start past + 1 = counts start past event true (ap is_host is) in record {
-      stands = subst (StandsAt start (event ∷ past)) (sym there) (match_false _ _ (is_broken said) (ap is_broken host) taken.after);
-      lawful = (ap is_broken is, at.lawful);
-      host = omega (arith, one, at.host, more);
-    }
-
 -- the controller breaks one
-pub audits_broken : (start : Start) (past : Past) (event : Event) (said : Verdict) (rule : Rule) (old new : Auditor) (judge : Judge) → IsTaken start past event said old.judge judge → said ≡ Broken rule → new.judge ≡ judge → new.host_breaches ≡ old.host_breaches
-    → AuditsAt start past old → AuditsAt start past new
-audits_broken start past event said rule old new judge taken broken there same at = record {
+pub audits_broken : (start : Start) (past : Past) (found : List Finding) (event : Event) (said : Verdict) (rule : Rule) (old new : Auditor) (judge : Judge) → IsTaken start past event said old.judge judge → said ≡ Broken rule
+    → new.judge ≡ judge → new.host_breaches ≡ old.host_breaches → new.host.items ≡ old.host.items → AuditsAt start past found old → AuditsAt start past found new
+audits_broken start past found event said rule old new judge taken broken there same told at = record {
   stands = subst (StandsAt start past) (sym (there ∙ match_true _ _ (is_broken said) (ap is_broken broken) taken.after)) at.stands;
   lawful = at.lawful;
   host = same ∙ at.host;
+  told = told ∙ at.told;
 }
 
 -- ---- one line
@@ -80,42 +55,47 @@ reverse_more line lines rest = sym (append_assoc (reverse lines) (line ∷ []) r
 
 -- after the head
 pub audited_head : (view : View) (text : List ℕ) (n : ℕ) (new : Option (List ℕ)) (head : Head) (auditor : Auditor) → TakesTold (λ line. head_of_line view line ≡ Ok head) 0 (Some text) n new
-    → AuditsAt head.start [] auditor → AuditedUpTo view text new n head auditor
+    → AuditsAt head.start [] [] auditor → AuditedUpTo view text new n head auditor
 audited_head view text n None head auditor t at = t
-audited_head view text n (Some rest) head auditor (line, split, is) at = record {
+audited_head view text n (Some rest) head auditor (line, split, is, count) at = record {
   past = [];
-  before = record { first = (n, line); lines = []; split = split; head_is = is; tells = refl; lawful = tt };
+  found = [];
+  in_all = omega (arith, count);
+  before = record { first = (n, line); lines = []; split = split; head_is = is; tells = (refl, refl); lawful = tt };
   audits = at;
 }
 
 -- after one line more
 pub audited_more : (view : View) (text : List ℕ) (m : ℕ) (old : Option (List ℕ)) (n : ℕ) (new : Option (List ℕ)) (head : Head) (auditor next : Auditor) (said : Option Event)
     → AuditedUpTo view text old m head auditor → TakesTold (λ line. event_of_line view head line ≡ Ok said) m old n new
-    → ((past : Past) → AuditsAt head.start past auditor → AuditsAt head.start (added said past) next) → AuditedUpTo view text new n head next
+    → ((past : Past) (found : List Finding) → AuditsAt head.start past found auditor → AuditsAt head.start (added said past) (found ++ host_at head.start past n said) next) → AuditedUpTo view text new n head next
 audited_more view text m None n new head auditor next said j t f = absurd j
 audited_more view text m (Some xs) n None head auditor next said j t f = absurd t
-audited_more view text m (Some xs) n (Some ys) head auditor next said j (line, split, is) f =
-    let at : AuditsAt head.start (added said j.past) next = f j.past j.audits in record {
+audited_more view text m (Some xs) n (Some ys) head auditor next said j (line, split, is, count) f =
+    let at : AuditsAt head.start (added said j.past) (j.found ++ host_at head.start j.past n said) next = f j.past j.found j.audits in record {
       past = added said j.past;
+      found = j.found ++ host_at head.start j.past n said;
+      in_all = j.in_all ∙ count;
       before = record {
         first = j.before.first;
         lines = (n, line) ∷ j.before.lines;
         split = j.before.split ∙ ap (λ (ls : List (ℕ × List ℕ)). j.before.first ∷ (reverse j.before.lines ++ ls)) split ∙ ap (λ (ls : List (ℕ × List ℕ)). j.before.first ∷ ls) (reverse_more (n, line) j.before.lines (numbered n (lines_of ys)));
         head_is = j.before.head_is;
-        tells = (said, j.past, is, refl, j.before.tells);
+        tells = (said, j.past, j.found, is, refl, refl, j.before.tells);
         lawful = at.lawful;
       };
       audits = at;
     }
 
 -- after the last line
-pub audited_all : (view : View) (text : List ℕ) (old : Option (List ℕ)) (number : ℕ) (head : Head) (auditor : Auditor) (audit : Audit) → AuditedUpTo view text old number head auditor → HasNoTold number old
-    → audit.broken ≡ None → audit.host_breaches ≡ auditor.host_breaches → IsAudit view text audit
-audited_all view text None number head auditor audit j n none host = absurd j
-audited_all view text (Some xs) number head auditor audit j n none host =
-    let all : IsLawfulText view text audit.host_breaches = record {
+pub audited_all : (view : View) (text : List ℕ) (old : Option (List ℕ)) (number : ℕ) (head : Head) (auditor : Auditor) (audit : Audit) → AuditedUpTo view text old number head auditor → HasNoTold number old → AreInAll number old audit.lines
+    → audit.broken ≡ None → audit.host_breaches ≡ auditor.host_breaches → audit.host.items ≡ auditor.host.items → IsAudit view text audit
+audited_all view text None number head auditor audit j n all none host told = absurd j
+audited_all view text (Some xs) number head auditor audit j n all none host told =
+    let whole : IsLawfulText view text audit = record {
       head = head;
       past = j.past;
+      found = j.found;
       whole = record {
         first = j.before.first;
         lines = j.before.lines;
@@ -124,21 +104,24 @@ audited_all view text (Some xs) number head auditor audit j n none host =
         tells = j.before.tells;
         lawful = j.before.lawful;
       };
+      lines_are = all ∙ sym j.in_all;
       host_is = host ∙ j.audits.host;
-    } in subst (IsFound view text audit.host_breaches) (sym none) all
+      told_are = told ∙ j.audits.told;
+    } in subst (IsFound view text audit) (sym none) whole
 
 -- at a line at which the controller breaks a rule
 pub audited_finding : (view : View) (text : List ℕ) (m : ℕ) (old : Option (List ℕ)) (n : ℕ) (new : Option (List ℕ)) (head : Head) (auditor next : Auditor) (said : Option Event) (finding : Finding) (audit : Audit)
     → AuditedUpTo view text old m head auditor → TakesTold (λ line. event_of_line view head line ≡ Ok said) m old n new
-    → ((past : Past) → AuditsAt head.start past auditor → IsFinding head.start past n said finding × AuditsAt head.start past next)
-    → audit.broken ≡ Some finding → audit.host_breaches ≡ next.host_breaches → IsAudit view text audit
-audited_finding view text m None n new head auditor next said finding audit j t f found host = absurd j
-audited_finding view text m (Some xs) n None head auditor next said finding audit j t f found host = absurd t
-audited_finding view text m (Some xs) n (Some ys) head auditor next said finding audit j (line, split, is) f found host =
-    let (of, at) = f j.past j.audits in
-    let first : IsBrokenText view text audit.host_breaches finding = record {
+    → ((past : Past) (found : List Finding) → AuditsAt head.start past found auditor → IsFinding head.start past n said finding × AuditsAt head.start past found next)
+    → audit.lines ≡ n → audit.broken ≡ Some finding → audit.host_breaches ≡ next.host_breaches → audit.host.items ≡ next.host.items → IsAudit view text audit
+audited_finding view text m None n new head auditor next said finding audit j t f lines broken host told = absurd j
+audited_finding view text m (Some xs) n None head auditor next said finding audit j t f lines broken host told = absurd t
+audited_finding view text m (Some xs) n (Some ys) head auditor next said finding audit j (line, split, is, count) f lines broken host told =
+    let (of, at) = f j.past j.found j.audits in
+    let first : IsBrokenText view text audit finding = record {
       head = head;
       past = j.past;
+      found = j.found;
       line = line;
       later = numbered n (lines_of ys);
       before = record {
@@ -150,11 +133,14 @@ audited_finding view text m (Some xs) n (Some ys) head auditor next said finding
         tells = j.before.tells;
         lawful = j.before.lawful;
       };
+      lines_are = lines ∙ sym of.line_is;
       host_is = host ∙ at.host;
+      told_are = told ∙ at.told;
       says = is ∙ ap (λ (o : Option Event). Ok o) of.event_is;
       said_is = of.said_is;
+      facts_are = of.facts_are;
       broken = of.broken;
-    } in subst (IsFound view text audit.host_breaches) (sym found) first
+    } in subst (IsFound view text audit) (sym broken) first
 
 -- at a line that is faulty
 pub audited_fault : (view : View) (text : List ℕ) (old : Option (List ℕ)) (number : ℕ) (head : Head) (auditor : Auditor) (e : LogError) → AuditedUpTo view text old number head auditor → IsEventFault view head e number old → IsFault view text e
@@ -163,6 +149,7 @@ audited_fault view text (Some xs) number head auditor (error.Line line fault not
     inr (inr (record {
       head = head;
       past = j.past;
+      found = j.found;
       quoted = quoted;
       later = rest;
       before = record {

@@ -2,5 +2,6 @@ pub mod ReadingLemmas
 pub mod HeadLemmas
 pub mod EntryLemmas
 pub mod LineLemmas
+pub mod ToldLemmas
 pub mod AuditLemmas
 pub mod FirstLemmas

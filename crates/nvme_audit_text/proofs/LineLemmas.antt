@@ -1,5 +1,5 @@
 -- The line that comes next, and its fault.
-use Rattle.std.proofs.Common.{◌≡◌, ◌≢◌, ℕ, ◌<◌, ltb, true, List, ◌∷◌, length, Option, Some, None, Result, Ok, Err, inl, inr, refl, sym, subst}
+use Rattle.std.proofs.Common.{◌≡◌, ◌≢◌, ℕ, ◌<◌, ltb, true, List, length, Option, Some, None, Result, Err, inl, inr, refl, sym, subst}
 use Rattle.std.proofs.lemmas.Bool.{lt-ltb}
 use Rattle.nvme_lines.specs.Lines.{longest_line, lines_of, numbered, TakesTold, StartsTold, HasNoTold, MeetsTold}
 use Rattle.nvme_lines.specs.declared.lines.NextError.{NextError}
@@ -17,7 +17,7 @@ use Rattle.nvme_audit_text.specs.inside.Steps.{IsOther, IsLineFault, IsStopped, 
 starts_as : (P : List ℕ → Type 0) (line : List ℕ) (m n : ℕ) (a b : Option (List ℕ)) → TakesTold (λ l. l ≡ line) m a n b → P line → StartsTold P m a n
 starts_as P line m n None b t p = tt
 starts_as P line m n (Some xs) None t p = absurd t
-starts_as P line m n (Some xs) (Some ys) (l, split, is) p = (l, numbered n (lines_of ys), split, subst P (sym is) p)
+starts_as P line m n (Some xs) (Some ys) (l, split, is, count) p = (l, numbered n (lines_of ys), split, subst P (sym is) p)
 
 starts_so : (P Q : List ℕ → Type 0) (m n : ℕ) (a : Option (List ℕ)) → ((l : List ℕ) → P l → Q l) → StartsTold P m a n → StartsTold Q m a n
 starts_so P Q m n None f s = tt

@@ -1,5 +1,5 @@
 -- The fields of a line that aren't passed over.
-use Rattle.std.proofs.Common.{◌≡◌, suc, ◌+◌, ◌≤◌, ℕ, Bool, true, false, List, [], ◌∷◌, length, Some, String, Global, refl, sym, ap, subst, arith}
+use Rattle.std.proofs.Common.{◌≡◌, suc, ◌+◌, ◌≤◌, ℕ, Bool, true, false, List, [], ◌∷◌, length, Some, String, Global, sym, ap, subst, arith}
 use Rattle.std.specs.Prelude.{string_bytes, if◌then◌else◌}
 use Rattle.serde_json.specs.Data.{Data, null, boolean, number, string, array, object, Members}
 use Rattle.serde_json.specs.Find.{as_object}

@@ -1,42 +1,36 @@
 -- Logs as texts, and what an audit of one answers. (profile)
-use Rattle.std.specs.Prelude.{◌≡◌, ◌≢◌, ◌⊎◌, ℕ, ◌+◌, Bool, true, false, if◌then◌else◌, List, [], ◌∷◌, ◌++◌, reverse, Option, Some, None, Result, Ok, Err}
-use Rattle.nvme_lines.specs.Lines.{lines_of, numbered, told_lines}
+use Rattle.std.specs.Prelude.{◌≡◌, ◌⊎◌, ℕ, ◌+◌, Bool, true, false, if◌then◌else◌, List, [], ◌∷◌, ◌++◌, reverse, length, take, Option, Some, None, Ok, Err}
+use Rattle.nvme_lines.specs.Lines.{lines_of, told_lines}
 use Rattle.nvme_audit.specs.declared.event.Event.{Event}
+use Rattle.nvme_audit.specs.declared.event.Event.TheVariants.{Tail, Head as HeadBell, Fetch, Post}
 use Rattle.nvme_audit.specs.declared.facts.Start.{Start}
-use Rattle.nvme_audit.specs.declared.judge.Judge.{Judge}
 use Rattle.nvme_audit.specs.declared.verdict.Verdict.{Verdict}
 use Rattle.nvme_audit.specs.declared.verdict.Verdict.TheVariants.{Kept, Host, Broken}
 use Rattle.nvme_audit.specs.Lives.{Past}
-use Rattle.nvme_audit.specs.Lawful.{verdict, is_broken, IsLawful, IsLawfulLog}
-use Rattle.nvme_audit.specs.Standing.{StandsAt}
+use Rattle.nvme_audit.specs.Facts.{sq_after, cq_after, outstanding}
+use Rattle.nvme_audit.specs.Lawful.{verdict, is_broken, IsLawfulLog}
 use Rattle.nvme_audit_text.specs.declared.fault.LineFault.{LineFault}
-use Rattle.nvme_audit_text.specs.declared.fault.LineFault.TheVariants.{NoHead, NoMemory}
+use Rattle.nvme_audit_text.specs.declared.fault.LineFault.TheVariants.{NoHead}
 use Rattle.nvme_audit_text.specs.declared.fault.LogError.{LogError}
 use Rattle.nvme_audit_text.specs.declared.fault.LogError.TheVariants as error
 use Rattle.nvme_audit_text.specs.declared.views.View.{View}
 use Rattle.nvme_audit_text.specs.declared.head.Head.{Head}
+use Rattle.nvme_audit_text.specs.declared.facts.Facts.{Facts}
 use Rattle.nvme_audit_text.specs.declared.audit.Finding.{Finding}
 use Rattle.nvme_audit_text.specs.declared.audit.Audit.{Audit}
 use Rattle.nvme_audit_text.specs.Format.{head_of_line, event_of_line}
 
--- ---- the events of some lines
-abbrev pub added : Option Event → Past → Past
-added None past = past
-added (Some event) past = event ∷ past
+-- ---- what is told of an event
+-- what stood before it: the facts of its queues and of the outstanding command of its name
+abbrev pub facts_of : Start → Past → Event → Facts
+facts_of start past (Tail q slot) = record { sq = Some (sq_after start past q); cq = None; command = None }
+facts_of start past (HeadBell q slot) = record { sq = None; cq = Some (cq_after start past q); command = None }
+facts_of start past (Fetch q slot cid command) = record { sq = Some (sq_after start past q); cq = None; command = outstanding past q cid }
+facts_of start past (Post q slot completion) = record { sq = Some (sq_after start past completion.sq); cq = Some (cq_after start past q); command = outstanding past completion.sq completion.cid }
 
--- some lines after a head, the last one first, tell these events
-abbrev pub TellEvents : View → Head → List (ℕ × List ℕ) → Past → Type 0
-TellEvents view head [] past = past ≡ []
-TellEvents view head (line ∷ earlier) past = (said : Option Event) × (before : Past) × (event_of_line view head line.1 ≡ Ok said) × (past ≡ added said before) × TellEvents view head earlier before
-
--- the first lines of a text that aren't blank, before others: a head, and lines that tell the events of a lawful log
-pub record IsLawfulBefore (view : View) (text : List ℕ) (later : List (ℕ × List ℕ)) (head : Head) (past : Past) : Type 0 where
-  pub first : ℕ × List ℕ
-  pub lines : List (ℕ × List ℕ)
-  pub split : told_lines text ≡ first ∷ reverse lines ++ later
-  pub head_is : head_of_line view first.1 ≡ Ok head
-  pub tells : TellEvents view head lines past
-  pub lawful : IsLawfulLog head.start past
+-- with the number of its line, and what is said of it
+abbrev pub finding_of : Start → Past → ℕ → Event → Finding
+finding_of start past line event = record { line = line; event = event; said = verdict start past event; facts = facts_of start past event }
 
 -- ---- the host
 abbrev pub is_host : Verdict → Bool
@@ -49,33 +43,70 @@ abbrev pub host_breaches : Start → Past → ℕ
 host_breaches start [] = 0
 host_breaches start (event ∷ past) = host_breaches start past + (if is_host (verdict start past event) then 1 else 0)
 
+-- what is told where it does so at the event of a line
+abbrev pub host_at : Start → Past → ℕ → Option Event → List Finding
+host_at start past line None = []
+host_at start past line (Some event) = if is_host (verdict start past event) then finding_of start past line event ∷ [] else []
+
+-- the most breaches of the host that are told
+abbrev pub most_told : ℕ
+most_told = 10
+
+-- ---- the events of some lines
+abbrev pub added : Option Event → Past → Past
+added None past = past
+added (Some event) past = event ∷ past
+
+-- some lines after a head, the last one first, tell these events. At these the host breaks a rule, the first one first
+abbrev pub TellEvents : View → Head → List (ℕ × List ℕ) → Past → List Finding → Type 0
+TellEvents view head [] past found = (past ≡ []) × (found ≡ [])
+TellEvents view head (line ∷ earlier) past found =
+    (said : Option Event) × (before : Past) × (fewer : List Finding) × (event_of_line view head line.1 ≡ Ok said) × (past ≡ added said before)
+    × (found ≡ fewer ++ host_at head.start before line.0 said) × TellEvents view head earlier before fewer
+
+-- the first lines of a text that aren't blank, before others: a head, and lines that tell the events of a lawful log
+pub record IsLawfulBefore (view : View) (text : List ℕ) (later : List (ℕ × List ℕ)) (head : Head) (past : Past) (found : List Finding) : Type 0 where
+  pub first : ℕ × List ℕ
+  pub lines : List (ℕ × List ℕ)
+  pub split : told_lines text ≡ first ∷ reverse lines ++ later
+  pub head_is : head_of_line view first.1 ≡ Ok head
+  pub tells : TellEvents view head lines past found
+  pub lawful : IsLawfulLog head.start past
+
 -- ---- answers
 -- in the whole text the controller breaks no rule
-pub record IsLawfulText (view : View) (text : List ℕ) (host : ℕ) : Type 0 where
+pub record IsLawfulText (view : View) (text : List ℕ) (audit : Audit) : Type 0 where
   pub head : Head
   pub past : Past
-  pub whole : IsLawfulBefore view text [] head past
-  pub host_is : host ≡ host_breaches head.start past
+  pub found : List Finding
+  pub whole : IsLawfulBefore view text [] head past found
+  pub lines_are : audit.lines ≡ length (lines_of text)
+  pub host_is : audit.host_breaches ≡ host_breaches head.start past
+  pub told_are : audit.host.items ≡ take most_told found
 
 -- at the line of this number the controller breaks a rule, and at none before
-pub record IsBrokenText (view : View) (text : List ℕ) (host : ℕ) (finding : Finding) : Type 0 where
+pub record IsBrokenText (view : View) (text : List ℕ) (audit : Audit) (finding : Finding) : Type 0 where
   pub head : Head
   pub past : Past
+  pub found : List Finding
   pub line : List ℕ
   pub later : List (ℕ × List ℕ)
-  pub before : IsLawfulBefore view text ((finding.line, line) ∷ later) head past
-  pub host_is : host ≡ host_breaches head.start past
+  pub before : IsLawfulBefore view text ((finding.line, line) ∷ later) head past found
+  pub lines_are : audit.lines ≡ finding.line
+  pub host_is : audit.host_breaches ≡ host_breaches head.start past
+  pub told_are : audit.host.items ≡ take most_told found
   pub says : event_of_line view head line ≡ Ok (Some finding.event)
   pub said_is : finding.said ≡ verdict head.start past finding.event
+  pub facts_are : finding.facts ≡ facts_of head.start past finding.event
   pub broken : is_broken finding.said ≡ true
 
-abbrev pub IsFound : View → List ℕ → ℕ → Option Finding → Type 0
-IsFound view text host None = IsLawfulText view text host
-IsFound view text host (Some finding) = IsBrokenText view text host finding
+abbrev pub IsFound : View → List ℕ → Audit → Option Finding → Type 0
+IsFound view text audit None = IsLawfulText view text audit
+IsFound view text audit (Some finding) = IsBrokenText view text audit finding
 
 -- what an audit of a text answers
 abbrev pub IsAudit : View → List ℕ → Audit → Type 0
-IsAudit view text audit = IsFound view text audit.host_breaches audit.broken
+IsAudit view text audit = IsFound view text audit audit.broken
 
 -- ---- faults
 -- the first line that isn't blank is no head. Where all are blank, line 1 has the fault
@@ -89,9 +120,10 @@ pub record IsNoHead (view : View) (text : List ℕ) (line : ℕ) (fault : LineFa
 pub record IsNoEvent (view : View) (text : List ℕ) (line : ℕ) (fault : LineFault) : Type 0 where
   pub head : Head
   pub past : Past
+  pub found : List Finding
   pub quoted : List ℕ
   pub later : List (ℕ × List ℕ)
-  pub before : IsLawfulBefore view text ((line, quoted) ∷ later) head past
+  pub before : IsLawfulBefore view text ((line, quoted) ∷ later) head past found
   pub is : event_of_line view head quoted ≡ Err fault
 
 abbrev pub IsFaultAt : View → List ℕ → ℕ → LineFault → Type 0

@@ -1,6 +1,6 @@
 -- Entries as they stand in a line: their bytes in hexadecimal, or some of their fields.
 -- (Base Specification, Submission Queue Entry, Completion Queue Entry; the form: profile)
-use Rattle.std.specs.Prelude.{ℕ, ◌/◌, ◌%◌, ◌==◌, is_some, if◌then◌else◌, List, [], Option, Some, None, ok_or, option_map, option_and_then, unwrap_or, Result, Ok, Err}
+use Rattle.std.specs.Prelude.{ℕ, ◌/◌, ◌%◌, ◌==◌, List, Option, Some, None, ok_or, option_map, option_and_then, unwrap_or, Result, Ok}
 use Rattle.std.specs.Result.{result_ok}
 use Rattle.hex.specs.Hex.{decode_sized}
 use Rattle.serde_json.specs.Data.{Data}
@@ -9,12 +9,11 @@ use Rattle.nvme_entry.specs.Bits.{bytes_at}
 use Rattle.nvme_entry.specs.Status.{code}
 use Rattle.nvme_entry.specs.declared.submission.Sqe.{Sqe}
 use Rattle.nvme_audit.specs.declared.event.Completion.{Completion}
-use Rattle.nvme_audit_text.specs.declared.fault.Field.{Field}
 use Rattle.nvme_audit_text.specs.declared.fault.Field.TheVariants as field
 use Rattle.nvme_audit_text.specs.declared.fault.LineFault.{LineFault}
 use Rattle.nvme_audit_text.specs.declared.fault.LineFault.TheVariants.{Bad}
 use Rattle.nvme_audit_text.specs.Fields.{text_of}
-use Rattle.nvme_audit_text.specs.Readings.{◌>>=◌, ◌>>◌, number_at, maybe_at}
+use Rattle.nvme_audit_text.specs.Readings.{◌>>=◌, number_at, maybe_at}
 
 -- n bytes in hexadecimal
 abbrev pub bytes_in : ℕ → Data → Option (List ℕ)

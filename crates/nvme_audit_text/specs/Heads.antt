@@ -1,9 +1,8 @@
 -- What the head of a log says. (profile; the sizes: Base Specification, Admin Queue Attributes)
-use Rattle.std.specs.Prelude.{ℕ, ◌+◌, ◌-◌, ◌==◌, ◌&&◌, ◌||◌, Bool, true, false, not, is_some, nat_lt, nat_eq, if◌then◌else◌, codes, List, Option, Some, None, Result, Ok, Err}
+use Rattle.std.specs.Prelude.{ℕ, ◌+◌, ◌-◌, ◌==◌, ◌&&◌, ◌||◌, Bool, true, false, is_some, nat_lt, nat_eq, if◌then◌else◌, codes, List, Option, Some, None, Result, Ok, Err}
 use Rattle.std.specs.Cmp.Lexicographic.{pointwise}
 use Rattle.serde_json.specs.Data.{Data, Items, no_items, item}
 use Rattle.serde_json.specs.Find.{get, as_str, as_array}
-use Rattle.nvme_audit.specs.declared.facts.Start.{Start}
 use Rattle.nvme_audit.specs.declared.facts.Tells.{Tells}
 use Rattle.nvme_audit_text.specs.declared.fault.Kind.{Kind}
 use Rattle.nvme_audit_text.specs.declared.fault.Kind.TheVariants as kind

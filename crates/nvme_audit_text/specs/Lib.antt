@@ -4,6 +4,7 @@ pub mod Heads
 pub mod Entries
 pub mod Format
 pub mod Views
+pub mod Names
 pub mod Audits
 pub mod Laws
 pub mod inside

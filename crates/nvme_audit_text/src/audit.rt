@@ -1,14 +1,15 @@
 // Judges a log, which is read as a stream.
-ghost use Rattle.std.specs.Prelude.{◌≡◌, ◌≤◌, ℕ, List, Option, Ok, length, Some, None, [], ◌∷◌, ◌+◌, IfOk, IfErr, IfSome, OnOk, MatchOption};
-ghost use Rattle.nvme_lines.specs.Lines.{longest_line, MatchTold, TakesTold, HasNoTold};
+ghost use Rattle.std.specs.Prelude.{◌≡◌, ◌≤◌, ℕ, List, Option, Ok, length, take, Some, None, [], ◌∷◌, ◌++◌, ◌+◌, IfOk, IfErr, IfSome, OnOk, MatchOption};
+ghost use Rattle.nvme_lines.specs.Lines.{longest_line, MatchTold, TakesTold, HasNoTold, AreInAll};
 ghost use Rattle.nvme_audit.specs.declared.facts.Start.{Start};
 ghost use Rattle.nvme_audit.specs.Lives.{Past};
 ghost use Rattle.nvme_audit.specs.Standing.{StandsAt};
 ghost use Rattle.nvme_audit_text.specs.declared.views.View.{View};
 ghost use Rattle.nvme_audit_text.specs.declared.head.Head.{Head};
+ghost use Rattle.nvme_audit_text.specs.declared.audit.Finding.{Finding};
 ghost use Rattle.nvme_audit_text.specs.Format.{head_of_line, event_of_line};
 ghost use Rattle.nvme_audit_text.specs.Readings.{Fails};
-ghost use Rattle.nvme_audit_text.specs.Audits.{added, IsAudit, IsFault};
+ghost use Rattle.nvme_audit_text.specs.Audits.{added, host_at, most_told, IsAudit, IsFault};
 ghost use Rattle.nvme_audit_text.specs.inside.Steps.{IsTaken, IsOther, AuditsAt, IsFinding, IsLineFault, IsStopped, IsHeadFault, IsEventFault};
 
 use crate::events::{event_of_line, head_of_line};
@@ -82,7 +83,8 @@ fn one_more(count: u64) -> Result<u64, LogError>
     }
 }
 
-// Keeps what is told of the host, where little is kept.
+// Keeps one more breach of the host, where few are kept.
+#[tactic(auto, using(crate::proofs::ToldLemmas::one_more_told, crate::proofs::ToldLemmas::enough_told))]
 fn keep_first(
     host: &mut Vec<Finding>,
     line: u64,
@@ -90,6 +92,7 @@ fn keep_first(
     said: Verdict,
     facts: Facts,
 ) -> Result<(), LogError>
+    ensures first { OnOk result ((found : List Finding) → host.old.items ≡ take most_told found → host.new.items ≡ take most_told (found ++ record { line = line; event = event; said = said; facts = facts } ∷ [])) }
     ensures other { IfErr result IsOther }
 {
     if host.len() < MOST_TOLD {
@@ -106,7 +109,7 @@ fn keep_first(
 impl Auditor {
     // Nothing was read yet but the head.
     fn new(alloc: Global, start: Start) -> Auditor
-        ensures { AuditsAt start [] result }
+        ensures { AuditsAt start [] [] result }
     {
         Auditor {
             judge: Judge::new(alloc, start),
@@ -117,7 +120,7 @@ impl Auditor {
 
     // Takes an event, which the line of this number tells. The answer is a breach of the controller.
     fn take(&mut self, line: u64, event: Event) -> Result<Option<Finding>, LogError>
-        ensures taken { (start : Start) (past : Past) → AuditsAt start past self.old → IfOk result (λ found. MatchOption found (AuditsAt start (event ∷ past) self.new) (λ finding. IsFinding start past line (Some event) finding × AuditsAt start past self.new)) }
+        ensures taken { (start : Start) (past : Past) (found : List Finding) → AuditsAt start past found self.old → IfOk result (λ o. MatchOption o (AuditsAt start (event ∷ past) (found ++ host_at start past line (Some event)) self.new) (λ finding. IsFinding start past line (Some event) finding × AuditsAt start past found self.new)) }
         ensures other { IfErr result IsOther }
     {
         let facts = Facts::of(&self.judge, &event);
@@ -140,7 +143,7 @@ impl Auditor {
 
     // Takes what the line of this number tells.
     fn note(&mut self, line: u64, said: Option<Event>) -> Result<Option<Finding>, LogError>
-        ensures taken { (start : Start) (past : Past) → AuditsAt start past self.old → IfOk result (λ found. MatchOption found (AuditsAt start (added said past) self.new) (λ finding. IsFinding start past line said finding × AuditsAt start past self.new)) }
+        ensures taken { (start : Start) (past : Past) (found : List Finding) → AuditsAt start past found self.old → IfOk result (λ o. MatchOption o (AuditsAt start (added said past) (found ++ host_at start past line said) self.new) (λ finding. IsFinding start past line said finding × AuditsAt start past found self.new)) }
         ensures other { IfErr result IsOther }
     {
         match said {
@@ -151,8 +154,10 @@ impl Auditor {
 
     // The answer after the lines so far.
     fn answer(self, lines: u64, broken: Option<Finding>) -> Audit
+        ensures lines { result.lines ≡ lines }
         ensures broken { result.broken ≡ broken }
         ensures host { result.host_breaches ≡ self.host_breaches }
+        ensures told { result.host.items ≡ self.host.items }
     {
         Audit {
             lines,
@@ -261,7 +266,7 @@ fn said_next<R: Read>(
     head: &Head,
     lines: &mut ToldLines<R>,
 ) -> Result<Option<Option<Event>>, LogError>
-    ensures ok { IfOk result (λ o. MatchOption o (HasNoTold lines.old.number lines.old.rest) (λ said. TakesTold (λ line. event_of_line through.now head.now line ≡ Ok said) lines.old.number lines.old.rest lines.new.number lines.new.rest)) }
+    ensures ok { IfOk result (λ o. MatchOption o (HasNoTold lines.old.number lines.old.rest × AreInAll lines.old.number lines.old.rest lines.new.number) (λ said. TakesTold (λ line. event_of_line through.now head.now line ≡ Ok said) lines.old.number lines.old.rest lines.new.number lines.new.rest)) }
     ensures err { IfErr result (λ e. IsEventFault through.now head.now e lines.old.number lines.old.rest) }
 {
     if !told_line(alloc, lines)? {

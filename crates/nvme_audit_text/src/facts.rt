@@ -13,8 +13,16 @@ pub struct Facts {
 }
 
 impl Facts {
+    ghost use Rattle.std.specs.Prelude.{◌≡◌};
+    ghost use Rattle.nvme_audit.specs.declared.facts.Start.{Start};
+    ghost use Rattle.nvme_audit.specs.Lives.{Past};
+    ghost use Rattle.nvme_audit.specs.Standing.{StandsAt};
+    ghost use Rattle.nvme_audit_text.specs.Audits.{facts_of};
+
     /// What a judge keeps before an event.
-    pub(crate) fn of(judge: &Judge, event: &Event) -> Facts {
+    pub(crate) fn of(judge: &Judge, event: &Event) -> Facts
+        ensures { (start : Start) (past : Past) → StandsAt start past judge.now → result ≡ facts_of start past event.now }
+    {
         let none = Facts {
             sq: None,
             cq: None,

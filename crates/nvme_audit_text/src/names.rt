@@ -1,4 +1,7 @@
 // The names of rules, and the sections of the Base Specification that they come from.
+ghost use Rattle.std.specs.Prelude.{◌≡◌, IfSome};
+ghost use Rattle.nvme_audit_text.specs.Names.{rule_text, all_rules, breach_text};
+
 use nvme_audit::{Breach, Rule};
 
 // The rules for the controller, in the order in which they are told.
@@ -23,7 +26,9 @@ const RULES: &[Rule] = &[
 ];
 
 /// The name of a rule for the controller.
-pub fn rule_name(rule: Rule) -> &'static str {
+pub fn rule_name(rule: Rule) -> &'static str
+    ensures { result.now ≡ rule_text rule }
+{
     match rule {
         Rule::FetchClosed => "fetch-closed",
         Rule::FetchBeyondTail => "fetch-beyond-tail",
@@ -46,12 +51,16 @@ pub fn rule_name(rule: Rule) -> &'static str {
 }
 
 /// The rule for the controller with this name.
-pub fn rule_named(name: &str) -> Option<Rule> {
+pub fn rule_named(name: &str) -> Option<Rule>
+    ensures some { IfSome result (λ rule. rule_text rule ≡ name.now) }
+{
     RULES.iter().copied().find(|rule| rule_name(*rule) == name)
 }
 
 /// The rules for the controller.
-pub fn rules() -> &'static [Rule] {
+pub fn rules() -> &'static [Rule]
+    ensures { result.now ≡ all_rules }
+{
     RULES
 }
 
@@ -78,7 +87,9 @@ pub(crate) fn section_of(rule: Rule) -> &'static str {
 }
 
 /// The name of a rule for the host.
-pub fn breach_name(breach: Breach) -> &'static str {
+pub fn breach_name(breach: Breach) -> &'static str
+    ensures { result.now ≡ breach_text breach }
+{
     match breach {
         Breach::TailRange => "tail-range",
         Breach::TailFull => "tail-full",

@@ -40,8 +40,13 @@ pub struct View {
 }
 
 impl View {
+    ghost use Rattle.std.specs.Prelude.{◌≡◌};
+    ghost use Rattle.nvme_audit_text.specs.Views.{whole, view_of, left_out};
+
     /// All that a log tells.
-    pub fn whole() -> View {
+    pub fn whole() -> View
+        ensures { result ≡ whole }
+    {
         View {
             completions: Completions::AsTold,
             tails: true,
@@ -54,7 +59,9 @@ impl View {
     }
 
     /// What an observer sees of it. The host doesn't see when an entry is fetched, nor from where.
-    pub fn of(observer: Observer) -> View {
+    pub fn of(observer: Observer) -> View
+        ensures { result ≡ view_of observer }
+    {
         let whole = View::whole();
         match observer {
             Observer::Bus => View {
@@ -72,7 +79,9 @@ impl View {
 
     /// Looks away from what a rule reads, and no other. Nothing changes for the rules that are always judged: the
     /// others rest on them.
-    pub fn leave_out(&mut self, rule: Rule) {
+    pub fn leave_out(&mut self, rule: Rule)
+        ensures { self.new ≡ left_out rule self.old }
+    {
         match rule {
             Rule::FetchBeyondTail => self.tails = false,
             Rule::FetchSlot => self.fetch_slots = false,

@@ -3,7 +3,7 @@ use Rattle.std.proofs.Common.{◌≡◌, ℕ, ◌+◌, ◌<◌, ◌≤◌, ◌&&
 use Rattle.std.specs.Prelude.{if◌then◌else◌}
 use Rattle.std.specs.List.{list_all}
 use Rattle.std.proofs.lemmas.Bool.{le-leb, lt-leb}
-use Rattle.nvme_lines.specs.Lines.{longest_line, lines_of, is_space, is_blank, numbered, PassesBlank, MeetsError, MeetsTold}
+use Rattle.nvme_lines.specs.Lines.{longest_line, is_space, is_blank, numbered, PassesBlank, MeetsError, MeetsTold}
 use Rattle.nvme_lines.specs.declared.lines.NextError.{NextError}
 use Rattle.nvme_lines.specs.declared.lines.NextError.TheVariants.{TooLong, Read, NoMemory}
 
@@ -31,19 +31,10 @@ long_blank line h =
 told_first : (m : ℕ) (line : List ℕ) (lines : List (List ℕ)) → is_blank line ≡ false → numbered m (line ∷ lines) ≡ (m + 1, line) ∷ numbered (m + 1) lines
 told_first m line lines told = ap (λ (b : Bool). if b then numbered (m + 1) lines else (m + 1, line) ∷ numbered (m + 1) lines) told
 
-blank_first : (m : ℕ) (line : List ℕ) (lines : List (List ℕ)) → is_blank line ≡ true → numbered m (line ∷ lines) ≡ numbered (m + 1) lines
-blank_first m line lines blank = ap (λ (b : Bool). if b then numbered (m + 1) lines else (m + 1, line) ∷ numbered (m + 1) lines) blank
-
-pub passes_more : (m n k : ℕ) (a b c : Option (List ℕ)) → PassesBlank m a n b → PassesBlank n b k c → PassesBlank m a k c
-passes_more m n k None b c p q = tt
-passes_more m n k (Some xs) None c p q = absurd p
-passes_more m n k (Some xs) (Some ys) None p q = absurd q
-passes_more m n k (Some xs) (Some ys) (Some zs) p q = p ∙ q
-
 -- what the next line meets after blank ones
 pub meets_passed : (e : NextError) (m n : ℕ) (a b : Option (List ℕ)) → PassesBlank m a n b → MeetsError e b → MeetsTold e m a (n + 1)
 meets_passed TooLong m n None b p s = tt
 meets_passed TooLong m n (Some xs) None p s = absurd p
-meets_passed TooLong m n (Some xs) (Some ys) p (l, rest, split, long) = (l, numbered (n + 1) rest, p ∙ (ap (numbered n) split ∙ told_first n l rest (long_blank l long)), long)
+meets_passed TooLong m n (Some xs) (Some ys) p (l, rest, split, long) = (l, numbered (n + 1) rest, p.0 ∙ (ap (numbered n) split ∙ told_first n l rest (long_blank l long)), long)
 meets_passed Read m n a b p s = tt
 meets_passed NoMemory m n a b p s = tt

@@ -74,7 +74,8 @@ MatchLine false line old new = HasNoLine old
 abbrev pub TakesTold : (List ℕ → Type 0) → ℕ → Option (List ℕ) → ℕ → Option (List ℕ) → Type 0
 TakesTold P m None n new = Unit {0}
 TakesTold P m (Some xs) n None = ⊥
-TakesTold P m (Some xs) n (Some ys) = (line : List ℕ) × (numbered m (lines_of xs) ≡ (n, line) ∷ numbered n (lines_of ys)) × P line
+TakesTold P m (Some xs) n (Some ys) =
+    (line : List ℕ) × (numbered m (lines_of xs) ≡ (n, line) ∷ numbered n (lines_of ys)) × P line × (m + length (lines_of xs) ≡ n + length (lines_of ys))
 
 -- after m lines the next one of the known lines that isn't blank is number n, and of this kind
 abbrev pub StartsTold : (List ℕ → Type 0) → ℕ → Option (List ℕ) → ℕ → Type 0
@@ -86,15 +87,20 @@ abbrev pub HasNoTold : ℕ → Option (List ℕ) → Type 0
 HasNoTold m None = Unit {0}
 HasNoTold m (Some xs) = numbered m (lines_of xs) ≡ []
 
+-- after m lines there are n known ones
+abbrev pub AreInAll : ℕ → Option (List ℕ) → ℕ → Type 0
+AreInAll m None n = Unit {0}
+AreInAll m (Some xs) n = n ≡ m + length (lines_of xs)
+
 abbrev pub MatchTold : Bool → List ℕ → ℕ → Option (List ℕ) → ℕ → Option (List ℕ) → Type 0
 MatchTold true line m old n new = TakesTold (λ l. l ≡ line) m old n new
-MatchTold false line m old n new = HasNoTold m old
+MatchTold false line m old n new = HasNoTold m old × AreInAll m old n
 
 -- after m and after n lines the same lines are left that aren't blank
 abbrev pub PassesBlank : ℕ → Option (List ℕ) → ℕ → Option (List ℕ) → Type 0
 PassesBlank m None n new = Unit {0}
 PassesBlank m (Some xs) n None = ⊥
-PassesBlank m (Some xs) n (Some ys) = numbered m (lines_of xs) ≡ numbered n (lines_of ys)
+PassesBlank m (Some xs) n (Some ys) = (numbered m (lines_of xs) ≡ numbered n (lines_of ys)) × (m + length (lines_of xs) ≡ n + length (lines_of ys))
 
 -- why there is no next line: a line that is too long, or what the text doesn't tell
 abbrev pub MeetsError : NextError → Option (List ℕ) → Type 0

@@ -1,5 +1,5 @@
 -- One line more of an audit.
-use Rattle.std.specs.Prelude.{◌≡◌, ◌≢◌, ◌⊎◌, ℕ, Bool, true, List, [], ◌∷◌, Option, Some, None, Err, MatchBool}
+use Rattle.std.specs.Prelude.{◌≡◌, ◌≢◌, ◌⊎◌, ℕ, ◌+◌, true, List, [], ◌∷◌, length, take, Option, Some, None, Err, MatchBool}
 use Rattle.nvme_lines.specs.Lines.{lines_of, numbered, StartsTold}
 use Rattle.nvme_lines.specs.declared.lines.NextError.{NextError}
 use Rattle.nvme_lines.specs.declared.lines.NextError.TheVariants as next
@@ -19,7 +19,7 @@ use Rattle.nvme_audit_text.specs.declared.head.Head.{Head}
 use Rattle.nvme_audit_text.specs.declared.audit.Finding.{Finding}
 use Rattle.nvme_audit_text.specs.declared.audit.Auditor.{Auditor}
 use Rattle.nvme_audit_text.specs.Format.{head_of_line, event_of_line}
-use Rattle.nvme_audit_text.specs.Audits.{IsLawfulBefore, host_breaches}
+use Rattle.nvme_audit_text.specs.Audits.{IsLawfulBefore, facts_of, host_breaches, most_told}
 
 -- a judge takes an event
 pub record IsTaken (start : Start) (past : Past) (event : Event) (said : Verdict) (old new : Judge) : Type 0 where
@@ -33,17 +33,19 @@ IsOther error.Read = Unit {0}
 IsOther error.TooLong = Unit {0}
 IsOther error.NoMemory = Unit {0}
 
--- an auditor stands at a lawful log
-pub record AuditsAt (start : Start) (past : Past) (auditor : Auditor) : Type 0 where
+-- an auditor stands at a lawful log, with these breaches of the host
+pub record AuditsAt (start : Start) (past : Past) (found : List Finding) (auditor : Auditor) : Type 0 where
   pub stands : StandsAt start past auditor.judge
   pub lawful : IsLawfulLog start past
   pub host : auditor.host_breaches ≡ host_breaches start past
+  pub told : auditor.host.items ≡ take most_told found
 
 -- what is told of an event at which the controller breaks a rule
 pub record IsFinding (start : Start) (past : Past) (line : ℕ) (said : Option Event) (finding : Finding) : Type 0 where
   pub line_is : finding.line ≡ line
   pub event_is : said ≡ Some finding.event
   pub said_is : finding.said ≡ verdict start past finding.event
+  pub facts_are : finding.facts ≡ facts_of start past finding.event
   pub broken : is_broken finding.said ≡ true
 
 -- the error tells this fault in the line of this number. Out of memory is told as such
@@ -81,8 +83,10 @@ IsEventFault view head error.NoMemory number rest = Unit {0}
 -- an auditor stands where this many lines were read
 pub record IsAuditedUpTo (view : View) (text rest : List ℕ) (number : ℕ) (head : Head) (auditor : Auditor) : Type 0 where
   pub past : Past
-  pub before : IsLawfulBefore view text (numbered number (lines_of rest)) head past
-  pub audits : AuditsAt head.start past auditor
+  pub found : List Finding
+  pub in_all : length (lines_of text) ≡ number + length (lines_of rest)
+  pub before : IsLawfulBefore view text (numbered number (lines_of rest)) head past found
+  pub audits : AuditsAt head.start past found auditor
 
 abbrev pub AuditedUpTo : View → List ℕ → Option (List ℕ) → ℕ → Head → Auditor → Type 0
 AuditedUpTo view text None number head auditor = ⊥

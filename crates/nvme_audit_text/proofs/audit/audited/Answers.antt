@@ -1,8 +1,10 @@
-use Rattle.std.proofs.Common.{◌≡◌, ℕ, List, Option, None, Some, Ok, subst, rules}
+use Rattle.std.proofs.Common.{◌≡◌, ℕ, List, ◌++◌, None, Ok, subst, ◌∙◌, rules}
 use Rattle.std.proofs.lemmas.Result.{err_from_is_err_and}
-use Rattle.nvme_lines.specs.Lines.{TakesTold, HasNoTold}
+use Rattle.nvme_lines.specs.Lines.{TakesTold, HasNoTold, AreInAll}
 use Rattle.nvme_audit.specs.Lives.{Past}
+use Rattle.nvme_audit_text.specs.declared.audit.Finding.{Finding}
 use Rattle.nvme_audit_text.specs.Format.{event_of_line}
+use Rattle.nvme_audit_text.specs.Audits.{added, host_at}
 use Rattle.nvme_audit_text.specs.inside.Steps.{AuditsAt, IsFinding}
 use Rattle.nvme_audit_text.proofs.AuditLemmas.{at_some, at_none, audited_head, audited_more, audited_all, audited_finding, audited_fault, other_fault}
 use Rattle.nvme_audit_text.proofs.audit.audited.Goals as goal
@@ -18,7 +20,8 @@ returns-in_err-said-clause-fault g c =
 pub returns-in_default-clause-answer : goal.returns-in_default-clause-answer
 returns-in_default-clause-answer g c = λ text t.
     let none : HasNoTold c.loop.lines.number c.loop.lines.rest = search rules in
-    audited_all c.args.through.now text c.loop.lines.rest c.loop.lines.number c.args.head.now c.loop.auditor c.answer.result (c.loop.invariant text t) none c.answer.ensures.broken c.answer.ensures.host
+    let all : AreInAll c.loop.lines.number c.loop.lines.rest c.answer.result.lines = search rules in
+    audited_all c.args.through.now text c.loop.lines.rest c.loop.lines.number c.args.head.now c.loop.auditor c.answer.result (c.loop.invariant text t) none all c.answer.ensures.broken c.answer.ensures.host c.answer.ensures.told
 
 pub returns-in_err-finding-clause-fault : goal.returns-in_err-finding-clause-fault
 returns-in_err-finding-clause-fault g c =
@@ -32,9 +35,9 @@ returns-in-Some-2-clause-answer g c = λ text t.
     let head = c.args.head.now in
     let took : TakesTold (λ line. event_of_line c.args.through.now head line ≡ Ok c.in-Some.said) m c.loop.lines.rest n c.said_next.new.lines.rest = search rules in
     audited_finding c.args.through.now text m c.loop.lines.rest n c.said_next.new.lines.rest head c.loop.auditor c.note.new.self c.in-Some.said c.in-Some-2.finding c.answer-in-Some-2.result (c.loop.invariant text t) took
-    (λ (past : Past) (at : AuditsAt head.start past c.loop.auditor). subst (λ (k : ℕ). IsFinding head.start past k c.in-Some.said c.in-Some-2.finding × AuditsAt head.start past c.note.new.self) c.number-in-loop.ensures
-    (at_some _ _ c.in_ok-finding.field-0 c.in-Some-2.finding (c.in_ok-finding.ensures.taken head.start past at) c.in-Some-2.is))
-    c.answer-in-Some-2.ensures.broken c.answer-in-Some-2.ensures.host
+    (λ (past : Past) (found : List Finding) (at : AuditsAt head.start past found c.loop.auditor). subst (λ (k : ℕ). IsFinding head.start past k c.in-Some.said c.in-Some-2.finding × AuditsAt head.start past found c.note.new.self) c.number-in-loop.ensures
+    (at_some _ _ c.in_ok-finding.field-0 c.in-Some-2.finding (c.in_ok-finding.ensures.taken head.start past found at) c.in-Some-2.is))
+    (c.answer-in-Some-2.ensures.lines ∙ c.number-in-Some-2.ensures) c.answer-in-Some-2.ensures.broken c.answer-in-Some-2.ensures.host c.answer-in-Some-2.ensures.told
 
 pub loop-preserved : goal.loop-preserved
 loop-preserved g c = λ text t.
@@ -44,4 +47,5 @@ loop-preserved g c = λ text t.
     let took : TakesTold (λ line. event_of_line c.args.through.now head line ≡ Ok c.in-Some.said) m c.loop.lines.rest n c.said_next.new.lines.rest = search rules in
     let none : c.in_ok-finding.field-0 ≡ None = search rules in
     audited_more c.args.through.now text m c.loop.lines.rest n c.said_next.new.lines.rest head c.loop.auditor c.note.new.self c.in-Some.said (c.loop.invariant text t) took
-    (λ (past : Past) (at : AuditsAt head.start past c.loop.auditor). at_none _ _ c.in_ok-finding.field-0 (c.in_ok-finding.ensures.taken head.start past at) none)
+    (λ (past : Past) (found : List Finding) (at : AuditsAt head.start past found c.loop.auditor). subst (λ (k : ℕ). AuditsAt head.start (added c.in-Some.said past) (found ++ host_at head.start past k c.in-Some.said) c.note.new.self) c.number-in-loop.ensures
+    (at_none _ _ c.in_ok-finding.field-0 (c.in_ok-finding.ensures.taken head.start past found at) none))

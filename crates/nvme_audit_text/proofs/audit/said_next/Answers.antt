@@ -1,4 +1,4 @@
-use Rattle.std.proofs.Common.{◌≡◌, ℕ, List, rules}
+use Rattle.std.proofs.Common.{◌≡◌, rules}
 use Rattle.nvme_lines.specs.Lines.{TakesTold}
 use Rattle.nvme_audit_text.specs.Format.{event_of_line}
 use Rattle.nvme_audit_text.specs.Readings.{Fails}
