@@ -1,5 +1,10 @@
 /* SPDX-License-Identifier: MIT */
 /* The parts of a simulation. Lists and trees lie behind it in its memory, and are found by offsets. */
+/*
+ * Decided: a simulation by step in C is C over the library, and not proved. Rattle's keeps its lists in allocated memory,
+ * and no struct that does so may cross to C. So it can't lie in memory of the caller, nor be saved as bytes. The one in C
+ * is a second reading of the model, which tests/sim compares with Rattle's, byte for byte.
+ */
 #ifndef SIM_H
 #define SIM_H
 

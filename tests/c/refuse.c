@@ -1,5 +1,5 @@
 // SPDX-License-Identifier: MIT
-/* Loaded before a program: refuses memory and threads.
+/* Loaded before a program: refuses memory and threads. (A program's allocator can't be replaced in Rattle.)
 
      REFUSE_NTH=N    refuses allocation N, counted from 1, and no other
      REFUSE_FROM=N   refuses allocation N and all after it

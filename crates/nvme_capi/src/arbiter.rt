@@ -1,4 +1,7 @@
 // The arbiter, over a state that the caller owns.
+//
+// Decided: a state is a struct of integers that the caller owns. A board and a table begin with a mark, which each call
+// looks at. The numbers of an arbiter are few, so each call looks at all.
 ghost use Rattle.std.specs.Prelude.{◌≡◌, ◌≢◌, ◌≤◌, ◌⊎◌, ◌↔◌, [], ◌∷◌, length, Some, None, IsTrue, IsFalse, IsNone, IfSome, option_map};
 ghost use Rattle.nvme_arbiter.specs.Settings.{ArbitrationFields, settings_of};
 ghost use Rattle.nvme_arbiter.specs.Observation.{IsIdle, class_in};

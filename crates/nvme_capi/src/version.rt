@@ -1,4 +1,10 @@
 // The version of the library, and the sizes of its states.
+//
+// Decided: the header isn't made from `nvme_version`, so that it serves from the source alone; `tests/capi`,
+// `tests/words` and `tests/files` compare them.
+//
+// Decided: a making call can't see its caller's header, so `nvmearb_is_of_this_header` compares version and sizes; the
+// makers in Rust and Python do so themselves.
 ghost use Rattle.std.specs.Prelude.{◌≡◌, ◌+◌, ◌*◌, ◌^◌, ◌<◌};
 ghost use Rattle.nvme_version.specs.declared.TheConstants.{MAJOR, MINOR, PATCH};
 

@@ -1,4 +1,7 @@
 // The making of a controller, and its regions.
+//
+// Decided: ring memory is taken at any time, since hosts may come at any time. Only where a Create named it before
+// nothing is said of the account (`late`).
 ghost use Rattle.std.specs.Prelude.{◌≡◌, ℕ, ◌<◌, ◌^◌, length, false, List, OnOk, IfOk, IfErr, slice_set, replicate, Some, None, [], IsTrue};
 ghost use Rattle.nvme_arbiter.specs.Limits.{queue_limit};
 ghost use Rattle.nvme_arbiter.specs.Board.{BoardStandsAt};

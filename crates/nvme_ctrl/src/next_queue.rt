@@ -1,4 +1,8 @@
 // The next queue that has work. (profile)
+//
+// Decided: the queue of the last turn is an argument, and the controller keeps no turn, since a look-up changes
+// nothing. It looks at the queues of a mask alone: each whose ring has an entry, or that has a ready completion, is in
+// it. One that is at its depth, or whose ring is full, stays in it.
 ghost use Rattle.std.specs.Prelude.{◌≡◌, ◌≤◌, ℕ, MatchOption};
 ghost use Rattle.nvme_ctrl.specs.NextQueue.{turns_before};
 ghost use Rattle.nvme_ctrl.specs.inside.Turns.{HasNoTurn, IsNextTurn};

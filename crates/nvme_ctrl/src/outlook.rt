@@ -1,4 +1,7 @@
 // What a caller sees of a controller that keeps a log itself. (profile)
+//
+// Decided: a command that an Abort takes holds an outstanding place until its completion is posted, which bounds what
+// waits to be posted. One that is aborted with its queue holds none, since a front has one deletion pending at a time.
 ghost use Rattle.std.specs.Prelude.{◌≡◌, Some};
 ghost use Rattle.nvme_log.specs.Aborts.{is_abort_entry};
 

@@ -1,5 +1,8 @@
 // The admin commands that are the device's. (Base Specification, Opcodes for Admin Commands, Set Features and Get Features,
 // Feature Identifiers)
+//
+// Decided: an Abort that names no waiting command is the device's, where it announced Abort: it may have the command,
+// and knows how many Aborts it has at a time.
 ghost use Rattle.std.specs.Prelude.{◌≡◌, slice_set};
 ghost use Rattle.nvme_ctrl.specs.Own.{no_numbers};
 ghost use Rattle.nvme_ctrl_log.specs.Own.{is_core_feature, selects};

@@ -1,4 +1,9 @@
 // The picks of a controller. (Base Specification, Command Arbitration)
+//
+// Decided: a pick tells what it did, and the command. A front asks beforehand which commands a Delete or an Abort will
+// end: a controller keeps no list, and a chain in the pool would have to be told apart from the completions before it.
+//
+// Decided: a pick is told its room, 0 where the device is full, since just the device knows it then.
 use crate::state::Controller;
 use nvme_admin::Effect;
 use nvme_arbiter::Pick;

@@ -1,4 +1,8 @@
 // What a controller keeps.
+//
+// Decided: of a queue there is one record, by its identifier: doorbells, fetches, answers and posts read nothing else
+// of it. An admin command reads the queue table, and a pick the board: both are crates of their own, proved for whoever
+// uses them without a controller.
 ghost use Rattle.std.specs.Prelude.{◌≡◌, slice_set};
 ghost use Rattle.nvme_ctrl.specs.kept.State.{sq_at, cq_at};
 

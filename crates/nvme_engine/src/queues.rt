@@ -1,4 +1,7 @@
 // What is seen of an engine's queues.
+//
+// Decided: a turn looks at the identifiers up to the highest that was ever opened: most workloads count from 1, and a
+// bound needs one lemma where a set of identifiers would need many.
 use crate::engine::Engine;
 use nvme_admin::MAX_REGIONS;
 

@@ -1,4 +1,7 @@
 // Makes a front, and adds regions to it.
+//
+// Decided: slots, and room for 256 jobs that are kept back and 256 that are handed over, are made with the first
+// submission region, so a turn takes memory for its log and its pick's list alone.
 use crate::front::{AddError, FrontConfig};
 use crate::region::SqRegion;
 use crate::state::FrontState;

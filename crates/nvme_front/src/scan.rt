@@ -1,4 +1,10 @@
 // The scan of the submission rings.
+//
+// Decided: room for the event is asked for before a get that the window has room for, so a turn on a full log answers
+// `LogFull` wherever it would try a get.
+//
+// Decided: the front gets one entry at a time, since each has an event of its own. `put_some` and `get_some` are for an
+// embedder who moves entries in batches.
 use crate::front::FrontError;
 use crate::log::{make_room, note};
 use crate::state::FrontState;

@@ -1,4 +1,7 @@
 //! Settles a front with its hosts and workers, when all are back on one thread.
+//!
+//! Decided: the pool is closed last, since closing can't be undone. Where memory for it is refused, all parts come
+//! back.
 ghost use Rattle.std.specs.Prelude.{◌≡◌, ◌≢◌, ◌↔◌, ◌≤◌, ◌++◌, [], None, length, map, IfOk, OnOk, IfErr, IsTrue, vec_capacity, Vec};
 ghost use Rattle.std.specs.Global.{Global};
 ghost use mathlib.Core.List.{IsPrefix};

@@ -1,3 +1,5 @@
+// Decided: the steps of a turn see what no caller's clause names. So they are methods of a state with seen fields,
+// which `Front` keeps consistent.
 ghost use Rattle.std.specs.Prelude.{◌≡◌};
 ghost use Rattle.nvme_front.specs.inside.Turn.{told_after};
 

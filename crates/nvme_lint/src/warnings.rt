@@ -1,5 +1,8 @@
 // Finds what of a valid workload has no effect. The admin commands are applied in order: a front begins none before the
 // deletion of an earlier one is finished, so their answers depend on nothing else.
+//
+// Decided: an Abort is warned of where there is no such command; whether one still waits depends on the run. A script
+// is warned of where no command succeeds: a few that fail may be meant.
 ghost use Rattle.std.specs.Prelude.{◌≡◌, ℕ, ◌≤◌, ◌++◌, [], length, map, reverse, slice_get, ◌%◌, IfOk, OnOk};
 ghost use Rattle.std.specs.List.{All};
 ghost use Rattle.nvme_admin.specs.Checks.{is_success};

@@ -1,4 +1,7 @@
 // The streams of a program whose output nobody may read any more.
+//
+// Decided: a closed pipe is a refused write, since Rattle's programs ignore the signal. The exit status is 141 all the
+// same, as a shell's.
 use std::cell::Cell;
 use std::io::{ErrorKind, Result, Write};
 

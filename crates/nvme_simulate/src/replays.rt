@@ -1,4 +1,7 @@
 // The files that queues replay, and the models with their lists.
+//
+// Decided: lines are put in order of time, since traces of several processors aren't. Offsets that are no whole blocks
+// are refused: rounding would change what was asked for.
 use nvme_load::Arrivals;
 use nvme_model::Model;
 use nvme_model_file::Source;

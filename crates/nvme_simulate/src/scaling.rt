@@ -1,4 +1,7 @@
 // Scales the gaps of open queues, so that these ask for a part of what a device can do.
+//
+// Decided: a load is an option and a value of a sweep, and no key of the file, which says gaps. It depends on all
+// services, channels and pauses, which a sweep may change too. Replays are no part of it: `speed` changes their times.
 ghost use Rattle.std.specs.Prelude.{◌≡◌, ◌⊎◌, ◌↔◌, ℕ, None, Some, IfErr, IfNone, IfOk, IfSome, IsErrOf, OnOk, OnSome, map};
 ghost use Rattle.nvme_clock.specs.declared.draws.TheConstants.{MAX_MEAN};
 ghost use Rattle.nvme_model_form.specs.Views.{Replayed, asking_of, coming_of, running_of};

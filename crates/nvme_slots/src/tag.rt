@@ -1,4 +1,8 @@
 // The tags of the commands that the device has. (profile)
+//
+// Decided: a tag is a slot and its generation, since devices complete twice or late, and a slot alone would let that
+// end another command. A making keeps the generations in the slots, so that a reset doesn't begin again. It takes any,
+// so slots needn't be cleared.
 ghost use Rattle.std.specs.Prelude.{◌≡◌};
 ghost use Rattle.nvme_slots.specs.Generations.{tag_at, slot_of, number_of, tag_of};
 

@@ -1,4 +1,7 @@
 // Counts what a trace shows.
+//
+// Decided: windows are kept until the trace was read, since a fault leaves standard output empty. So they are at most
+// 4,096.
 ghost use Rattle.std.specs.Prelude.{◌≡◌, [], ◌∷◌, IfOk, IfErr, IfSome, OnOk};
 ghost use Rattle.nvme_arbiter.specs.History.{History, Picked, Changed};
 ghost use Rattle.nvme_trace.specs.declared.fault.TraceError.TheVariants as fault;

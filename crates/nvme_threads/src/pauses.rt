@@ -1,5 +1,8 @@
 // Waiting of a thread that found nothing to do. It rests a first time by telling that it is about to sleep, looks again,
 // and sleeps when it rests a second time. (bells.rt)
+//
+// Decided: the front spins before it sleeps, hosts and workers sleep at once. A yield costs other programs' busy
+// threads a whole time slice.
 use crate::bells::HostBell;
 use crate::flags::Flags;
 use crate::watch::Watch;

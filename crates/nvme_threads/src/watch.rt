@@ -1,4 +1,11 @@
 // What the front sees of its log, by which it wakes hosts and workers.
+//
+// Decided: a thread sleeps until a batch is there: half of a host's ring, 128 jobs for a worker. Waking a thread takes
+// long on some machines, and each waking takes a processor from the front.
+//
+// Decided: the front wakes hosts and workers: a system call for each batch, and none where nobody sleeps. A worker is
+// woken only while all sleep, since more of them at one queue of short jobs hinder each other, or when the front has
+// slept a millisecond in vain.
 use crate::flags::Flags;
 use nvme_admin::MAX_REGIONS;
 use nvme_front::{Event, Front};

@@ -1,4 +1,7 @@
 // Bounds the memory that reading a text takes, before the text is read.
+//
+// Decided: a look at the text bounds the memory first, since the `toml` crate takes up to 600 bytes for a byte of text,
+// from the common allocator.
 
 /// The most memory that reading a workload file may take, in bytes. A text for which this may not be enough is refused
 /// with `NoMemory` before it is read. (profile)

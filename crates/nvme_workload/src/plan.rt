@@ -1,3 +1,5 @@
+// Decided: lists are of `Sequence`, since a clause sees the capacity of a `Vec` too, so that two workloads of one text
+// would differ.
 ghost use Rattle.std.specs.Prelude.{◌≡◌};
 
 use nvme_admin::Limits;

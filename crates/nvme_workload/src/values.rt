@@ -1,4 +1,7 @@
 // Readings of values. A flaw is told of the table that is given.
+//
+// Decided: booleans, floats (1.0 too) and date-times are of the wrong kind for every integer key, and so is an item
+// that is no table. An integer beyond 64 bits is not TOML, as the `toml` crate says.
 ghost use Rattle.std.specs.Prelude.{◌≡◌, ◌≤◌, false, true, None, IfOk, IfSome, option_map};
 ghost use Rattle.toml.specs.View.{view, array_view, table_view};
 ghost use Rattle.toml.specs.Data.{get_member};

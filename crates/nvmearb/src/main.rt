@@ -1,5 +1,14 @@
-//! The program `nvmearb`: it calls `nvme_program::command` with its command line and the three standard streams, and
-//! tells what its streams met.
+//! The program `nvmearb`: it calls `nvme_program::command` with its command line, file and streams, and tells what
+//! these met. Around that it does what reads or writes several files, or files of several kinds, and shows `demo` and
+//! the help on files.
+//!
+//! Decided: FILE is opened here, so that the clauses of `command` speak of a file's bytes as of standard input's.
+//!
+//! Decided: reads and writes that a signal interrupts are made again. A library's call takes an interrupted write for a
+//! failed one, so it is given a buffer, which is flushed once, at the end. A flush that fails is a failed write.
+//!
+//! Decided: a file size limit ends the program by its signal, since the toolchain lets no program ignore that. Where
+//! whoever starts the program ignores it, it is a failed write.
 #![tactic(auto)]
 
 ghost use Rattle.std.specs.Prelude.{◌≡◌, ◌≤◌, IfSome};

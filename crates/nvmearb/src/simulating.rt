@@ -1,4 +1,10 @@
 // `nvmearb simulate`: the files that it reads and writes, and what is told of them.
+//
+// Decided: `simulate` is done around `command`, which has one output, as checks of several files are; it writes up to
+// four. So the command line is read here too, and `command` keeps its words and streams.
+//
+// Decided: the file of --chart is made after the answer, so that a failed picture loses no answer. Files that are
+// replayed are opened once the simulation file has no fault.
 ghost use Rattle.std.specs.Prelude.{◌≤◌, IfErr};
 
 use crate::files::{Answers, is_svg, not_svg, put_away, taken, whole};

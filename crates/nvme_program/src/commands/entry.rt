@@ -1,4 +1,6 @@
 // The answer to one entry.
+//
+// Decided: the number of blocks is tested for 0 again, since that `clap` refuses it isn't proved.
 ghost use Rattle.std.specs.Prelude.{◌≡◌, ◌≤◌, ◌⊎◌, Ok, IfOk, IfErr, IfSome, OnOk};
 ghost use Rattle.std.specs.Io.KnownBytes.{Appends};
 ghost use Rattle.nvme_output.specs.Written.{AppendsPrefix};

@@ -1,4 +1,6 @@
 // Settles the parts of a run when its threads are joined.
+//
+// Decided: a front that gives up is settled all the same. The run answers Ok where all was done by then, else `GaveUp`.
 ghost use Rattle.std.specs.Prelude.{◌≡◌, ◌≢◌, ◌↔◌, ◌⊎◌, ◌<◌, ◌≤◌, length, map, IfOk, IfErr, IsErrOf, IsTrue, IsFalse, OnOk};
 ghost use Rattle.nvme_admin.specs.declared.bounds.TheConstants.{MAX_REGIONS};
 ghost use Rattle.nvme_front.specs.Hosts.{IsFedBy, IsDrainedBy, told, told_by};
