@@ -4,52 +4,46 @@
  * are those of the NVM Express Base Specification 2.0 and the NVM Command Set Specification 1.0. A status is written as
  * its type and its code in hexadecimal: 0/08.
  *
- * With a device, take the controller, nvmearb_ctrl_... With queues of your own, take parts of it: entries
- * (nvmearb_sqe_.. to nvmearb_settings_of), an arbiter, a board, a queue table. Each section below works without the
- * others. docs/EMBEDDING.md has the loops.
+ * With a device, take the controller, nvmearb_ctrl_... With queues of your own, take entries (nvmearb_sqe_.. to
+ * nvmearb_settings_of), an arbiter, a board, a queue table: each section works without the others.
  *
- * The order of calls, with a controller:
- *
+ * The order of calls, with a controller (a loop: docs/IN_C.md):
  *   1. nvmearb_is_of_this_header.
  *   2. When CC.EN becomes 1, nvmearb_ctrl_init_anywhere with the admin queues (AQA, ASQ, ACQ). Where it refuses what
  *      the host wrote, set CSTS.CFS. Check CC.IOSQES (6) and CC.IOCQES (4) yourself. When CC.EN becomes 0, make no call
- *      until it is 1 again, and begin again here. Drop what the backend ends meanwhile, or complete it after the
- *      making: that answers NVMEARB_NONE. Tags don't stop a data transfer: end each before CSTS.RDY becomes 0.
+ *      until it is 1 again, and begin here. Drop what the backend ends meanwhile, or complete it after the making: that
+ *      answers NVMEARB_NONE. Tags don't stop a data transfer: end each before CSTS.RDY becomes 0.
  *   3. nvmearb_ctrl_own_opcode and nvmearb_ctrl_own_feature for the device's own admin commands, such as Identify.
- *   4. At each doorbell write nvmearb_ctrl_sq_tail or nvmearb_ctrl_cq_head.
+ *   4. nvmearb_ctrl_sq_tail or nvmearb_ctrl_cq_head at each doorbell write.
  *   5. While nvmearb_ctrl_next_fetch tells a queue and a slot: read the entry there, and nvmearb_ctrl_fetched.
- *   6. While nvmearb_ctrl_take gives a command, execute it. Then nvmearb_ctrl_pick, and take again, until that picks
- *      nothing. At a step that created a queue, keep where it lies (nvmearb_asked).
+ *   6. While nvmearb_ctrl_take gives a command, execute it. Then nvmearb_ctrl_pick, and take again, until nothing is
+ *      picked. Keep where a queue lies that a step created (nvmearb_asked).
  *   7. nvmearb_ctrl_complete or nvmearb_ctrl_complete_with for each command that ends, in any order, at any time.
- *   8. While nvmearb_ctrl_next_to_post tells a completion queue, and while nvmearb_ctrl_post gives a completion of it:
- *      write its bytes into the slot of the ring, Dword 3 last, which has the phase tag. Then send the interrupt of the
- *      queue's vector, if it is enabled.
+ *   8. While nvmearb_ctrl_next_to_post tells a queue, and nvmearb_ctrl_post a completion of it: write its bytes into
+ *      the slot of the ring, Dword 3 last, which has the phase tag. Then send the interrupt of the queue's vector, if
+ *      enabled.
  *   9. After a pick that began a deletion (NVMEARB_BEGIN_DELETE), nvmearb_ctrl_finish at once and after each 8., while
  *      it answers NVMEARB_OK.
- *  10. Go back to 5. until a pass does nothing. Go back too once the device can take more commands than at its last
- *      pick, or no longer holds a queue.
- *
- * nvmearb_ctrl_fetched_n, nvmearb_ctrl_take_n and nvmearb_ctrl_post_n make several calls of 5., 6. or 8. at once.
+ *   10. Go back to 5. until a pass does nothing, and once the device can take more commands than at its last pick, or
+ *       no longer holds a queue.
  *
  * Every function is proved (crates/nvme_capi), unless NVMEARB_UNPROVED says otherwise. None allocates, waits, starts a
  * thread, keeps a pointer, or reads or writes anything but what its arguments point to. All return, whatever bytes the
  * arguments, states and slots have. The caller sees to this:
- *
- *   - No pointer is null. Each is aligned for its type, and points to as many objects as its comment says, which
- *     outlive the call. This holds for an array of length 0 too.
- *   - Nothing else writes during the call what a pointer, const or not, points to. Hand in a copy of an entry that lies
- *     where a guest or a device may write.
+ *   - Each pointer, also to an array of length 0, isn't null, is aligned for its type, and points to as many objects as
+ *     its comment says, which outlive the call.
+ *   - Nothing else writes during the call what a pointer points to. Hand in a copy of an entry that a guest or a device
+ *     may write.
  *   - Nothing else reads during the call what a pointer that isn't const points to, and no other argument's object
  *     overlaps it.
  *   - Calls on one state run one after another; those on different objects may run at the same time on any threads. A
  *     signal or interrupt handler makes no call on an object of the call that it interrupts.
  *
- * Numbers are in the machine's byte order, and bytes of entries in the specification's. The library is built for x86-64
- * (x86-64-v2, System V calling convention) and AArch64. It uses SSE registers and the red zone on x86-64, and NEON
- * registers on AArch64. So a kernel saves these registers before a call, and takes no interrupt on the stack of a call;
- * where these instructions are trapped, as at early EL3, the first call faults. Of a proved library, making a controller
- * takes at most 34 KB of stack, and every other call 1 KB. Link with -lnvmearb; the only other symbols are memcpy and
- * memset. docs/LIMITS.md has the sizes.
+ * Numbers are in the machine's byte order, bytes of entries in the specification's. The library is built for x86-64
+ * (x86-64-v2, System V calling convention; SSE registers, red zone) and AArch64 (NEON registers). So a kernel saves
+ * these registers before a call, and takes no interrupt on the stack of a call; where such instructions are trapped, as
+ * at early EL3, the first call faults. Of a proved library, making a controller takes at most 34 KB of stack, and every
+ * other call 1 KB. Link with -lnvmearb; the only other symbols are memcpy and memset.
  */
 #ifndef NVMEARB_H
 #define NVMEARB_H
@@ -77,28 +71,27 @@ _Static_assert(sizeof(size_t) == 8, "libnvmearb is built for 64-bit processors a
 /* Returns the version of the library. */
 uint32_t nvmearb_version(void);
 
-/* The states, for nvmearb_size. */
 #define NVMEARB_STATE_ARBITER 1u
 #define NVMEARB_STATE_BOARD 2u
 #define NVMEARB_STATE_TABLE 3u
 #define NVMEARB_STATE_CTRL 4u
 #define NVMEARB_STATE_SLOT 5u
 
-/* Returns the bytes of a state in the library, or 0 where it has no state of this number. */
+/* Returns the bytes of a state in the library, or 0 where it has none of this number. */
 uint32_t nvmearb_size(uint32_t state);
 
 /*
- * What nvmearb_version adds where nothing of the library is proved: tools/build --unproved made it, for a try. It is
- * slower, since it looks for faults as it runs, and ends the program at one. To take it as well, define
- * NVMEARB_ALLOW_UNPROVED before this header is included.
+ * What nvmearb_version adds where nothing of the library is proved (tools/build --unproved). Such a library looks for
+ * faults as it runs, which is slower, and ends the program at one. Define NVMEARB_ALLOW_UNPROVED before the header to
+ * take it too.
  */
 #define NVMEARB_UNPROVED 0x80000000u
 
 /*
- * The results. A call returns NVMEARB_OK except where its comment, or its state's, says otherwise, and then has written
- * nothing, but for a 0 into `n` where the comment says so.
+ * The results. A call returns NVMEARB_OK except where its comment, or that of its section or state, says otherwise, and
+ * of several results the first that applies. It has written nothing, but for a 0 into `n` where that is said.
  *
- * States are arbiters, boards, queue tables and controllers. Their fields are the library's. A call first answers
+ * States are arbiters, boards, queue tables and controllers; their fields are the library's. A call first answers
  * NVMEARB_ESTATE if a state that it doesn't initialise isn't valid, as that state's comment says. An arbiter, board or
  * table may be copied, and if valid acts as its fields say, whoever wrote them.
  */
@@ -114,14 +107,11 @@ uint32_t nvmearb_size(uint32_t state);
 
 /* Entries: the fields of entries and dwords, and the status of an I/O command. No call keeps a state. */
 
-/* The bytes of a submission and of a completion queue entry. */
 #define NVMEARB_SQE_BYTES 64
 #define NVMEARB_CQE_BYTES 16
-
-/* The most namespaces that nvmearb_outcome takes. */
 #define NVMEARB_MAX_NAMESPACES 16
 
-/* The opcodes that the library knows: of I/O commands, then of admin commands. */
+/* The opcodes that the library knows: of I/O, then of admin commands. */
 #define NVMEARB_OPC_FLUSH 0x00u
 #define NVMEARB_OPC_WRITE 0x01u
 #define NVMEARB_OPC_READ 0x02u
@@ -133,11 +123,11 @@ uint32_t nvmearb_size(uint32_t state);
 #define NVMEARB_OPC_SET_FEATURES 0x09u
 #define NVMEARB_OPC_GET_FEATURES 0x0au
 
-/* The feature identifiers that it knows. */
+/* The features that it knows. */
 #define NVMEARB_FID_ARBITRATION 0x01u
 #define NVMEARB_FID_NUMBER_OF_QUEUES 0x07u
 
-/* The fields of a submission queue entry. Each may have any value. */
+/* A submission queue entry. Its fields may have any value. */
 typedef struct nvmearb_sqe {
     uint8_t opcode;
     uint8_t flags; /* FUSE in bits 1:0, PSDT in bits 7:6 */
@@ -162,7 +152,6 @@ typedef struct nvmearb_status {
     uint8_t sc;
 } nvmearb_status;
 
-/* The status code types. */
 #define NVMEARB_SCT_GENERIC 0u
 #define NVMEARB_SCT_COMMAND_SPECIFIC 1u
 #define NVMEARB_SCT_MEDIA 2u /* media and data integrity errors */
@@ -194,7 +183,7 @@ typedef struct nvmearb_status {
 #define NVMEARB_SC_WRITE_FAULT 0x80u
 #define NVMEARB_SC_UNRECOVERED_READ_ERROR 0x81u
 
-/* The fields of a completion queue entry. CRD, More and Do Not Retry have none: nvmearb_cqe_encode writes 0. */
+/* A completion queue entry. CRD, More and Do Not Retry have no field: nvmearb_cqe_encode writes 0. */
 typedef struct nvmearb_cqe {
     uint32_t dw0;
     uint16_t sqhd; /* the index of a slot */
@@ -204,7 +193,6 @@ typedef struct nvmearb_cqe {
     nvmearb_status status;
 } nvmearb_cqe;
 
-/* The kinds of admin commands. */
 #define NVMEARB_ADMIN_OTHER 0u /* every other opcode */
 #define NVMEARB_ADMIN_DELETE_SQ 1u
 #define NVMEARB_ADMIN_CREATE_SQ 2u
@@ -214,49 +202,41 @@ typedef struct nvmearb_cqe {
 #define NVMEARB_ADMIN_GET_FEATURES 6u
 #define NVMEARB_ADMIN_ABORT 7u
 
-/* An admin command: the fields that the queue table reads. A field that commands of this kind don't have is 0. */
+/* What the queue table reads of an admin command. A field that commands of this kind don't have is 0. */
 typedef struct nvmearb_admin {
     uint32_t kind;
     uint32_t cdw11; /* Set Features: the value */
     uint64_t prp1;  /* Create: the address of the queue */
-    uint16_t qid;   /* Create, Delete: the queue identifier; Abort: SQID */
+    uint16_t qid;   /* Create, Delete: QID; Abort: SQID */
     uint16_t qsize; /* Create: QSIZE, its slots less 1 */
-    uint16_t cqid;  /* Create SQ: its completion queue */
-    uint8_t qprio;  /* Create SQ: QPRIO, 0 urgent, 1 high, 2 medium, 3 low. NVMEARB_URGENT .. are 1 more */
+    uint16_t cqid;  /* Create SQ: CQID */
+    uint8_t qprio;  /* Create SQ: QPRIO, 0 urgent to 3 low. NVMEARB_URGENT .. are 1 more */
     uint8_t pc;     /* Create: PC, 0 or 1 */
-    uint8_t fid;    /* Set and Get Features: the feature identifier */
+    uint8_t fid;    /* Set and Get Features: FID */
     uint8_t sv;     /* Set Features: SV, 0 or 1 */
     uint16_t cid;   /* Abort: CID */
 } nvmearb_admin;
 
-/*
- * What a Command Dword 11 of the Arbitration feature says. Each `cdw11` given to a call is one, whose bits 07:03 are
- * ignored.
- */
+/* What a Command Dword 11 of the Arbitration feature says. Calls ignore bits 07:03 of a `cdw11`. */
 typedef struct nvmearb_settings {
-    uint32_t cdw11;  /* the dword as Get Features answers it: bits 07:03 are 0 */
+    uint32_t cdw11;  /* as Get Features answers it: bits 07:03 are 0 */
     uint16_t burst;  /* the most commands of one pick: a power of 2 from 1 to 64, or 0 for no limit */
     uint16_t high;   /* weights: the most commands of this class in one round, 1 to 256 */
     uint16_t medium;
     uint16_t low;
 } nvmearb_settings;
 
-/* Decodes a submission queue entry. Every bit of it belongs to a field. */
+/* Decodes a submission queue entry. Every bit of it belongs to a field. Each of the two undoes the other. */
 void nvmearb_sqe_decode(const uint8_t bytes[NVMEARB_SQE_BYTES], nvmearb_sqe *fields);
-
-/* Encodes a submission queue entry. Either of the two undoes the other. */
 void nvmearb_sqe_encode(const nvmearb_sqe *fields, uint8_t bytes[NVMEARB_SQE_BYTES]);
 
 /*
- * Decodes a completion queue entry.
- * NVMEARB_EARG if Dword 1 isn't 0 or one of bits 31:28 of Dword 3 is set, which have no field.
+ * Decodes a completion queue entry. NVMEARB_EARG if Dword 1 isn't 0 or one of bits 31:28 of Dword 3 is set, which have
+ * no field.
  */
 uint32_t nvmearb_cqe_decode(const uint8_t bytes[NVMEARB_CQE_BYTES], nvmearb_cqe *fields);
 
-/*
- * Encodes a completion queue entry. Either of the two undoes the other.
- * NVMEARB_EARG if `phase` is above 1 or `status.sct` above 7.
- */
+/* Encodes one. Either undoes the other. NVMEARB_EARG if `phase` is above 1 or `status.sct` above 7. */
 uint32_t nvmearb_cqe_encode(const nvmearb_cqe *fields, uint8_t bytes[NVMEARB_CQE_BYTES]);
 
 /*
@@ -270,38 +250,37 @@ uint32_t nvmearb_outcome(const nvmearb_sqe *entry, const uint64_t *sizes, size_t
 /*
  * As nvmearb_outcome, but looks at PSDT too. Namespaces may be any number, and those of size 0 are inactive. The first
  * of these that is so gives the status, and 0/00 where none is:
- *   0/02, Invalid Field in Command: FUSE isn't 0; PSDT isn't 0 (SGLs, or reserved)
- *   0/01, Invalid Command Opcode: the command is no Flush, Write or Read
- *   0/02: NSID is FFFFFFFFh, and the command is no Flush. A Flush with it succeeds
- *   0/0b, Invalid Namespace or Format: NSID is 0 or above `count`
- *   0/02: NSID is inactive
- *   0/80, LBA Out of Range: SLBA + NLB + 1 of a Write or Read is above the size.
+ *   0/02   FUSE isn't 0; PSDT isn't 0 (SGLs, or reserved)
+ *   0/01   the command is no Flush, Write or Read
+ *   0/02   NSID is FFFFFFFFh, and the command is no Flush. A Flush with it succeeds
+ *   0/0b   NSID is 0 or above `count`
+ *   0/02   NSID is inactive
+ *   0/80   SLBA + NLB + 1 of a Write or Read is above the size
  * A device with more opcodes goes on from 0/01: such a command passed what stands above it.
  */
 void nvmearb_check(const nvmearb_sqe *entry, const uint64_t *sizes, size_t count, nvmearb_status *status);
 
 /*
- * Writes the status that the last four rows above give a Read; nothing else is looked at. It is for commands with NSID,
- * SLBA and NLB (Command Dwords 10 to 12): Write, Read, Write Uncorrectable, Compare, Write Zeroes, Verify.
+ * Writes what the last four rows above give a Read; nothing else is looked at. For commands with NSID, SLBA and NLB
+ * (Command Dwords 10 to 12): Write, Read, Write Uncorrectable, Compare, Write Zeroes, Verify.
  */
 void nvmearb_range(const nvmearb_sqe *entry, const uint64_t *sizes, size_t count, nvmearb_status *status);
 
-/* Writes the kind and the fields of an admin command. FUSE and the namespace identifier are ignored. */
+/* Writes the kind and fields of an admin command. FUSE and NSID are ignored. */
 void nvmearb_admin_of(const nvmearb_sqe *entry, nvmearb_admin *command);
 
 /* Writes what a `cdw11` says. */
 void nvmearb_settings_of(uint32_t cdw11, nvmearb_settings *settings);
 
 /*
- * Arbiter: which submission queue is served next, and how many of its commands. Each pick is shown the open queues, and
+ * Arbiter: which submission queue is served next, and how many of its commands. Each pick is shown the open queues and
  * how many commands wait in each.
  */
 
-/* The arbitration mechanisms. */
 #define NVMEARB_ROUND_ROBIN 1u
 #define NVMEARB_WEIGHTED 2u /* weighted round robin with urgent priority class */
 
-/* The priority classes of submission queues. */
+/* The priority classes. */
 #define NVMEARB_ADMIN 0u
 #define NVMEARB_URGENT 1u
 #define NVMEARB_HIGH 2u
@@ -312,7 +291,7 @@ void nvmearb_settings_of(uint32_t cdw11, nvmearb_settings *settings);
 #define NVMEARB_MAX_QUEUES 65
 #define NVMEARB_MAX_COUNT 256
 
-/* The room of a device, or the limit of a pick, without a bound. Each from NVMEARB_MAX_COUNT on is as good. */
+/* The room of a device, or the limit of a pick, without a bound, as is each from NVMEARB_MAX_COUNT on. */
 #define NVMEARB_NO_LIMIT 65535u
 
 /*
@@ -326,50 +305,47 @@ typedef struct nvmearb_arbiter {
     uint16_t used[3];
 } nvmearb_arbiter;
 
-/* An open submission queue as a pick is shown it. */
+/* An open queue as a pick is shown it. */
 typedef struct nvmearb_seen {
     uint16_t qid;      /* 0 to 64 */
     uint16_t priority; /* NVMEARB_ADMIN for queue 0; NVMEARB_URGENT .. NVMEARB_LOW for the others */
     uint16_t count;    /* how many of its commands wait, or NVMEARB_MAX_COUNT if more do */
 } nvmearb_seen;
 
-/* A pick: the next n commands of a submission queue. */
+/* A pick: the next n commands of a queue. */
 typedef struct nvmearb_pick {
     uint16_t qid;
     uint16_t n;     /* at least 1, and at most as many as wait */
-    uint16_t fresh; /* 1 if the pick starts a new round of weighted round robin, else 0 */
+    uint16_t fresh; /* 1 if it starts a new round of weighted round robin, else 0 */
 } nvmearb_pick;
 
-/*
- * Initialises an arbiter, which has served nothing yet.
- * NVMEARB_EARG if `mechanism` is neither NVMEARB_ROUND_ROBIN nor NVMEARB_WEIGHTED.
- */
+/* Initialises an arbiter, which has served nothing yet. NVMEARB_EARG if `mechanism` is neither of the two. */
 uint32_t nvmearb_arbiter_init(nvmearb_arbiter *arbiter, uint32_t mechanism, uint32_t cdw11);
 
 /* Takes new settings. They start a new round; which queues were served last is kept. */
 uint32_t nvmearb_arbiter_set(nvmearb_arbiter *arbiter, uint32_t cdw11);
 
 /*
- * Writes what nvmearb_arbiter_pick would pick. `seen` has `count` queues; the more there are, the longer it takes.
+ * Writes what nvmearb_arbiter_pick would pick. `seen` has `count` queues.
  * NVMEARB_EARG if `count` is above NVMEARB_MAX_QUEUES, a queue of `seen` has a field outside its range, or the
- * identifiers don't ascend; otherwise NVMEARB_NONE if no command waits.
+ * identifiers don't ascend; NVMEARB_NONE if no command waits.
  */
 uint32_t nvmearb_arbiter_peek(const nvmearb_arbiter *arbiter, const nvmearb_seen *seen, size_t count, nvmearb_pick *pick);
 
-/* As nvmearb_arbiter_peek, and the arbiter counts these commands as served. Take all n of them. */
+/* As nvmearb_arbiter_peek, and these commands count as served. Take all n of them. */
 uint32_t nvmearb_arbiter_pick(nvmearb_arbiter *arbiter, const nvmearb_seen *seen, size_t count, nvmearb_pick *pick);
 
 /*
  * As nvmearb_arbiter_pick, but n is the least of that n and `limit`, and only these n count as served. The rest waits
- * for its queue's next turn; what it would have used of its class's weight stays.
- * NVMEARB_EARG if `limit` is 0 or as nvmearb_arbiter_peek; otherwise NVMEARB_NONE if no command waits.
+ * for its queue's next turn; what it would have used of its class's weight stays. NVMEARB_EARG too if `limit` is 0.
  */
 uint32_t nvmearb_arbiter_pick_up_to(nvmearb_arbiter *arbiter, const nvmearb_seen *seen, size_t count, uint16_t limit,
                                     nvmearb_pick *pick);
 
 /*
  * Board: an arbiter that keeps the open queues and the numbers of their commands itself. Told of each command that
- * comes, it picks what an arbiter picks that is shown the same queues.
+ * comes, it picks as an arbiter that is shown the same queues. A call with a `qid`, but nvmearb_board_open, answers
+ * NVMEARB_EARG if that queue isn't open.
  */
 
 /* A board. It is valid if `mark` is what nvmearb_board_init writes and the arbiter is valid. */
@@ -388,38 +364,35 @@ typedef struct nvmearb_board {
 uint32_t nvmearb_board_init(nvmearb_board *board, uint32_t mechanism, uint32_t cdw11);
 
 /*
- * Opens a queue, in which no command waits.
- * NVMEARB_EARG if the queue is open, `qid` is above 64, or `priority` isn't one of this queue's (nvmearb_seen).
+ * Opens a queue, in which no command waits. NVMEARB_EARG if it is open, `qid` is above 64, or `priority` isn't one of
+ * this queue's (nvmearb_seen).
  */
 uint32_t nvmearb_board_open(nvmearb_board *board, uint16_t qid, uint16_t priority);
 
-/* Closes a queue. Its waiting commands are forgotten, what was served is kept. NVMEARB_EARG if it isn't open. */
+/* Closes a queue. Its waiting commands are forgotten, what was served is kept. */
 uint32_t nvmearb_board_close(nvmearb_board *board, uint16_t qid);
 
-/* One more command waits in a queue: nvmearb_board_came_n with an `n` of 1. */
+/* One more command waits: nvmearb_board_came_n of 1. */
 uint32_t nvmearb_board_came(nvmearb_board *board, uint16_t qid);
 
 /*
  * `n` more commands wait in a queue, as after a doorbell write. An `n` of 0 changes nothing.
- * NVMEARB_EARG if the queue isn't open or more than NVMEARB_MAX_COUNT commands would wait in it.
+ * NVMEARB_EARG too if more than NVMEARB_MAX_COUNT would wait in it.
  */
 uint32_t nvmearb_board_came_n(nvmearb_board *board, uint16_t qid, uint16_t n);
 
-/*
- * One waiting command left a queue without being picked, for example by an Abort.
- * NVMEARB_EARG if the queue isn't open or no command waits in it.
- */
+/* A waiting command left a queue without being picked, as by an Abort. NVMEARB_EARG too if none waits in it. */
 uint32_t nvmearb_board_went(nvmearb_board *board, uint16_t qid);
 
 /* Writes what nvmearb_board_pick would pick; NVMEARB_NONE if no command waits. */
 uint32_t nvmearb_board_peek(const nvmearb_board *board, nvmearb_pick *pick);
 
-/* As nvmearb_board_peek, and the board counts these commands as served and no longer as waiting. Take all n of them. */
+/* As nvmearb_board_peek, and these commands count as served and no longer as waiting. Take all n of them. */
 uint32_t nvmearb_board_pick(nvmearb_board *board, nvmearb_pick *pick);
 
 /*
- * As nvmearb_board_pick, with a `limit` as nvmearb_arbiter_pick_up_to. The rest still waits.
- * NVMEARB_EARG if `limit` is 0; otherwise NVMEARB_NONE if no command waits.
+ * As nvmearb_board_pick, with a `limit` as nvmearb_arbiter_pick_up_to. The rest still waits. NVMEARB_EARG first if it
+ * is 0.
  */
 uint32_t nvmearb_board_pick_up_to(nvmearb_board *board, uint16_t limit, nvmearb_pick *pick);
 
@@ -427,26 +400,23 @@ uint32_t nvmearb_board_pick_up_to(nvmearb_board *board, uint16_t limit, nvmearb_
 uint32_t nvmearb_board_set(nvmearb_board *board, uint32_t cdw11);
 
 /*
- * Table: the queues and features of a controller, and the answers to the admin commands on them.
- *
- * The order of calls, with a table and a board; rings, doorbells, phase tags, interrupts and data are the caller's:
- *
+ * Table: the queues and features of a controller, and the answers to admin commands on them. The order of calls, with a
+ * board; rings, doorbells, phase tags, interrupts and data are the caller's:
  *   1. nvmearb_is_of_this_header.
  *   2. nvmearb_table_init. Add a region of each kind for the admin queue, then one for each ring that a Create may
  *      name.
  *   3. nvmearb_board_init, and nvmearb_board_open for queue 0.
- *   4. nvmearb_board_came_n at a submission queue tail doorbell. Tell of commands above NVMEARB_MAX_COUNT in a queue
- *      once some were picked.
+ *   4. nvmearb_board_came_n at a tail doorbell, of commands above NVMEARB_MAX_COUNT in a queue once some were picked.
  *   5. nvmearb_board_pick, or nvmearb_board_pick_up_to. Take the n oldest waiting commands out of the queue's ring.
- *        I/O:   nvmearb_sqe_decode, nvmearb_check, your execution, nvmearb_cqe_encode.
- *        Admin: nvmearb_table_apply, what the verdict asks for, nvmearb_cqe_encode.
+ *      I/O: nvmearb_sqe_decode, nvmearb_check, your execution, nvmearb_cqe_encode. Admin: nvmearb_table_apply, what the
+ *      verdict asks for, nvmearb_cqe_encode.
  */
 
-/* The most regions of a kind, the admin queue's included, and the most I/O queues of a kind. */
+/* The most regions, with the admin queue's, and I/O queues of a kind. */
 #define NVMEARB_MAX_REGIONS 65
 #define NVMEARB_MAX_IO_QUEUES 64
 
-/* A region: the memory of one ring. A Create command names it by its address. */
+/* A region: the memory of one ring, which a Create names by its address. */
 typedef struct nvmearb_region {
     uint64_t address;
     uint16_t slots; /* 2 to 4096 */
@@ -481,7 +451,7 @@ typedef struct nvmearb_table {
 #define NVMEARB_OPEN_CQ 2u         /* a completion queue was created */
 #define NVMEARB_BEGIN_DELETE 3u    /* a submission queue is closing: see nvmearb_table_finish_delete */
 #define NVMEARB_CLOSE_CQ 4u        /* a completion queue was deleted */
-#define NVMEARB_SET_ARBITRATION 5u /* the Arbitration feature was set: hand `cdw11` on (nvmearb_board_set) */
+#define NVMEARB_SET_ARBITRATION 5u /* Arbitration was set: hand `cdw11` on (nvmearb_board_set) */
 #define NVMEARB_ABORT 6u           /* abort a waiting command: see nvmearb_table_apply */
 
 /* The answer to an admin command. A field that a verdict of its kind doesn't have is 0. */
@@ -489,7 +459,7 @@ typedef struct nvmearb_answer {
     uint32_t verdict;
     uint32_t dw0;          /* Dword 0 of its completion; NVMEARB_ABORT: 0, and the caller decides */
     uint32_t cdw11;        /* NVMEARB_SET_ARBITRATION: the settings, with bits 07:03 as 0 */
-    uint16_t qid;          /* the queue identifier; NVMEARB_ABORT: SQID */
+    uint16_t qid;          /* QID; NVMEARB_ABORT: SQID */
     uint16_t region;       /* NVMEARB_OPEN_SQ, NVMEARB_OPEN_CQ: the number of its region; anywhere, its identifier */
     uint16_t cqid;         /* NVMEARB_OPEN_SQ: its completion queue */
     uint16_t priority;     /* NVMEARB_OPEN_SQ: NVMEARB_URGENT .. NVMEARB_LOW */
@@ -507,77 +477,78 @@ typedef struct nvmearb_queue {
 
 /*
  * Initialises a queue table without regions or queues. `nsq` and `ncq` are the most I/O submission and completion
- * queues.
- * NVMEARB_EARG if `nsq` or `ncq` isn't 1 to NVMEARB_MAX_IO_QUEUES.
+ * queues. NVMEARB_EARG if one of them isn't 1 to NVMEARB_MAX_IO_QUEUES.
  */
 uint32_t nvmearb_table_init(nvmearb_table *table, uint16_t nsq, uint16_t ncq, uint32_t cdw11);
 
 /*
  * Adds a submission region, and writes its number, from 0 on. Region 0 is that of the admin queue, which is open from
- * then on. A Create takes one of the others, which no later Create can take again.
- * The first that applies of NVMEARB_EUSED (by a region of either kind), NVMEARB_EMANY and NVMEARB_ESIZE.
+ * then on. A Create takes one of the others for good.
+ * NVMEARB_EUSED (by a region of either kind), NVMEARB_EMANY, NVMEARB_ESIZE.
  */
 uint32_t nvmearb_table_add_sq_region(nvmearb_table *table, uint64_t address, uint16_t slots, uint16_t *number);
 
-/* Adds a completion region, as nvmearb_table_add_sq_region a submission region. */
+/* The same of a completion region. */
 uint32_t nvmearb_table_add_cq_region(nvmearb_table *table, uint64_t address, uint16_t slots, uint16_t *number);
 
 /*
  * Applies an admin command, and writes the answer. Where its status isn't success, every byte of the table stays.
- * Before the first command add region 0 of both kinds.
  *
- * At NVMEARB_ABORT look for the oldest waiting command with this identifier in this queue. If one waits, take it out
- * (nvmearb_board_went), answer it with 0/07, and the Abort with 0 as Dword 0. Otherwise answer the Abort with 1: also
- * if SQID is 0, the queue isn't open or is closing, or the command was picked.
+ * At NVMEARB_ABORT take the oldest command with this identifier that waits in this queue out (nvmearb_board_went),
+ * answer it with 0/07, and the Abort with 0 as Dword 0. If there is none, answer the Abort with 1: also if SQID is 0,
+ * the queue isn't open or is closing, or the command was picked.
  *
- * Other opcodes than those of NVMEARB_ADMIN_.. are answered with 0/01. An entry whose FUSE isn't 0, and Set and Get
- * Features of other identifiers than 01h and 07h, are answered with 0/02. For more commands, such as Identify, look at
- * `kind` and `fid` of nvmearb_admin_of first and keep those entries from the table.
+ * NVMEARB_ADMIN_OTHER is answered with 0/01; an entry whose FUSE isn't 0, and Set and Get Features of other identifiers
+ * than 01h and 07h, with 0/02. For more commands, such as Identify, look at `kind` and `fid` of nvmearb_admin_of first,
+ * and keep those entries from the table.
  */
 uint32_t nvmearb_table_apply(nvmearb_table *table, const uint8_t bytes[NVMEARB_SQE_BYTES], nvmearb_answer *answer);
 
 /*
- * Finishes the deletion of a submission queue: its identifier is free again. After NVMEARB_BEGIN_DELETE the caller
- *   - fetches and picks no more commands of the queue (nvmearb_board_close),
- *   - answers each command of the queue that waits with 0/08,
- *   - waits until those that were picked are answered too,
- *   - makes this call, and only then answers the Delete, with success.
- * NVMEARB_EARG if the queue isn't closing.
+ * Finishes the deletion of a submission queue: its identifier is free again. After NVMEARB_BEGIN_DELETE fetch and pick
+ * no more of the queue's commands (nvmearb_board_close), answer each that waits with 0/08, wait until those that were
+ * picked are answered too, make this call, and only then answer the Delete, with success. NVMEARB_EARG if the queue
+ * isn't closing.
  */
 uint32_t nvmearb_table_finish_delete(nvmearb_table *table, uint16_t qid);
 
 /* Writes what the table has of a submission queue; NVMEARB_NONE if it is neither open nor closing. */
 uint32_t nvmearb_table_sq(const nvmearb_table *table, uint16_t qid, nvmearb_queue *queue);
 
-/* Writes the number of the region of a completion queue; NVMEARB_NONE if it isn't open. */
+/* Writes the region of a completion queue; NVMEARB_NONE if it isn't open. */
 uint32_t nvmearb_table_cq(const nvmearb_table *table, uint16_t qid, uint16_t *region);
 
-/* Writes how many I/O submission and completion queues are allotted, each 1 to NVMEARB_MAX_IO_QUEUES. */
+/* Writes how many I/O queues are allotted, each 1 to NVMEARB_MAX_IO_QUEUES. */
 uint32_t nvmearb_table_allotted(const nvmearb_table *table, uint16_t *nsq, uint16_t *ncq);
 
 /* Writes the settings of the Arbitration feature. */
 uint32_t nvmearb_table_settings(const nvmearb_table *table, nvmearb_settings *settings);
 
 /*
- * Controller: the queue side of an NVMe controller, by calls in the order at the top. It checks doorbells, arbitrates,
- * and carries out the admin commands on queues, features and Abort. The device executes all other commands, and keeps
- * registers, memory, data and interrupts. Examples are capi/examples/device.c, and capi/examples/nvme.c, which Linux
- * takes for a disk in QEMU.
+ * Controller: the queue side of an NVMe controller, by calls in the order at the top. It carries out the admin commands
+ * on queues, features and Abort. The device executes all others, and keeps registers, memory, data and interrupts
+ * (capi/examples/device.c).
+ *
+ * A `qid` is a submission queue, 0 the admin queue, and a `cqid` a completion queue. A call with one by value, but
+ * nvmearb_ctrl_set_depth and nvmearb_ctrl_named, answers NVMEARB_NONE if it isn't open, and a call with a `tag` by
+ * value if the device has no command of it.
+ *
+ * A call with _n makes that without it again and again, in order, until it answers NVMEARB_NONE or the array ends, and
+ * writes how many it made into `n`. What lies behind them in the array stays. If it makes none, it answers
+ * NVMEARB_NONE, with 0 in `n`.
  */
 
 /*
  * A slot of a controller holds one command from its fetch until its completion is posted. The caller keeps an array of
- * them, whose content is the library's. Commands of a submission queue hold at most as many as its depth
- * (nvmearb_ctrl_set_depth). Let there be as many as the depths of the queues that may be open have together:
- * admin_depth + nsq * depth. Then no fetch lacks one, while queues are being deleted too. With fewer, commands of one
- * queue may keep those of another from being fetched: no Abort or Delete is fetched while other queues hold all.
- * docs/EMBEDDING.md ("How many commands your backend has") tells which depths weights need.
+ * them, whose content is the library's. Let there be as many as the depths of the queues that may be open have
+ * together: admin_depth + nsq * depth. Then no fetch lacks one, while queues are being deleted too. With fewer,
+ * commands of one queue may keep those of another from being fetched: no Abort or Delete is fetched while other queues
+ * hold all. docs/IN_C.md tells which depths weights need.
  */
 typedef struct nvmearb_slot {
     uint64_t words[11];
 } nvmearb_slot;
 
-/* The most slots of a controller, and the highest depth of a submission queue. */
 #define NVMEARB_MAX_SLOTS 65535
 #define NVMEARB_MAX_DEPTH 4095
 
@@ -586,34 +557,20 @@ typedef struct nvmearb_slot {
  * call with slots, but nvmearb_ctrl_verify, then answers NVMEARB_EARG if `count` isn't that of the making.
  * nvmearb_ctrl_peek and nvmearb_ctrl_pick answer NVMEARB_ESTATE too if the arbiter isn't valid, as that of a making is.
  *
- * Hand each call the slots of the making, and write neither into them nor into the controller. If something else wrote
- * there, a call still returns, and reads and writes only what it is given; nothing more is promised.
- * nvmearb_ctrl_verify finds some such writes. Read no slot of a ring but those that nvmearb_ctrl_fetch and
- * nvmearb_ctrl_next_fetch tell, or nvmearb_ctrl_fetched_n takes, and post no completion but those of nvmearb_ctrl_post
- * and nvmearb_ctrl_post_n. A ring has 64 or 16 bytes for each slot, from its address on.
+ * Hand each call the slots of the making, and write neither into them nor into the controller. If something wrote
+ * there, a call still returns, and reads and writes only what it is given; nothing more is promised. Read no slot of a
+ * ring, and post no completion, but those that a call tells or takes.
  *
  * A submission queue is open until its deletion begins, and then closing until nvmearb_ctrl_finish ends that.
  *
- * A controller and its slots hold no pointer. Both together may be moved, or saved as bytes and restored by a library
- * of the same major and minor version, which the mark has. What is restored replaces the first: use no copy beside it.
- * Save with it where its queues lie, and what you have by tag. At a restore drop what was taken after the saving: the
- * same tags come again.
- *
- * The time of these calls, and of no other, grows with what stands beside them:
- *
- *   nvmearb_ctrl_init, nvmearb_ctrl_init_anywhere, nvmearb_ctrl_verify   the slots
- *   nvmearb_ctrl_named                                                   the slots up to the command's
- *   nvmearb_ctrl_waits                                                   the commands before its own, 255 at most
- *   nvmearb_ctrl_pick of a Delete SQ or an Abort                         the queue's waiting commands, 256 at most
- *   nvmearb_ctrl_pick of a Create or a Delete CQ                         the regions and the open queues
- *   nvmearb_ctrl_add_sq_region, nvmearb_ctrl_add_cq_region               the regions
- *   nvmearb_ctrl_finish                                                  the identifiers up to the queue's
- *   nvmearb_ctrl_next_fetch, nvmearb_ctrl_next_to_post                   the queues before it whose work has to wait
- *   nvmearb_ctrl_fetched_n, nvmearb_ctrl_take_n, nvmearb_ctrl_post_n     what they write into `n`
+ * A controller and its slots hold no pointer. Both together may be moved, or saved as bytes, with where its queues lie
+ * and what you have by tag, and restored by a library of the same major and minor version, which the mark has. What is
+ * restored replaces the first: use no copy beside it, and drop what was taken after the saving, since the same tags
+ * come again.
  *
  * PC must be 1, and a ring has at most 4096 slots: CAP.CQR is 1, and CAP.MQES at most 4095. Commands without a posted
  * completion have no limit but the depths. A completion queue that its host doesn't read stops the submission queues
- * that post to it, and no other.
+ * that post to it, and no other. docs/IN_C.md tells which calls take longer with more.
  */
 typedef struct nvmearb_ctrl {
     uint64_t mark;
@@ -621,9 +578,9 @@ typedef struct nvmearb_ctrl {
     uint64_t words[750];
 } nvmearb_ctrl;
 
-/* What a controller is made with. A depth isn't the size of a ring (nvmearb_ctrl_set_depth). */
+/* What a controller is made with. A depth isn't the size of a ring. */
 typedef struct nvmearb_config {
-    nvmearb_region asq, acq; /* the admin queues: ASQ and ACQ; slots are the fields of AQA plus 1 */
+    nvmearb_region asq, acq; /* ASQ and ACQ; slots are the fields of AQA plus 1 */
     uint32_t mechanism;      /* CC.AMS 000b: NVMEARB_ROUND_ROBIN, 001b: NVMEARB_WEIGHTED */
     uint32_t cdw11;          /* the Arbitration feature */
     uint16_t nsq, ncq;       /* the most I/O submission and completion queues, 1 to NVMEARB_MAX_IO_QUEUES */
@@ -631,14 +588,14 @@ typedef struct nvmearb_config {
     uint16_t admin_depth;    /* the same of the admin queue, above the number of event requests that the device holds */
 } nvmearb_config;
 
-/* What a Create command may ask for where queues may lie anywhere in memory. */
+/* What a Create may ask for where queues may lie anywhere. */
 typedef struct nvmearb_placement {
-    uint32_t page;    /* the memory page in bytes, 2 to the power of 12 + CC.MPS: PRP1 is a multiple of it */
-    uint16_t mqes;    /* the largest QSIZE, which is zero based (CAP.MQES), 1 to 4095 */
-    uint16_t vectors; /* the number of interrupt vectors, at least 1, also for a device with a pin: IV is below it */
+    uint32_t page;    /* the memory page in bytes, 2^(12 + CC.MPS): PRP1 is a multiple of it */
+    uint16_t mqes;    /* the largest QSIZE (CAP.MQES), 1 to 4095 */
+    uint16_t vectors; /* interrupt vectors, at least 1, also for a device with a pin: IV is below it */
 } nvmearb_placement;
 
-/* What a Create command that made a queue asked for. */
+/* What an accepted Create asked for. */
 typedef struct nvmearb_asked {
     uint64_t address;    /* PRP1: where the ring lies */
     uint16_t qsize;      /* QSIZE: its slots less 1 */
@@ -646,7 +603,7 @@ typedef struct nvmearb_asked {
     uint16_t interrupts; /* IEN of a completion queue, 1 or 0, else 0 */
 } nvmearb_asked;
 
-/* The kinds of steps, by what was picked. */
+/* The kinds of steps. */
 #define NVMEARB_PICKED 1u      /* commands of an I/O queue: nvmearb_ctrl_take gives them */
 #define NVMEARB_CARRIED_OUT 2u /* a command of the admin queue, which the controller carried out */
 #define NVMEARB_PASSED 3u      /* an admin command of the device: nvmearb_ctrl_take gives it */
@@ -655,20 +612,19 @@ typedef struct nvmearb_asked {
 typedef struct nvmearb_step {
     uint32_t kind;
     /*
-     * NVMEARB_CARRIED_OUT: what the command came to. Its completion becomes ready by itself. 6. and 9. at the top say
+     * NVMEARB_CARRIED_OUT: what the command came to. Its completion becomes ready by itself; 6. and 9. at the top say
      * all that is left to do.
      */
     nvmearb_answer answer;
     nvmearb_pick pick;   /* NVMEARB_PICKED and NVMEARB_PASSED: the queue, and how many of its commands */
-    nvmearb_asked asked; /* NVMEARB_CARRIED_OUT with a verdict of NVMEARB_OPEN_SQ or NVMEARB_OPEN_CQ; else all 0 */
+    nvmearb_asked asked; /* with a verdict of NVMEARB_OPEN_SQ or NVMEARB_OPEN_CQ; else all 0 */
 } nvmearb_step;
 
 /*
- * A command that the device has. Its tag names it until it is completed. Bits 15:0 are the index of its slot. Bits
- * 31:16 are the slot's generation, which rises by one with each command that the device takes of it. A tag is used up
- * once its command is completed, or the controller is made anew over the same slots, which keeps their generations. A
- * call with a tag that is used up answers NVMEARB_NONE and changes nothing. A tag comes again with the 65,536th command
- * taken from its slot after it.
+ * A command that the device has. Its tag names it until it is completed: bits 15:0 are the index of its slot, bits
+ * 31:16 the slot's generation, which rises by one with each command that the device takes of it. It is used up once its
+ * command is completed, or the controller is made anew over the same slots, which keeps their generations: a call with
+ * it changes nothing. It comes again with the 65,536th command taken from its slot after it.
  */
 typedef struct nvmearb_command {
     nvmearb_sqe entry;
@@ -677,178 +633,165 @@ typedef struct nvmearb_command {
 } nvmearb_command;
 
 /*
- * The slot of a tag, an index for what the device keeps of a command. It is below `count`, unless something else wrote
- * into the controller or its slots.
+ * The slot of a tag, an index for what the device keeps of a command: below `count`, unless something else wrote into
+ * the controller or its slots.
  */
 #define NVMEARB_SLOT_OF(tag) ((tag) & 0xffffu)
 
 /*
  * The status flags of a completion: bits 31 and 30 of Dword 3. Without Do Not Retry Linux submits a failing Read six
- * times. The controller's own answers have Do Not Retry for 0/01, 0/02, 0/0c, 0/13, 1/00, 1/01, 1/02, 1/08 and 1/0d,
- * for no other status, and never More.
+ * times. The controller's own answers have it for 0/01, 0/02, 0/0c, 0/13, 1/00, 1/01, 1/02, 1/08 and 1/0d alone, and
+ * never More.
  */
 #define NVMEARB_DNR 1u  /* Do Not Retry */
 #define NVMEARB_MORE 2u /* the Error Information log page has more of the command */
 
-/* A completion to be written into the ring of a completion queue. */
+/* A completion to be written into the ring of its queue. */
 typedef struct nvmearb_post {
-    /* Byte 15 has Do Not Retry in bit 7 and More in bit 6: nvmearb_cqe_decode takes no entry with a flag. */
+    /* Byte 15 has Do Not Retry in bit 7, More in bit 6: nvmearb_cqe_decode takes no entry with a flag. */
     uint8_t bytes[NVMEARB_CQE_BYTES];
     uint32_t cookie; /* that of its command */
     /*
      * That of its command. If the device never took it, the last tag of its slot, of the generation that lies there
-     * where no command had one. Such a tag is used up, and any number of completions may have it.
+     * where no command had one: it is used up, and any number of completions may have it.
      */
     uint32_t tag;
     uint16_t slot; /* of the ring */
 } nvmearb_post;
 
 /*
- * Initialises a controller as nvmearb_ctrl_init, but the host chooses where queues lie. There may be any number of
- * Creates, each at any multiple of the memory page. The host may reuse a queue's memory once its Delete is answered.
- * The device keeps what the step of an accepted Create tells (nvmearb_asked) by kind and identifier, until the next
- * accepted Create of both. The admin queues lie at ASQ and ACQ, with vector 0 and interrupts enabled.
+ * As nvmearb_ctrl_init, but the host chooses where queues lie. Creates may be any number, each at any multiple of the
+ * memory page. The host may reuse a queue's memory once its Delete is answered. The device keeps what the step of an
+ * accepted Create tells (nvmearb_asked) by kind and identifier, until the next accepted Create of both. The admin
+ * queues lie at ASQ and ACQ, with vector 0 and interrupts enabled.
  *
- * The library doesn't know the memory: it accepts a Create where none is, or over another ring. The device checks each
- * access, and that no address goes over the end of all addresses. Where an access to a ring fails, it sets CSTS.CFS and
- * waits for the reset.
+ * The library doesn't know the memory, and accepts a Create where none is, or over another ring. The device checks each
+ * access, and that no address goes over the end of all addresses. Where one to a ring fails, it sets CSTS.CFS and waits
+ * for the reset.
  *
  * The first of these that applies refuses a Create that isn't fused:
- *   1/02, Invalid Queue Size: QSIZE is above `mqes`
- *   0/13, PRP Offset Invalid: PRP1 isn't a multiple of the page
- *   1/08, Invalid Interrupt Vector: IV of a completion queue isn't below `vectors`, whatever IEN
- *   0/02, Invalid Field in Command: PC is 0
- *   1/01, Invalid Queue Identifier: QID is 0, above the allotted number, or that of a queue that is open or closing
- *   1/02: QSIZE is 0
- *   1/01: CQID of a submission queue is 0 or above the allotted number
- *   1/00, Completion Queue Invalid: that queue isn't open.
- * NVMEARB_EARG as nvmearb_ctrl_init, and if `page` is no power of two, `mqes` isn't 1 to 4095, or `vectors` is 0.
- * Otherwise NVMEARB_ESIZE for `asq` or `acq`. Their addresses are not compared.
+ *   1/02   QSIZE is above `mqes`
+ *   0/13   PRP1 isn't a multiple of the page
+ *   1/08   IV of a completion queue isn't below `vectors`, whatever IEN
+ *   0/02   PC is 0
+ *   1/01   QID is 0, above the allotted number, or that of a queue that is open or closing
+ *   1/02   QSIZE is 0
+ *   1/01   CQID of a submission queue is 0 or above the allotted number
+ *   1/00   that queue isn't open
+ * NVMEARB_EARG as nvmearb_ctrl_init, and if `page` is no power of two, `mqes` isn't 1 to 4095, or `vectors` is 0;
+ * NVMEARB_ESIZE for `asq` or `acq`. Their addresses are not compared.
  */
 uint32_t nvmearb_ctrl_init_anywhere(nvmearb_ctrl *ctrl, nvmearb_slot *slots, size_t count, const nvmearb_config *config,
                                     const nvmearb_placement *placement);
 
 /*
  * Initialises a controller with its admin queues alone, which are open, on region 0 of each kind. All slots are free:
- * `count` of 1 to NVMEARB_MAX_SLOTS. Any bytes may lie in `ctrl` and the slots. The slots keep their generations: hand
- * in the same ones at a reset, and don't clear them, so that tags of before are used up.
+ * `count` of 1 to NVMEARB_MAX_SLOTS. Any bytes may lie in `ctrl` and the slots. The slots keep their generations: at a
+ * reset hand in the same ones, uncleared, so that tags of before are used up.
  *
  * The device says beforehand where rings may lie (nvmearb_ctrl_add_sq_region, nvmearb_ctrl_add_cq_region). A Create
  * names the address of a region that no queue has used and that has exactly QSIZE + 1 slots. Add a region before a
  * Create of its address is picked: with one added later, docs/PROVED.md promises less.
- * NVMEARB_EARG if `count`, `mechanism`, `nsq`, `ncq`, `depth` or `admin_depth` is out of its range. Otherwise the first
- * of these: NVMEARB_ESIZE for `asq`, NVMEARB_EUSED if both have one address, NVMEARB_ESIZE for `acq`.
+ * NVMEARB_EARG if `count`, `mechanism`, `nsq`, `ncq`, `depth` or `admin_depth` is out of its range; NVMEARB_ESIZE for
+ * `asq`; NVMEARB_EUSED if both have one address; NVMEARB_ESIZE for `acq`.
  */
 uint32_t nvmearb_ctrl_init(nvmearb_ctrl *ctrl, nvmearb_slot *slots, size_t count, const nvmearb_config *config);
 
-/*
- * Adds a submission region.
- * NVMEARB_EMANY if queues may lie anywhere; otherwise as nvmearb_table_add_sq_region, and with its refusals.
- */
+/* As nvmearb_table_add_sq_region. NVMEARB_EMANY first if queues may lie anywhere. */
 uint32_t nvmearb_ctrl_add_sq_region(nvmearb_ctrl *ctrl, uint64_t address, uint16_t slots, uint16_t *number);
 
-/* Adds a completion region, as nvmearb_ctrl_add_sq_region a submission region. */
+/* The same of a completion region. */
 uint32_t nvmearb_ctrl_add_cq_region(nvmearb_ctrl *ctrl, uint64_t address, uint16_t slots, uint16_t *number);
 
 /*
- * From now on, until the next making, admin commands of this opcode are the device's. They are picked in their turn;
- * the device takes and completes them as I/O commands, at any later time. The opcodes 00h, 01h, 04h, 05h, 09h and 0Ah
- * stay the controller's, and so does a fused command, which it refuses. PSDT of every command is left to the device. A
- * command that is neither's is answered with 0/01, and Set and Get Features of an identifier that is neither's with
- * 0/02.
+ * From now on, until the next making, admin commands of this opcode are the device's: picked in their turn, taken and
+ * completed as I/O commands, at any later time. 00h, 01h, 04h, 05h, 09h and 0Ah stay the controller's, and so does a
+ * fused command, which it refuses. PSDT of every command is left to the device. A command that is neither's is answered
+ * with 0/01, and Set and Get Features of an identifier that is neither's with 0/02.
  *
- * The controller aborts a command that waits: it is answered with 0/07. An Abort of any other command is answered with
- * 1 as Dword 0, not aborted, unless NVMEARB_OPC_ABORT was announced here. Then the device gets the Abort, and finds the
- * tag of that command by nvmearb_admin_of and nvmearb_ctrl_named. If it can end that command, it completes it with
- * 0/07, and then the Abort with 0 as Dword 0; otherwise the Abort with 1. An Abort may name itself: compare the tags,
- * and complete it with 1. Where the host has more Aborts out than Identify allows (ACL), complete one with 1/03, Abort
- * Command Limit Exceeded. capi/examples/admin.c ends Asynchronous Event Requests so.
+ * At an Abort the controller answers the command that it names with 0/07 if that waits. Otherwise it answers the Abort
+ * with 1 as Dword 0, not aborted, unless NVMEARB_OPC_ABORT was announced here. Then the device gets the Abort, and
+ * finds the command's tag by nvmearb_admin_of and nvmearb_ctrl_named. If it can end that command, it completes it with
+ * 0/07, and then the Abort with 0 as Dword 0; otherwise the Abort with 1, also one that names itself (compare the
+ * tags). Above the ACL of Identify complete one with 1/03, Abort Command Limit Exceeded. capi/examples/admin.c ends
+ * event requests so.
  */
 uint32_t nvmearb_ctrl_own_opcode(nvmearb_ctrl *ctrl, uint8_t opcode);
 
 /*
- * From now on Set and Get Features of this feature identifier are the device's, as nvmearb_ctrl_own_opcode tells. Of
- * 01h and 07h, the controller's own, the device has only a Get Features that selects (SEL) another value than the
- * current one.
+ * Set and Get Features of this identifier are the device's, as nvmearb_ctrl_own_opcode tells; of 01h and 07h, the
+ * controller's own, only a Get Features that selects (SEL) another value than the current one.
  */
 uint32_t nvmearb_ctrl_own_feature(nvmearb_ctrl *ctrl, uint8_t fid);
 
 /*
- * From now on at most `depth` commands of a submission queue hold a slot (nvmearb_slot). This replaces the depth of
- * nvmearb_config until the next call or making, whatever is created and deleted. Call it at any time, best before the
- * queue is created. Where more hold a slot already, nothing is fetched of the queue until fewer do. A depth may be
- * above the number of slots, which queues share then. `qid` 0 is the admin queue: it fetches nothing any more once the
- * device holds as many event requests as its depth.
+ * From now on at most `depth` commands of a queue hold a slot. This replaces the depth of nvmearb_config until the next
+ * call or making, whatever is created and deleted. Call it at any time, best before the queue is created: where more
+ * hold a slot already, nothing is fetched until fewer do. The admin queue fetches nothing any more once the device
+ * holds as many event requests as its depth.
  * NVMEARB_EARG if `qid` is above NVMEARB_MAX_IO_QUEUES or `depth` isn't 1 to NVMEARB_MAX_DEPTH.
  */
 uint32_t nvmearb_ctrl_set_depth(nvmearb_ctrl *ctrl, uint16_t qid, uint16_t depth);
 
 /*
- * With an `on` of 1 no command of a submission queue is picked from now on, and with 0 they are again. It is for a
- * queue, the admin queue too, that the device can't serve. Commands are still fetched up to its depth; an Abort and a
- * deletion still end what waits. What was picked stays picked. A queue that is created anew isn't held.
- * NVMEARB_EARG if `on` is above 1; otherwise NVMEARB_NONE if the queue isn't open.
+ * With an `on` of 1 no command of a queue is picked from now on, and with 0 they are again. Commands are still fetched
+ * up to its depth; an Abort and a deletion still end what waits. What was picked stays picked. A queue created anew
+ * isn't held. NVMEARB_EARG first if `on` is above 1.
  */
 uint32_t nvmearb_ctrl_hold(nvmearb_ctrl *ctrl, uint16_t qid, uint8_t on);
 
 /*
- * From now on an I/O submission queue has this priority class, NVMEARB_URGENT to NVMEARB_LOW, whatever its Create asked
- * for (QPRIO). A queue that is created anew has the class of its Create. Under round robin a class has no effect.
- * NVMEARB_EARG if `priority` is none of the four; otherwise NVMEARB_NONE if `qid` is 0, or the queue isn't open.
+ * From now on an I/O queue has this priority class, NVMEARB_URGENT to NVMEARB_LOW, whatever its Create asked for
+ * (QPRIO). A queue created anew has the class of its Create. Under round robin a class has no effect. NVMEARB_EARG
+ * first if `priority` is none of the four; NVMEARB_NONE if `qid` is 0.
  */
 uint32_t nvmearb_ctrl_set_class(nvmearb_ctrl *ctrl, uint16_t qid, uint16_t priority);
 
 /*
- * The host wrote the tail doorbell of a submission queue: `tail` is bits 15:00 of the value. A ring holds one command
- * less than it has slots. A value that the doorbell has already is accepted, here and of a head, so hand in what a
- * shadow doorbell has. The specification lets a controller report such a value as an invalid doorbell write value.
- * NVMEARB_NONE if the queue isn't open (Invalid Doorbell Register). Otherwise NVMEARB_EARG if the ring has no such
- * slot, or hasn't as many free slots (Invalid Doorbell Write Value).
+ * The host wrote a tail doorbell: `tail` is bits 15:00 of the value. A ring holds one command less than it has slots. A
+ * value that the doorbell has already is accepted, here and of a head, so hand in what a shadow doorbell has. (The
+ * specification lets a controller report it.)
+ * NVMEARB_NONE (Invalid Doorbell Register); NVMEARB_EARG if the ring has no such slot, or hasn't as many free slots
+ * (Invalid Doorbell Write Value).
  */
 uint32_t nvmearb_ctrl_sq_tail(nvmearb_ctrl *ctrl, uint16_t qid, uint16_t tail);
 
 /*
- * The host wrote the head doorbell of a completion queue: `head` is bits 15:00 of the value. The host has entries to
- * read, for which a pin stays asserted, unless `head` is the slot after that of the last post.
- * NVMEARB_NONE if the queue isn't open; otherwise NVMEARB_EARG if the ring has no such slot, or not as many completions
- * were posted.
+ * The host wrote a head doorbell: `head` is bits 15:00 of the value. The host has entries to read, for which a pin
+ * stays asserted, unless `head` is the slot after that of the last post. NVMEARB_EARG if the ring has no such slot, or
+ * not as many completions were posted.
  */
 uint32_t nvmearb_ctrl_cq_head(nvmearb_ctrl *ctrl, uint16_t cqid, uint16_t head);
 
 /*
- * Writes the slot of the ring of a submission queue whose entry is fetched next.
- * NVMEARB_NONE if the queue isn't open, the host submitted no more, or no slot of `ctrl` is free. Also if its commands
- * hold as many slots as its depth, or 256 of them wait, or as many as its ring has slots less 1.
+ * Writes the slot of the ring whose entry is fetched next. NVMEARB_NONE too if the host submitted no more, no slot of
+ * `ctrl` is free, the queue's commands hold as many slots as its depth, or 256 of them wait, or as many as its ring has
+ * slots less 1.
  */
 uint32_t nvmearb_ctrl_fetch(const nvmearb_ctrl *ctrl, uint16_t qid, uint16_t *slot);
 
 /*
- * Writes the next submission queue of which nvmearb_ctrl_fetch tells a slot, and that slot. Queues take turns by
- * ascending identifier, 0 after NVMEARB_MAX_IO_QUEUES. `qid` in: the queue told last; to begin with the admin queue,
- * NVMEARB_MAX_IO_QUEUES or more. Out: the queue told; unchanged if none. A queue that keeps having an entry to fetch is
- * told within NVMEARB_MAX_QUEUES calls (law queues_take_turns, crates/nvme_ctrl).
- * nvmearb_ctrl_fetch tells further slots of a queue. With fewer slots than the depths have together, fetch one entry
- * for each call, so that queues share the free ones.
- * NVMEARB_NONE if there is no such queue.
+ * Writes the next queue of which nvmearb_ctrl_fetch tells a slot, and that slot. Queues take turns by ascending
+ * identifier, 0 after NVMEARB_MAX_IO_QUEUES. `qid` in: the queue told last; to begin with the admin queue,
+ * NVMEARB_MAX_IO_QUEUES or more. Out: the queue told; unchanged if none, which is NVMEARB_NONE. A queue that keeps
+ * having an entry to fetch is told within NVMEARB_MAX_QUEUES calls (law queues_take_turns, crates/nvme_ctrl).
+ * nvmearb_ctrl_fetch tells further slots of a queue. With fewer slots than depths together, fetch one entry a call, so
+ * that queues share the free ones.
  */
 uint32_t nvmearb_ctrl_next_fetch(const nvmearb_ctrl *ctrl, uint16_t *qid, uint16_t *slot);
 
 /*
  * The entry in the slot that nvmearb_ctrl_fetch tells was read: its command waits to be picked, with `cookie`. Other
  * calls may come before this one, as with DMA: until then the same slot of the queue is told again, or none. If the
- * queue's deletion begins meanwhile, drop the entry.
- * NVMEARB_NONE if nvmearb_ctrl_fetch tells none.
+ * queue's deletion begins meanwhile, drop the entry. NVMEARB_NONE if none is told.
  */
 uint32_t nvmearb_ctrl_fetched(nvmearb_ctrl *ctrl, nvmearb_slot *slots, size_t count, uint16_t qid,
                               const uint8_t bytes[NVMEARB_SQE_BYTES], uint32_t cookie);
 
 /*
- * As nvmearb_ctrl_fetched, of one entry after the other, each with its cookie, until that answers NVMEARB_NONE. Writes
- * how many were fetched into `n`. `entries` are those in the slots of the ring from the one that nvmearb_ctrl_fetch
- * tells on, slot 0 after the last. They end before the last tail that nvmearb_ctrl_sq_tail accepted: from there on the
- * host may still write. What wasn't fetched is told again, once it may be.
- * NVMEARB_EARG too if `bytes` isn't NVMEARB_SQE_BYTES times `cookie_count`; otherwise NVMEARB_NONE, and 0 into `n`, if
- * nvmearb_ctrl_fetch tells none or there are no entries.
+ * `entries` are those from the slot on that nvmearb_ctrl_fetch tells, slot 0 after the last, each with its cookie. They
+ * end before the last tail that nvmearb_ctrl_sq_tail accepted: from there on the host may still write. What wasn't
+ * fetched is told again, once it may be. NVMEARB_EARG first if `bytes` isn't NVMEARB_SQE_BYTES times `cookie_count`.
  */
 uint32_t nvmearb_ctrl_fetched_n(nvmearb_ctrl *ctrl, nvmearb_slot *slots, size_t count, uint16_t qid,
                                 const uint8_t *entries, size_t bytes, const uint32_t *cookies, size_t cookie_count,
@@ -856,70 +799,54 @@ uint32_t nvmearb_ctrl_fetched_n(nvmearb_ctrl *ctrl, nvmearb_slot *slots, size_t 
 
 /*
  * Writes the next pick of the commands that wait now, with room for all of it, whether or not nvmearb_ctrl_pick can
- * make it yet.
- * NVMEARB_NONE if no command waits but in queues that are held.
+ * make it yet. NVMEARB_NONE if no command waits but in queues that are held.
  */
 uint32_t nvmearb_ctrl_peek(const nvmearb_ctrl *ctrl, const nvmearb_slot *slots, size_t count, nvmearb_pick *pick);
 
 /*
- * Makes the next pick of arbitration, and writes what it did. `room` is how many commands the device can take now, or
+ * Makes the next pick, and writes what it did. `room` is how many commands the device can take now, or
  * NVMEARB_NO_LIMIT. The queue is the same with any room. n is the least of the burst, what its class has left of its
- * weight, what waits in the queue, and `room`. (The burst is the most that may be fetched at a time: Command
- * Arbitration.) The rest waits as nvmearb_arbiter_pick_up_to tells.
+ * weight, what waits in the queue, and `room`. The rest waits as nvmearb_arbiter_pick_up_to tells.
  *
- * An admin command is picked alone, and wants a room of 1: docs/EMBEDDING.md tells how a device that is full picks it.
- * If it isn't the device's, it is carried out at once. A deletion answers the waiting commands of its queue with 0/08,
- * and an Abort a waiting command with 0/07.
- *
- * NVMEARB_BUSY if commands are picked and not taken; otherwise NVMEARB_NONE as nvmearb_ctrl_peek; otherwise
- * NVMEARB_NOROOM if `room` is 0.
+ * An admin command is picked alone, and wants a room of 1 (docs/IN_C.md: how a full device picks it). If it isn't the
+ * device's, it is carried out at once. A deletion answers the waiting commands of its queue with 0/08, and an Abort a
+ * waiting command with 0/07.
+ * NVMEARB_BUSY if commands are picked and not taken; NVMEARB_NONE as nvmearb_ctrl_peek; NVMEARB_NOROOM if `room` is 0.
  */
 uint32_t nvmearb_ctrl_pick(nvmearb_ctrl *ctrl, nvmearb_slot *slots, size_t count, uint16_t room, nvmearb_step *step);
 
 /* The device takes the oldest of the commands that are picked and not taken; NVMEARB_NONE if all are taken. */
 uint32_t nvmearb_ctrl_take(nvmearb_ctrl *ctrl, nvmearb_slot *slots, size_t count, nvmearb_command *command);
 
-/*
- * As nvmearb_ctrl_take again and again, until that answers NVMEARB_NONE or `room` commands are taken. Writes them in
- * this order, and how many into `n`; what lies behind them stays.
- * NVMEARB_NONE, and 0 into `n`, if all are taken or `room` is 0.
- */
+/* Up to `room` calls of nvmearb_ctrl_take. */
 uint32_t nvmearb_ctrl_take_n(nvmearb_ctrl *ctrl, nvmearb_slot *slots, size_t count, nvmearb_command *commands,
                              size_t room, size_t *n);
 
-/*
- * The device completes a command, whose completion is ready then, with `dw0` as Dword 0.
- * NVMEARB_EARG if `status->sct` is above 7; otherwise NVMEARB_NONE if the device has no command of this tag.
- */
+/* The device completes a command, whose completion is ready then. NVMEARB_EARG first if `status->sct` is above 7. */
 uint32_t nvmearb_ctrl_complete(nvmearb_ctrl *ctrl, nvmearb_slot *slots, size_t count, uint32_t tag,
                                const nvmearb_status *status, uint32_t dw0);
 
 /*
- * As nvmearb_ctrl_complete, which gives no flags, with flags: NVMEARB_DNR, NVMEARB_MORE, both or 0.
- * NVMEARB_EARG too if `flags` has another bit.
+ * As nvmearb_ctrl_complete, which gives no flags, with NVMEARB_DNR, NVMEARB_MORE, both or 0. NVMEARB_EARG too if
+ * `flags` has another bit.
  */
 uint32_t nvmearb_ctrl_complete_with(nvmearb_ctrl *ctrl, nvmearb_slot *slots, size_t count, uint32_t tag,
                                     const nvmearb_status *status, uint32_t dw0, uint8_t flags);
 
 /*
- * Writes the completion that became ready first in a completion queue, which counts as posted now. Let the write reach
- * memory before that of a later completion of any queue: that of a Delete may free the ring.
- * NVMEARB_NONE if the queue isn't open, if none is ready, or if the host has freed no slot of the ring.
+ * Writes the completion that became ready first in a queue, which counts as posted now. Let the write reach memory
+ * before that of a later completion of any queue: that of a Delete may free the ring. NVMEARB_NONE too if none is
+ * ready, or the host has freed no slot of the ring.
  */
 uint32_t nvmearb_ctrl_post(nvmearb_ctrl *ctrl, nvmearb_slot *slots, size_t count, uint16_t cqid, nvmearb_post *post);
 
-/*
- * As nvmearb_ctrl_post again and again, until that answers NVMEARB_NONE or `room` completions are posted. Writes them
- * in this order, in which they go into the ring, and how many into `n`; what lies behind them stays.
- * NVMEARB_NONE, and 0 into `n`, if nvmearb_ctrl_post gives none or `room` is 0.
- */
+/* Up to `room` calls of nvmearb_ctrl_post. The completions go into the ring in this order. */
 uint32_t nvmearb_ctrl_post_n(nvmearb_ctrl *ctrl, nvmearb_slot *slots, size_t count, uint16_t cqid, nvmearb_post *posts,
                              size_t room, size_t *n);
 
 /*
- * Writes the next completion queue of which nvmearb_ctrl_post gives a completion. `cqid`, turns and law are as in
- * nvmearb_ctrl_next_fetch.
- * NVMEARB_NONE if there is no such queue.
+ * Writes the next completion queue of which nvmearb_ctrl_post gives a completion, or answers NVMEARB_NONE. `cqid`,
+ * turns and law are as in nvmearb_ctrl_next_fetch.
  */
 uint32_t nvmearb_ctrl_next_to_post(const nvmearb_ctrl *ctrl, const nvmearb_slot *slots, size_t count, uint16_t *cqid);
 
@@ -928,64 +855,56 @@ uint32_t nvmearb_ctrl_next_to_post(const nvmearb_ctrl *ctrl, const nvmearb_slot 
  * by identifier. Writes the identifier, which is free then. The completion of the Delete is ready then. Until here
  * nothing is fetched or picked of the queue, and a Delete of its completion queue is refused (1/0c): also one that came
  * with it, if this isn't done at once. What the device has of the queue may still be completed and posted. Other queues
- * go on, the admin queue too, and further deletions may begin: each waits for the commands of its own queue.
+ * go on, and further deletions may begin.
  * NVMEARB_NONE if each queue that is being deleted has a fetched command without a posted completion.
  */
 uint32_t nvmearb_ctrl_finish(nvmearb_ctrl *ctrl, nvmearb_slot *slots, size_t count, uint16_t *qid);
 
-/* Writes the command of a tag once more; NVMEARB_NONE if the device has no command of this tag. */
+/* Writes the command of a tag once more. */
 uint32_t nvmearb_ctrl_command(const nvmearb_ctrl *ctrl, const nvmearb_slot *slots, size_t count, uint32_t tag,
                               nvmearb_command *command);
 
 /*
- * Writes the tag of the command `cid` of submission queue `qid` that the device has, such as one that an Abort names.
- * If the host gave two of them one identifier, it is the tag of either.
- * NVMEARB_NONE if the device has no such command: it waits, say, or is completed.
+ * Writes the tag of the command `cid` of queue `qid` that the device has, such as one that an Abort names; of several,
+ * which the host gave one identifier, that of either. NVMEARB_NONE if it has none such: it waits, say, or is completed.
  */
 uint32_t nvmearb_ctrl_named(const nvmearb_ctrl *ctrl, const nvmearb_slot *slots, size_t count, uint16_t qid,
                             uint16_t cid, uint32_t *tag);
 
-/*
- * Writes the region of a submission queue, `qid` where queues may lie anywhere; NVMEARB_NONE if the queue isn't open.
- */
+/* Writes the region of a queue, `qid` where queues may lie anywhere. */
 uint32_t nvmearb_ctrl_sq(const nvmearb_ctrl *ctrl, uint16_t qid, uint16_t *region);
 
-/*
- * Writes the region of a completion queue, `cqid` where queues may lie anywhere; NVMEARB_NONE if the queue isn't open.
- */
+/* Writes the region of a queue, `cqid` where queues may lie anywhere. */
 uint32_t nvmearb_ctrl_cq(const nvmearb_ctrl *ctrl, uint16_t cqid, uint16_t *region);
 
-/* Writes how many commands of a submission queue were fetched and wait to be picked; NVMEARB_NONE if it isn't open. */
+/* Writes how many commands of a queue were fetched and wait to be picked. */
 uint32_t nvmearb_ctrl_waiting(const nvmearb_ctrl *ctrl, uint16_t qid, uint16_t *count);
 
 /*
- * Writes the entry and the cookie of a command that waits in a submission queue. `n` counts from 0, which is the oldest
- * and picked first.
- * NVMEARB_NONE if the queue isn't open, or if at most `n` commands wait in it.
+ * Writes the entry and the cookie of a command that waits in a queue. `n` counts from 0, which is the oldest and picked
+ * first. NVMEARB_NONE too if at most `n` wait.
  */
 uint32_t nvmearb_ctrl_waits(const nvmearb_ctrl *ctrl, const nvmearb_slot *slots, size_t count, uint16_t qid,
                             uint16_t n, nvmearb_sqe *entry, uint32_t *cookie);
 
 /*
- * Writes what the next pick is shown of a submission queue; `count` is 0 if it is held. An arbiter that is shown all
- * open queues so picks the same (capi/examples/trace.c).
- * NVMEARB_NONE if the queue isn't open.
+ * Writes what the next pick is shown of a queue; `count` is 0 if it is held. An arbiter that is shown all open queues
+ * so picks the same (capi/examples/trace.c).
  */
 uint32_t nvmearb_ctrl_seen(const nvmearb_ctrl *ctrl, uint16_t qid, nvmearb_seen *seen);
 
 /*
- * Tests whether something was written into a controller or its slots by mistake: for tests, what was restored, and a
- * call that answers what it shouldn't. It looks at the arbiter, heads, tails, the numbers of outstanding and picked
- * commands, each number used as one of a queue or a slot, and the chains of slots. What the library wrote passes. Not
- * each mistake is found, such as another command in a slot, or another queue in the queue table.
+ * Tests whether something was written into a controller or its slots by mistake: for tests, and what was restored. It
+ * looks at the arbiter, heads, tails, the numbers of outstanding and picked commands, each number used as one of a
+ * queue or a slot, and the chains of slots. What the library wrote passes. Not each mistake is found, such as another
+ * command in a slot, or another queue in the queue table.
  * NVMEARB_ESTATE if `ctrl` isn't valid, `count` isn't that of the making, or one of these is out of range.
  */
 uint32_t nvmearb_ctrl_verify(const nvmearb_ctrl *ctrl, const nvmearb_slot *slots, size_t count);
 
 /*
- * Returns 1 if the library is that of this header, by its version and the sizes of its states. Else it returns 0, also
- * for an unproved one (NVMEARB_UNPROVED), but where NVMEARB_ALLOW_UNPROVED is defined. Make no other call of a library of
- * another header.
+ * Returns 1 if the library is that of this header, by its version and the sizes of its states, and else 0: for an
+ * unproved one too, but where NVMEARB_ALLOW_UNPROVED is defined. Make no other call of a library of another header.
  */
 static inline int nvmearb_is_of_this_header(void)
 {
