@@ -35,6 +35,9 @@ prove: ## prove every crate, or with CRATE=nvme_lane that one
 test: ## test what is built, with UNPROVED=1 what is built without proofs, or NAME=words by tests/words alone; with CRATE=nvme_program_tests that crate's tests, or NAME=one
 	$(if $(CRATE),$(if $(wildcard tests/crates/$(CRATE)),tests/libraries $(CRATE) $(NAME),cd crates/$(CRATE) && rt test $(if $(NAME),-- $(NAME))),tests/run $(NAME))
 
+docs: ## make the pages of docs/ anew that tell what stands elsewhere (tools/docs)
+	tools/docs $(PROGRAM)
+
 bench: ## measure, COUNT=1000000 steps each, or with COUNT=worst count the instructions of the worst single calls
 	tools/bench $(COUNT)
 
@@ -63,4 +66,4 @@ deb: dist ## make a Debian package of the same files, out/dist/nvmearb_VERSION_a
 help: ## list these
 	@awk -F ': [a-z ]*## ' '/^[a-z]+: .*## / { printf "make %-9s %s\n", $$1, $$2 }' $(MAKEFILE_LIST)
 
-.PHONY: all demo check prove test bench install uninstall dist deb help
+.PHONY: all demo check prove test docs bench install uninstall dist deb help

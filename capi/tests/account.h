@@ -1,7 +1,7 @@
 /*
  * An account of a controller, for the test of hostile.c: its queues and commands in plain lists, and what an admin
- * command is answered with. The rules are those of the specification, read a second time (docs/FORMATS.md, "Admin
- * checks").
+ * command is answered with. The rules are those of the specification, read a second time (docs/KEYS.md, "Checks
+ * of admin commands").
  */
 #ifndef ACCOUNT_H
 #define ACCOUNT_H
