@@ -9,8 +9,8 @@ import subprocess
 import sys
 import tempfile
 
+from cases import TOP
 from qtest import ABORT, CREATE_CQ, CREATE_SQ, DELETE_CQ, DELETE_SQ, Driver
-from rows import TOP
 
 # How long a read takes in `delfly`, in nanoseconds: longer than the driver takes to delete the queue.
 LATENCY = 1_000_000_000

@@ -1,0 +1,308 @@
+# SPDX-License-Identifier: MIT
+"""A second reading of the definitions of `nvme_audit`, which looks back over the whole log at each event."""
+import functools
+import struct
+
+CREATES, DELETES = {1: "sq", 5: "cq"}, {0: "sq", 4: "cq"}
+TURNS, SET_FEATURES, NUMBER_OF_QUEUES = CREATES | DELETES, 9, 7
+# The command specific statuses of an opcode, below those of the vendor.
+SPECIFIC, VENDOR = {0: {1}, 1: {0, 1, 2}, 4: {1, 0x0C}, 5: {1, 2, 8}, 8: {3}}, 0xC0
+ABORT = 8
+SUCCESS, ABORTED, ABORTED_BY_DELETION, BAD_CQ, BAD_IDENTIFIER, BAD_DELETION = 0, 0x07, 0x08, 0x100, 0x101, 0x10C
+
+
+def completion_of(line):
+    """SQID, CID, SQHD, the phase tag, SCT and SC as 100h * SCT + SC, and Dword 0, from the entry or from fields."""
+    if "cqe" in line:
+        dw0, head, sq, cid, word = struct.unpack("<I4x4H", bytes.fromhex(line["cqe"]))
+        return sq, cid, head, word & 1, word >> 1 & 0x7FF, dw0
+    return line["sq"], line["cid"], line.get("sqhd"), line.get("phase"), line["status"] & 0x7FF, line.get("dw0")
+
+
+def command_of(line):
+    """CID, opcode and Command Dwords 10 and 11."""
+    if "sqe" in line:
+        entry = bytes.fromhex(line["sqe"])
+        return (struct.unpack_from("<H", entry, 2)[0], entry[0], *struct.unpack_from("<II", entry, 40))
+    return line["cid"], line["op"], line.get("cdw10", 0), line.get("cdw11", 0)
+
+
+def of_queue(command):
+    """The queue that a command creates or deletes, if any. A command is its opcode and Command Dwords 10 and 11."""
+    return (TURNS[command[0]], command[1] & 0xFFFF) if command[0] in TURNS else None
+
+
+class Log:
+    """A log, and what its first n events say. An event is its kind, its queue, its slot and the rest."""
+
+    def __init__(self, lines):
+        head, self.events, self.lines = lines[0], [], []
+        self.tells, self.sizes = set(head["tells"]), {"sq": head["asq"], "cq": head["acq"]}
+        told = "post" if "post" in self.tells else "complete"
+        for number, line in enumerate(lines[1:], 2):
+            kind = next(iter(line))
+            if kind in ("tail", "head"):
+                self.add(number, kind, line[kind], line["slot"], None)
+            elif kind == "fetch":
+                self.add(number, kind, line[kind], line.get("slot"), command_of(line))
+            elif kind == told:
+                self.add(number, "post", line[kind], line.get("slot"), completion_of(line))
+
+    def add(self, number, *event):
+        self.lines.append(number)
+        self.events.append(event)
+
+    @functools.cache
+    def outstanding(self, n, queue, cid):
+        """The outstanding command of a name after n events: its index, or None."""
+        for i in reversed(range(n)):
+            kind, of, _, rest = self.events[i]
+            if kind == "fetch" and (of, rest[0]) == (queue, cid):
+                return i
+            if kind == "post" and (self.turned(i) == ("sq", queue) or rest[:2] == (queue, cid)):
+                return None
+        return None
+
+    @functools.cache
+    def ended(self, i):
+        """The admin command that succeeds by the completion with index i, as its opcode and two dwords, or None."""
+        sq, cid, _, _, status, _ = self.events[i][3]
+        fetched = self.outstanding(i, 0, cid) if sq == 0 and status == SUCCESS else None
+        return None if fetched is None else self.events[fetched][3][1:]
+
+    def turned(self, i):
+        """Which queue it opens or closes, if any."""
+        ended = self.ended(i)
+        return ended and of_queue(ended)
+
+    def since(self, n, kind, queue):
+        """The index of the first event after the queue was opened or closed last; its slots, 0 where it is closed; its CQID."""
+        for i in reversed(range(n)):
+            if self.events[i][0] == "post" and self.turned(i) == (kind, queue):
+                opcode, low, high = self.ended(i)
+                return (i + 1, (low >> 16) + 1, high >> 16) if opcode in CREATES else (i + 1, 0, None)
+        return (0, self.sizes[kind], 0) if queue == 0 else (0, 0, None)
+
+    def named(self, n, kind, queue):
+        """The indices of the events of a kind that name a queue, since it was opened."""
+        side = "sq" if kind in ("tail", "fetch") else "cq"
+        return [i for i in range(self.since(n, side, queue)[0], n) if self.events[i][:2] == (kind, queue)]
+
+    def told(self, n, kind, queue):
+        """How far the doorbell of a queue came: each write names the next number that stands for its slot."""
+        slots, far = self.since(n, "sq" if kind == "tail" else "cq", queue)[1], 0
+        for i in self.named(n, kind, queue):
+            far += (self.events[i][2] - far) % slots
+        return far
+
+    def was_deleted(self, n, queue):
+        return any(
+            e[0] == "post" and self.turned(i) == ("sq", queue) and self.ended(i)[0] in DELETES for i, e in enumerate(
+                self.events[:n]
+            )
+        )
+
+    @functools.cache
+    def breach(self, n):
+        """The rule that the host breaks at event n, whatever it broke before."""
+        kind, queue, slot, rest = self.events[n]
+        if kind == "fetch" and self.outstanding(n, queue, rest[0]) is not None:
+            return "cid-reused"
+        if kind not in ("tail", "head"):
+            return None
+        slots = self.since(n, "sq" if kind == "tail" else "cq", queue)[1]
+        if slot >= slots:
+            return f"{kind}-range"
+        far = self.told(n + 1, kind, queue)
+        if kind == "tail" and far - len(self.named(n, "fetch", queue)) >= slots:
+            return "tail-full"
+        if kind == "head" and far > len(self.named(n, "post", queue)):
+            return "head-range"
+        return None
+
+    def is_excused(self, n, side, queue):
+        """Whether the host broke a rule of a queue since that was opened."""
+        kinds = ("tail", "fetch") if side == "sq" else ("head",)
+        return any(
+            self.events[i][0] in kinds and self.events[i][1] == queue and self.breach(i) for i in range(
+                self.since(n, side, queue)[0], n
+            )
+        )
+
+    def verdict(self, n):
+        """Who breaks which rule at event n."""
+        kind, queue, slot, rest = self.events[n]
+        side = "sq" if kind in ("tail", "fetch") else "cq"
+        if self.is_excused(n, side, queue):
+            return None
+        if kind in ("tail", "head"):
+            rule = self.breach(n)
+            return rule and ("host", rule)
+        rule = self.of_fetch(n, queue, slot) if kind == "fetch" else self.of_slot(n, queue, slot, rest) or self.of_name(
+            n, queue, rest
+        ) or self.of_status(n, rest)
+        if rule:
+            return "controller", rule
+        return ("host", self.breach(n)) if self.breach(n) else None
+
+    def of_fetch(self, n, queue, slot):
+        slots, fetched = self.since(n, "sq", queue)[1], len(self.named(n, "fetch", queue))
+        if not slots:
+            return "fetch-closed"
+        if "tail" in self.tells and fetched >= self.told(n, "tail", queue):
+            return "fetch-beyond-tail"
+        return None if slot in (None, fetched % slots) else "fetch-slot"
+
+    def of_slot(self, n, queue, slot, rest):
+        slots, posted = self.since(n, "cq", queue)[1], len(self.named(n, "post", queue))
+        if not slots:
+            return "post-closed"
+        if slot not in (None, posted % slots):
+            return "slot"
+        if rest[3] not in (None, 1 - posted // slots % 2):
+            return "phase"
+        full = "head" in self.tells and posted + 1 - self.told(n, "head", queue) >= slots
+        return "cq-full" if full else None
+
+    def of_name(self, n, cq, rest):
+        sq, cid, head = rest[:3]
+        if self.is_excused(n, "sq", sq) or "post" not in self.tells and self.was_deleted(n, sq):
+            return None
+        _, slots, wanted = self.since(n, "sq", sq)
+        if not slots:
+            return "post-closed" if self.was_deleted(n, sq) else "life"
+        own = self.outstanding(n, sq, cid)
+        if wanted != cq or own is None:
+            return "cq-wrong" if wanted != cq else "life"
+        before = [i for i in self.named(n, "fetch", sq) if i < own]
+        heads = [k % slots for k in range(len(before) + 1, len(self.named(n, "fetch", sq)) + 1)]
+        return None if head is None or head in heads else "sqhd"
+
+    @functools.cached_property
+    def commands(self):
+        """The admin commands: when each was fetched, when it was answered (or never), and the command."""
+        found = []
+        for i, (kind, queue, _, rest) in enumerate(self.events):
+            if (kind, queue) == ("fetch", 0):
+                answers = (
+                    k for k in range(i, len(self.events)) if self.events[k][0] == "post" and self.events[k][3][:2] == (0, rest[0])
+                )
+                found.append((i, next(answers, len(self.events)), rest[1:]))
+        return found
+
+    def during(self, since, n, is_one):
+        """Whether such an admin command was outstanding at some moment from event `since` to event n."""
+        return any(fetched < n and answered > since and is_one(it) for fetched, answered, it in self.commands)
+
+    def have_met(self, n):
+        """Whether two commands on one queue were outstanding at once, before event n."""
+        pairs = ((one, other) for one in self.commands for other in self.commands if one[0] < other[0] < min(one[1], n))
+        return any(of_queue(one[2]) == of_queue(other[2]) is not None for one, other in pairs)
+
+    def numbers(self, n):
+        """What the first Set Features of Number of Queues was answered before event n."""
+        good = [i for i in range(n) if self.events[i][0] == "post" and self.ended(i) and self.events[i][3][5] is not None]
+        set_by = ((self.ended(i), self.events[i][3][5]) for i in good)
+        return next((dw0 for it, dw0 in set_by if it[0] == SET_FEATURES and it[1] & 0xFF == NUMBER_OF_QUEUES), None)
+
+    def has_stirred(self, since, n, queue):
+        """Whether between two events a command of a submission queue was aborted, or the queue was opened or closed."""
+        posts = ((i, self.events[i][3]) for i in range(since, n) if self.events[i][0] == "post")
+        return any((rest[0], rest[4]) == (queue, ABORTED) or self.turned(i) == ("sq", queue) for i, rest in posts)
+
+    def says_aborted(self, n, fetched, command):
+        """Whether completion n of an Abort says that a command was aborted, where none of its queue was since the fetch."""
+        status, dw0 = self.events[n][3][4:]
+        return status == SUCCESS and dw0 is not None and dw0 % 2 == 0 and not self.has_stirred(fetched, n, command[1] & 0xFFFF)
+
+    def of_abort(self, n, queue, cid, status):
+        """The rule on Aborts that the status of completion n breaks, of the command with this name."""
+        own = self.outstanding(n, queue, cid)
+        if own is None:
+            return None
+        aborts = [it for it in self.commands if it[0] < n and it[2][0] == ABORT]
+        mine = [it for it in aborts if it[2][1] == cid << 16 | queue and it[0] >= own]
+        if status == ABORTED and not mine and not any(fetched < own < answered for fetched, answered, _ in aborts):
+            return "abort-unasked"
+        owed = any(own < it[1] < n and it[2][1] == cid << 16 | queue and self.says_aborted(it[1], it[0], it[2]) for it in aborts)
+        if owed and status != ABORTED:
+            return "abort-untrue"
+        command = self.events[own][3][1:]
+        if queue != 0 or command[0] != ABORT or not self.says_aborted(n, own, command):
+            return None
+        sq, cid = command[1] & 0xFFFF, command[1] >> 16
+        is_judged = self.outstanding(n, sq, cid) is None and not self.is_excused(n, "sq", sq) and (
+            "post" in self.tells or not self.was_deleted(n, sq)
+        )
+        return "abort-untrue" if is_judged else None
+
+    def is_open(self, n, side, queue):
+        return self.since(n, side, queue)[1] > 0
+
+    def is_attached(self, n, cq):
+        """Whether an I/O submission queue is on a completion queue."""
+        made = {it[1] & 0xFFFF for _, _, it in self.commands if it[0] in CREATES}
+        return any(self.is_open(n, "sq", sq) and self.since(n, "sq", sq)[2] == cq for sq in made)
+
+    def is_within(self, n, side, queue):
+        """Whether an identifier is within the numbers that were told."""
+        told = self.numbers(n)
+        return told is not None and 1 <= queue <= (told & 0xFFFF if side == "sq" else told >> 16) + 1
+
+    def of_status(self, n, rest):
+        """The rule that the status of completion n breaks."""
+        sq, cid, _, _, status, dw0 = rest
+        if self.is_excused(n, "sq", sq) or "post" not in self.tells and self.was_deleted(n, sq):
+            return None
+        if status == ABORTED_BY_DELETION and not self.during(-1, n, lambda it: (it[0], it[1] & 0xFFFF) == (0, sq)):
+            return "sqdel-unasked"
+        broken = self.of_abort(n, sq, cid, status)
+        if broken:
+            return broken
+        own = self.outstanding(n, 0, cid) if sq == 0 else None
+        if own is None:
+            return None
+        command = self.events[own][3][1:]
+        if status >> 8 == 1 and status & 0xFF < VENDOR and status & 0xFF not in SPECIFIC.get(command[0], {status & 0xFF}):
+            return "status-foreign"
+        if command[0] in TURNS and not self.have_met(n) and self.is_untrue(n, own, command, status):
+            return "status-create" if command[0] in CREATES else "status-delete"
+        return "features" if self.is_impossible(n, own, command, status, dw0) else None
+
+    def is_untrue(self, n, fetched, command, status):
+        """Whether the status of a Create or a Delete is true of no moment from its fetch to completion n."""
+        (side, queue), low, high = of_queue(command), command[1] >> 16, command[2] >> 16
+        is_open = self.is_open(n, side, queue)
+        if command[0] in DELETES:
+            if status == SUCCESS and (queue == 0 or not is_open) or status == BAD_IDENTIFIER and queue and is_open:
+                return True
+            if side == "sq" or self.during(fetched, n, lambda it: TURNS.get(it[0]) == "sq"):
+                return False
+            return status == (SUCCESS if self.is_attached(n, queue) else BAD_DELETION) and queue != 0
+        if status == SUCCESS and (queue == 0 or is_open or low == 0):
+            return True
+        if status == BAD_IDENTIFIER:
+            return not is_open and self.is_within(n, side, queue) and (side == "cq" or self.is_within(n, "cq", high))
+        if side == "cq" or self.during(fetched, n, lambda it: of_queue(it) == ("cq", high)):
+            return False
+        return status == BAD_CQ and high != 0 if self.is_open(n, "cq", high) else status == SUCCESS
+
+    def is_impossible(self, n, fetched, command, status, dw0):
+        """Whether a Set Features of Number of Queues can't succeed with this Dword 0."""
+        if status != SUCCESS or command[0] != SET_FEATURES or command[1] & 0xFF != NUMBER_OF_QUEUES:
+            return False
+        if any(self.events[i][0] == "post" and (self.ended(i) or [None])[0] in CREATES for i in range(fetched)):
+            return True
+        told = self.numbers(n)
+        return dw0 is not None and (0xFFFF in (dw0 & 0xFFFF, dw0 >> 16) if told is None else dw0 != told)
+
+    def breaches(self):
+        """The lines of what is broken, up to the controller's first."""
+        found = []
+        for n in range(len(self.events)):
+            broken = self.verdict(n)
+            if broken:
+                found.append((self.lines[n], *broken))
+            if broken and broken[0] == "controller":
+                break
+        return found
