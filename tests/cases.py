@@ -32,6 +32,8 @@ atexit.register(shutil.rmtree, FOLDER, ignore_errors=True)
 LONGEST = 120
 # What ends the version of a program of which nothing is proved.
 UNPROVED = "-unproved"
+# Why tests were left out. These count nothing.
+LEFT_OUT = []
 
 # What a run leaves.
 Left = namedtuple("Left", "status output errors")
@@ -176,21 +178,23 @@ class Runner(unittest.TextTestRunner):
 def main(options=sys.argv[1 + len(WORDS) :]):
     """Runs the tests of the file that is executed, with these options of unittest, and ends with their counts."""
     ended = unittest.main(argv=[NAME, *options], testRunner=Runner, verbosity=0, exit=False).result
-    failed, skipped = len(ended.failures) + len(ended.errors), len(ended.skipped)
+    failed, skipped = len(ended.failures) + len(ended.errors), sum(why not in LEFT_OUT for _, why in ended.skipped)
     print(f"{ended.passed} passed, {failed} failed" + (f", {skipped} skipped" if skipped else ""), flush=True)
     sys.exit(failed != 0)
 
 
 def leave_out(why):
-    """Skips a test, or all of a class in its setUpClass, in the form by which the gate collects what wasn't run."""
+    """Leaves out a test, or all of a class in its setUpClass, in the form by which the gate collects what wasn't run."""
     left_out(NAME, why)
+    LEFT_OUT.append(why)
     raise unittest.SkipTest(why)
 
 
 def need(needs, what=""):
     """Skips so where these commands, each with the package that has it, can't be had. `what` names a part of the tests."""
     if not are_there(NAME + (f": {what}" if what else ""), needs):
-        raise unittest.SkipTest(f"there is not all of {', '.join(needs)}")
+        LEFT_OUT.append(f"there is not all of {', '.join(needs)}")
+        raise unittest.SkipTest(LEFT_OUT[-1])
 
 
 @functools.cache
