@@ -19,7 +19,8 @@ _nvmearb() {
             -o | --output | --log | --trace | --chart) files=any ;;
             --class) words="urgent high medium low" ;;
             --observer) words="bus host" ;;
-            --only | --without) words="fetch-closed fetch-beyond-tail fetch-slot post-closed slot phase cq-full cq-wrong life sqhd sqdel-unasked abort-unasked abort-untrue status-foreign status-create status-delete features" ;;
+            --without) words="fetch-beyond-tail fetch-slot slot phase cq-full sqhd" ;;
+            --only) words="fetch-closed fetch-beyond-tail fetch-slot post-closed slot phase cq-full cq-wrong life sqhd sqdel-unasked abort-unasked abort-untrue status-foreign status-create status-delete features" ;;
             --burst) words="1 2 4 8 16 32 64 none" ;;
             --blocks | --from | --to | --weights | --window | --seed | --commands | --time | --warm-up | --load | --sweep | --seeds | --jobs) return ;;
             *)
