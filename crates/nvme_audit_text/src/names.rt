@@ -1,5 +1,6 @@
 // The names of rules, and the sections of the Base Specification that they come from.
-ghost use Rattle.std.specs.Prelude.{◌≡◌, IfSome};
+ghost use Rattle.std.specs.Prelude.{◌≡◌, ◌≢◌, None, IfSome};
+ghost use Rattle.std.specs.List.{All};
 ghost use Rattle.nvme_audit_text.specs.Names.{rule_text, all_rules, breach_text};
 
 use nvme_audit::{Breach, Rule};
@@ -53,8 +54,14 @@ pub fn rule_name(rule: Rule) -> &'static str
 /// The rule for the controller with this name.
 pub fn rule_named(name: &str) -> Option<Rule>
     ensures some { IfSome result (λ rule. rule_text rule ≡ name.now) }
+    ensures none { result ≡ None → All (λ rule. rule_text rule ≢ name.now) all_rules }
 {
-    RULES.iter().copied().find(|rule| rule_name(*rule) == name)
+    for rule in RULES {
+        if rule_name(*rule) == name {
+            return Some(*rule);
+        }
+    }
+    None
 }
 
 /// The rules for the controller.
