@@ -28,10 +28,10 @@ Input:
                   stats, chart and audit read standard input
   run, trace, lint, expand
                   a workload file: TOML, at most 16777216 bytes
-  simulate, lint  a simulation file: TOML, with the tables simulation and device
+  simulate, lint  a simulation file: TOML, with a table device
   check, stats, chart
                   a trace: JSON, a line of at most 4096 bytes for each event
-  audit           a log of a controller: JSON lines as well
+  audit           a log of a controller: JSON, a line of at most 4096 bytes for each event
   settings        none
   once            a submission entry: 128 hexadecimal digits
   loaded, live    a workload file as expand writes it, from standard input
@@ -53,7 +53,8 @@ Exit status:
   1  the input is at fault; with check also: a pick is another one; with audit also:
      the controller breaks a rule
   2  the command line is at fault
-  3  the run is: a file, a read or a write failed, memory was refused, or not all was done
+  3  the run failed: a file wasn't opened, read or written, memory was refused, or not all
+     was done
   4  with lint: the file is lawful, and there are warnings; with audit: only the host
      breaks rules
   141  nobody reads the output any more, as after | head; nothing is told
@@ -177,7 +178,7 @@ fn reported_command<'a>(alloc: Global) -> Result<Command<'a>, AllocError>
         .long("summary")
         .help("Print settings, picks and shares of queues, and completions by status alone")
         .action(ArgAction::SetTrue);
-    let format = "text or json; without it text";
+    let format = "How the report is written: text or json; without it text";
     let about = "Runs the workload of a file, and prints its report";
     run_command(alloc, "run", about)?
         .arg(summary)?
@@ -262,7 +263,7 @@ fn check_command<'a>(alloc: Global) -> Result<Command<'a>, AllocError>
         .long("spec")
         .help("Judge by what the NVM Express Base Specification alone asks of a pick")
         .action(ArgAction::SetTrue);
-    let format = "text, json or junit; without it text";
+    let format = "How the answer is written: text, json or junit; without it text";
     let about =
         "Tells whether each pick of a trace, or of several, is the one that this front makes";
     trace_command(alloc, "check", about)?
@@ -352,8 +353,8 @@ fn audit_command<'a>(alloc: Global) -> Result<Command<'a>, AllocError>
 {
     let observer = "Judge as if only that were told: bus or host";
     let only = "Judge by these rules, and by those on which all others rest, alone";
-    let without = "Judge without these rules";
-    let format = "text, json or junit; without it text";
+    let without = "Judge without these: fetch-beyond-tail, fetch-slot, slot, phase, cq-full, sqhd";
+    let format = "How the answer is written: text, json or junit; without it text";
     let help = "The log; standard input where it is - or is left out";
     Command::new(alloc, "audit")
         .about("Tells whether a controller keeps the rules of NVM Express in a log, or in several")
@@ -468,7 +469,8 @@ fn no_head_arg<'a>(alloc: Global) -> Arg<'a>
 fn swept_command<'a>(alloc: Global) -> Result<Command<'a>, AllocError>
     ensures { IfOk result (HasApp swept) }
 {
-    let class = "The class whose latencies the picture of a sweep shows";
+    let class =
+        "The class whose latencies the picture of a sweep shows: urgent, high, medium or low";
     bounded_command(alloc)?
         .arg(sweep_arg(alloc))?
         .arg(seeds_arg(alloc))?
@@ -519,7 +521,7 @@ fn with_input<'a>(alloc: Global, program: Command<'a>) -> Result<Command<'a>, Al
     ensures { (app : App) → HasApp app program.entry → IfOk result (HasApp (with_input app)) }
 {
     let loaded = "Runs a workload of standard input, in the form that expand writes, as run does";
-    let live = "The same, as run --live does";
+    let live = "Runs a workload of standard input, in that form, as run --live does";
     let program = with(Ok(program), once_command(alloc));
     let program = with(program, mode_command(alloc, "loaded", loaded));
     with(program, mode_command(alloc, "live", live))

@@ -22,14 +22,38 @@ const RUN: u8 = 3;
 
 const HOST: u8 = 4;
 
+// An option that names rules.
+#[derive(Clone, Copy)]
+enum Choice {
+    Only,
+    Without,
+}
+
+impl Choice {
+    // Its word on the command line.
+    fn word(self) -> &'static str {
+        match self {
+            Choice::Only => "--only",
+            Choice::Without => "--without",
+        }
+    }
+
+    // Whether it may name a rule. Those that are always judged can't be left out.
+    fn may_name(self, rule: Rule) -> bool {
+        let mut without = View::whole();
+        without.leave_out(rule);
+        matches!(self, Choice::Only) || without != View::whole()
+    }
+}
+
 // Whether a rule is among these names.
 fn is_among(rule: Rule, names: &str) -> bool {
     names.split(',').any(|name| rule_named(name) == Some(rule))
 }
 
-// The first name that no rule has.
-fn unknown_in(names: &str) -> Option<&str> {
-    names.split(',').find(|name| rule_named(name).is_none())
+// The first of these names that is none of a rule which the option may name.
+fn unfit_in(choice: Choice, names: &str) -> Option<&str> {
+    names.split(',').find(|name| !rule_named(name).is_some_and(|rule| choice.may_name(rule)))
 }
 
 // Writes that an option has another value. The answer is the exit status.
@@ -40,16 +64,30 @@ fn unfit<E: Write>(option: &str, value: &str, wanted: &str, errors: &mut E) -> u
     BAD_LINE
 }
 
-// Writes that a name is that of no rule. The answer is the exit status.
-fn no_rule<E: Write>(option: &str, name: &str, errors: &mut E) -> u8
+// Writes the name of a rule behind this text, where an option may name it. The answer stands before the next name.
+fn put_rule<E: Write>(
+    choice: Choice,
+    rule: Rule,
+    before: &'static str,
+    errors: &mut E,
+) -> &'static str {
+    if !choice.may_name(rule) {
+        return before;
+    }
+    let name = rule_name(rule);
+    let _ = write!(errors, "{before}{name}");
+    ", "
+}
+
+// Writes that a name is that of no rule which an option may name. The answer is the exit status.
+fn no_rule<E: Write>(choice: Choice, name: &str, errors: &mut E) -> u8
     ensures { result ≤ 4 }
 {
+    let option = choice.word();
     let _ = write!(errors, "nvmearb: {option} {name:?}: expected rules of");
     let mut before = " ";
     for rule in rules() {
-        let name = rule_name(*rule);
-        let _ = write!(errors, "{before}{name}");
-        before = ", ";
+        before = put_rule(choice, *rule, before, errors);
     }
     let _ = writeln!(errors);
     BAD_LINE
@@ -65,11 +103,11 @@ fn view_of<E: Write>(line: &AuditWords, errors: &mut E) -> Result<View, u8>
         Some("host") => View::of(Observer::Host),
         Some(other) => return Err(unfit("--observer", other, "bus or host", errors)),
     };
-    for (option, names) in [("--only", line.only), ("--without", line.without)] {
+    for (choice, names) in [(Choice::Only, line.only), (Choice::Without, line.without)] {
         if let Some(names) = names
-            && let Some(name) = unknown_in(names)
+            && let Some(name) = unfit_in(choice, names)
         {
-            return Err(no_rule(option, name, errors));
+            return Err(no_rule(choice, name, errors));
         }
     }
     for rule in rules() {
