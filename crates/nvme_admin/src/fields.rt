@@ -1,4 +1,4 @@
-mod checks;
+mod conditions;
 mod create;
 mod delete;
 mod features;
@@ -9,7 +9,7 @@ use crate::layout::{Allotted, CqPlace, Flag, Regions, SettingsWord, SqPlace};
 use crate::limits::Limits;
 use crate::region::{AdminError, Region};
 use crate::verdict::{SqEntry, Verdict};
-use checks::is_address;
+use conditions::is_address;
 use nvme_arbiter::{Class, Settings};
 use nvme_entry::{AdminCommand, Sqe, Status, admin_of};
 

@@ -19,7 +19,7 @@ use crate::head::Head;
 use crate::notes::{event_note, head_note};
 use crate::views::View;
 use nvme_audit::{AuditError, Event, Judge, Start, Verdict};
-use nvme_lines::{NextError, ToldLines};
+use nvme_lines::{NextError, NumberedLines};
 use std::alloc::Global;
 use std::io::Read;
 
@@ -195,7 +195,7 @@ fn stopped(alloc: Global, number: u64, error: NextError) -> LogError
 
 // Reads the next line that isn't blank. The answer is false at the end of the text.
 #[tactic(auto, using(crate::proofs::LineLemmas::stopped_head, crate::proofs::LineLemmas::stopped_event))]
-fn told_line<R: Read>(alloc: Global, lines: &mut ToldLines<R>) -> Result<bool, LogError>
+fn told_line<R: Read>(alloc: Global, lines: &mut NumberedLines<R>) -> Result<bool, LogError>
     ensures ok { IfOk result (λ more. MatchTold more lines.new.latest lines.old.number lines.old.rest lines.new.number lines.new.rest) }
     ensures short { OnOk result (length lines.new.latest ≤ longest_line) }
     ensures head { (view : View) → IfErr result (λ e. IsHeadFault view e lines.old.number lines.old.rest) }
@@ -209,7 +209,7 @@ fn told_line<R: Read>(alloc: Global, lines: &mut ToldLines<R>) -> Result<bool, L
 
 // The fault of the latest line, which is no head, with its note.
 #[tactic(auto, using(crate::proofs::LineLemmas::head_fails))]
-fn head_fault<R: Read>(alloc: Global, lines: &ToldLines<R>, fault: LineFault) -> LogError
+fn head_fault<R: Read>(alloc: Global, lines: &NumberedLines<R>, fault: LineFault) -> LogError
     ensures { (view : View) (rest : Option (List ℕ)) (m : ℕ) → TakesTold (λ l. l ≡ lines.now.latest) m rest lines.now.number lines.now.rest → Fails fault (head_of_line view lines.now.latest) → IsHeadFault view result m rest }
 {
     match head_note(alloc, lines.latest(), fault) {
@@ -220,7 +220,7 @@ fn head_fault<R: Read>(alloc: Global, lines: &ToldLines<R>, fault: LineFault) ->
 
 // The fault of the latest line, which tells nothing, with its note.
 #[tactic(auto, using(crate::proofs::LineLemmas::event_fails))]
-fn event_fault<R: Read>(alloc: Global, lines: &ToldLines<R>, fault: LineFault) -> LogError
+fn event_fault<R: Read>(alloc: Global, lines: &NumberedLines<R>, fault: LineFault) -> LogError
     ensures { (view : View) (head : Head) (rest : Option (List ℕ)) (m : ℕ) → TakesTold (λ l. l ≡ lines.now.latest) m rest lines.now.number lines.now.rest → Fails fault (event_of_line view head lines.now.latest) → IsEventFault view head result m rest }
 {
     match event_note(alloc, lines.latest(), fault) {
@@ -244,7 +244,7 @@ fn no_head(alloc: Global) -> LogError
 fn head_in_text<R: Read>(
     alloc: Global,
     through: &View,
-    lines: &mut ToldLines<R>,
+    lines: &mut NumberedLines<R>,
 ) -> Result<Head, LogError>
     requires { lines.old.number ≡ 0 }
     ensures ok { IfOk result (λ head. TakesTold (λ line. head_of_line through.now line ≡ Ok head) 0 lines.old.rest lines.new.number lines.new.rest) }
@@ -264,7 +264,7 @@ fn said_next<R: Read>(
     alloc: Global,
     through: &View,
     head: &Head,
-    lines: &mut ToldLines<R>,
+    lines: &mut NumberedLines<R>,
 ) -> Result<Option<Option<Event>>, LogError>
     ensures ok { IfOk result (λ o. MatchOption o (HasNoTold lines.old.number lines.old.rest × AreInAll lines.old.number lines.old.rest lines.new.number) (λ said. TakesTold (λ line. event_of_line through.now head.now line ≡ Ok said) lines.old.number lines.old.rest lines.new.number lines.new.rest)) }
     ensures err { IfErr result (λ e. IsEventFault through.now head.now e lines.old.number lines.old.rest) }
@@ -289,7 +289,7 @@ pub fn audit_log<R: Read + Drop>(
     ensures answer { IfOk result (λ audit. IfSome (R.remaining reader) (λ text. IsAudit through.now text audit)) }
     ensures fault { IfErr result (λ e. IfSome (R.remaining reader) (λ text. IsFault through.now text e)) }
 {
-    let mut lines = ToldLines::new(alloc, reader);
+    let mut lines = NumberedLines::new(alloc, reader);
     match head_in_text(alloc, through, &mut lines) {
         Ok(head) => audited(alloc, through, &head, &mut lines),
         Err(error) => Err(error),
@@ -301,7 +301,7 @@ fn audited<R: Read>(
     alloc: Global,
     through: &View,
     head: &Head,
-    lines: &mut ToldLines<R>,
+    lines: &mut NumberedLines<R>,
 ) -> Result<Audit, LogError>
     ensures answer { IfOk result (λ audit. (text : List ℕ) → TakesTold (λ line. head_of_line through.now line ≡ Ok head.now) 0 (Some text) lines.old.number lines.old.rest → IsAudit through.now text audit) }
     ensures fault { IfErr result (λ e. (text : List ℕ) → TakesTold (λ line. head_of_line through.now line ≡ Ok head.now) 0 (Some text) lines.old.number lines.old.rest → IsFault through.now text e) }

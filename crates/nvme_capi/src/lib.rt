@@ -8,7 +8,7 @@ mod admin;
 mod answers;
 mod arbiter;
 mod board;
-mod checks;
+mod io_status;
 mod ctrl;
 mod entries;
 mod fields;

@@ -2,7 +2,7 @@
 #![tactic(auto)]
 
 mod lines;
-mod told;
+mod numbered;
 
 pub use lines::NextError;
-pub use told::ToldLines;
+pub use numbered::NumberedLines;

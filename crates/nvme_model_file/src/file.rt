@@ -3,7 +3,7 @@ ghost use Rattle.std.specs.Prelude.{◌≡◌, IfOk};
 ghost use Rattle.nvme_model_file.specs.Documents.{SaysIn, is_simulation_text};
 
 use crate::fault::ModelFault;
-use crate::told::{bad_bytes, bad_text, fault_in};
+use crate::faults::{bad_bytes, bad_text, fault_in};
 use nvme_model::Model;
 use nvme_model_form::{Source, is_simulation, model_of, sources_of};
 use nvme_workload::{DocumentError, document};

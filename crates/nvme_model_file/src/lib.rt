@@ -3,7 +3,7 @@
 
 mod fault;
 mod file;
-mod told;
+mod faults;
 
 pub use fault::{Flaw, ModelFault, Told};
 pub use file::{model_in, simulation_in, sources_in};

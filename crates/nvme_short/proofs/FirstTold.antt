@@ -6,7 +6,7 @@ use Rattle.nvme_short_form.specs.declared.error.ShortError.{ShortError}
 use Rattle.nvme_short_form.specs.declared.flaw.Flaw.{Flaw}
 use Rattle.nvme_short_form.specs.Flaws.{first_of, led_by, table_flaws}
 use Rattle.nvme_short_form.proofs.Flaws.{led}
-use Rattle.nvme_short.specs.declared.told.ShortFault.{ShortFault}
+use Rattle.nvme_short.specs.declared.short_fault.ShortFault.{ShortFault}
 use Rattle.nvme_short.specs.declared.faults.ShortFaults.{ShortFaults}
 use Rattle.nvme_short.specs.declared.faults.TheConstants.{MOST_TOLD}
 use Rattle.nvme_short.specs.Faults.{error_of, shown}

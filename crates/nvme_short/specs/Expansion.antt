@@ -17,7 +17,7 @@ use Rattle.nvme_short_form.specs.Form.{is_short, form_of}
 use Rattle.nvme_short_form.specs.Flaws.{led_by, table_flaws}
 use Rattle.nvme_short.specs.Documents.{document_of}
 use Rattle.nvme_short.specs.declared.faults.ShortFaults.{ShortFaults}
-use Rattle.nvme_short.specs.declared.told.ShortFault.{ShortFault}
+use Rattle.nvme_short.specs.declared.short_fault.ShortFault.{ShortFault}
 use Rattle.nvme_short.specs.Faults.{AreTold, shown}
 
 -- ---- the workload of a short table

@@ -3,7 +3,7 @@ use Rattle.std.specs.Prelude.{◌≡◌, ◌-◌, List, length, map, take}
 use Rattle.nvme_short_form.specs.declared.error.ShortError.{ShortError}
 use Rattle.nvme_short_form.specs.declared.error.ShortError.TheVariants.{At}
 use Rattle.nvme_short_form.specs.declared.flaw.Flaw.{Flaw}
-use Rattle.nvme_short.specs.declared.told.ShortFault.{ShortFault}
+use Rattle.nvme_short.specs.declared.short_fault.ShortFault.{ShortFault}
 use Rattle.nvme_short.specs.declared.faults.ShortFaults.{ShortFaults}
 use Rattle.nvme_short.specs.declared.faults.TheConstants.{MOST_TOLD}
 

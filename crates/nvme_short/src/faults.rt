@@ -2,7 +2,7 @@
 ghost use Rattle.std.specs.Prelude.{◌≡◌, ◌++◌, ◌∷◌, [], IfOk, OnOk, map};
 ghost use Rattle.nvme_short.specs.Faults.{AreTold, error_of, shown};
 
-use crate::told::{ShortFault, fault_in};
+use crate::short_fault::{ShortFault, fault_in};
 use nvme_short_form::Flaw;
 use std::alloc::{AllocError, Global};
 use std::fmt;

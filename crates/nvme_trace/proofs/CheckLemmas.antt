@@ -21,7 +21,7 @@ use Rattle.nvme_trace.specs.declared.fault.TraceError.{TraceError}
 use Rattle.nvme_trace.specs.declared.records.Head.{Head}
 use Rattle.nvme_trace.specs.declared.judges.Reason.{Reason}
 use Rattle.nvme_trace.specs.declared.judges.BasisJudge.{BasisJudge}
-use Rattle.nvme_trace.specs.declared.checks.Checked.{Checked}
+use Rattle.nvme_trace.specs.declared.verdicts.Checked.{Checked}
 
 -- one line more, of those before the others
 reverse_more : (line : ℕ × List ℕ) (lines rest : List (ℕ × List ℕ)) → reverse lines ++ line ∷ rest ≡ reverse (line ∷ lines) ++ rest

@@ -19,8 +19,8 @@ use Rattle.nvme_trace.specs.declared.fault.TraceError.{TraceError}
 use Rattle.nvme_trace.specs.declared.records.Head.{Head}
 use Rattle.nvme_trace.specs.declared.judges.Reason.{Reason}
 use Rattle.nvme_trace.specs.declared.judges.BasisJudge.{BasisJudge}
-use Rattle.nvme_trace.specs.declared.checks.Checked.{Checked}
-use Rattle.nvme_trace.specs.declared.checks.Checked.TheVariants.{Lawful, Refused}
+use Rattle.nvme_trace.specs.declared.verdicts.Checked.{Checked}
+use Rattle.nvme_trace.specs.declared.verdicts.Checked.TheVariants.{Lawful, Refused}
 
 -- some lines, the last one first, each behind its number, are a head and then the events of a history
 abbrev pub TellsBy : Basis → Head → History → List (ℕ × List ℕ) → Type 0

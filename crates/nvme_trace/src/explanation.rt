@@ -1,5 +1,5 @@
 // Writes the text of a check's answer.
-use crate::checks::{Checked, Refusal};
+use crate::verdicts::{Checked, Refusal};
 use crate::judge::Finding;
 use crate::judges::{Breach, Reason};
 use crate::survey::{Counts, Difference, Survey};

@@ -2,7 +2,7 @@
 #![tactic(auto)]
 
 mod basis;
-mod checks;
+mod verdicts;
 mod explanation;
 mod fault;
 mod follower;
@@ -20,7 +20,7 @@ mod taken;
 mod trace;
 
 pub use basis::Basis;
-pub use checks::{Checked, Refusal, check, check_by};
+pub use verdicts::{Checked, Refusal, check, check_by};
 pub use explanation::SettingsInWords;
 pub use fault::{Field, LineFault, TraceError};
 pub use judge::{Finding, Judge};

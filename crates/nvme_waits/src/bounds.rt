@@ -5,7 +5,7 @@ ghost use Rattle.nvme_arbiter.specs.ByClass.{of_class};
 ghost use Rattle.nvme_waits.specs.Bounds.{count_in, counts_in, is_in, time_of, unbounded};
 ghost use Rattle.nvme_waits.specs.Longest.{longest_drawn, longest_drawn_of, longest_in, longest_listed, longest_of, share_of};
 
-use crate::told::{put_key, put_table};
+use crate::texts::{put_key, put_table};
 use crate::waits::Waits;
 use nvme_arbiter::{ByClass, Class, Pick};
 use nvme_bounds::{Queues, time_behind};

@@ -3,7 +3,7 @@
 
 mod bounds;
 pub mod laws;
-mod told;
+mod texts;
 mod waits;
 
 pub use bounds::{Bound, Bounds, NoBound};

@@ -14,7 +14,7 @@
 ghost use Rattle.std.specs.Prelude.{◌≡◌, ◌≤◌, IfSome};
 
 mod auditing;
-mod checks;
+mod file_verdicts;
 mod demo;
 mod files;
 mod kept;
@@ -28,7 +28,7 @@ mod topics;
 mod watched;
 
 use auditing::audited;
-use checks::{Checks, Form, Judged, Task, asked, put_json, put_junit, put_named};
+use file_verdicts::{Checks, Form, Judged, Task, asked, put_json, put_junit, put_named};
 use files::{is_svg, not_svg, put_away};
 use kept::Kept;
 use linting::linted;

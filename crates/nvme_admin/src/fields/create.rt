@@ -2,7 +2,7 @@ ghost use Rattle.nvme_admin.specs.QueueTable.{class_of};
 ghost use Rattle.std.specs.Prelude.{◌≡◌};
 
 use super::TableFields;
-use super::checks::{free_region, is_bad_size};
+use super::conditions::{free_region, is_bad_size};
 use crate::bounds::MAX_REGIONS;
 use crate::effect::Effect;
 use crate::layout::{CqPlace, Flag, SqPlace};

@@ -1,5 +1,5 @@
 use super::TableFields;
-use super::checks::any_attached;
+use super::conditions::any_attached;
 use crate::effect::Effect;
 use crate::layout::{CqPlace, SqPlace};
 use crate::verdict::SqEntry;

@@ -1,5 +1,5 @@
 use super::TableFields;
-use super::checks::is_bad_request;
+use super::conditions::is_bad_request;
 use crate::effect::Effect;
 use crate::layout::{Allotted, Flag, SettingsWord};
 use crate::limits::Limits;

@@ -11,13 +11,13 @@ use std::marker::Model;
 /// The lines of a text that aren't blank, in turn. Contracts see the bytes that are left, where they are known, the
 /// number of lines that were read, and the latest one.
 #[derive(Drop)]
-pub struct ToldLines<R: Read> {
+pub struct NumberedLines<R: Read> {
     lines: Lines<R>,
     line: Vec<u8>,
     number: u64,
 }
 
-impl<R: Read> Model for ToldLines<R> {
+impl<R: Read> Model for NumberedLines<R> {
     ghost use Rattle.nvme_lines.specs.Lines.{ToldView, unread};
 
     ghost Value = { ToldView };
@@ -51,7 +51,7 @@ fn is_blank(line: &[u8]) -> bool
 // Reads the next line that isn't blank, after the first `number` lines, and counts the lines. The answer is false at the
 // end of the text.
 #[tactic(auto, using(crate::proofs::ToldLemmas::meets_passed))]
-fn told_after<R: Read>(
+fn line_after<R: Read>(
     number: &mut u64,
     lines: &mut Lines<R>,
     line: &mut Vec<u8>,
@@ -76,13 +76,13 @@ fn told_after<R: Read>(
     Err(NextError::Read)
 }
 
-impl<R: Read> ToldLines<R> {
+impl<R: Read> NumberedLines<R> {
     /// The lines of a text that wasn't read yet.
-    pub fn new(alloc: Global, reader: R) -> ToldLines<R>
+    pub fn new(alloc: Global, reader: R) -> NumberedLines<R>
         ensures rest { result.rest ≡ R.remaining reader }
         ensures number { result.number ≡ 0 }
     {
-        ToldLines {
+        NumberedLines {
             lines: Lines::new(reader),
             line: Vec::new(alloc),
             number: 0,
@@ -110,6 +110,6 @@ impl<R: Read> ToldLines<R> {
         ensures short { OnOk result (length self.new.latest ≤ longest_line) }
         ensures err { IfErr result (λ e. MeetsTold e self.old.number self.old.rest self.new.number) }
     {
-        told_after(&mut self.number, &mut self.lines, &mut self.line)
+        line_after(&mut self.number, &mut self.lines, &mut self.line)
     }
 }

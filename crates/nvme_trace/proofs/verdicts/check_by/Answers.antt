@@ -2,7 +2,7 @@ use Rattle.std.proofs.Common.{◌≡◌, ℕ, List, Option, Ok, subst}
 use Rattle.nvme_trace.specs.Lines.{TakesTold}
 use Rattle.nvme_trace.specs.Format.{start_of_line}
 use Rattle.nvme_trace.proofs.CheckLemmas.{all_answers, all_faults}
-use Rattle.nvme_trace.proofs.checks.check_by.Goals as goal
+use Rattle.nvme_trace.proofs.verdicts.check_by.Goals as goal
 
 pub returns-in-Ok-clause-answer : goal.returns-in-Ok-clause-answer
 returns-in-Ok-clause-answer g c =

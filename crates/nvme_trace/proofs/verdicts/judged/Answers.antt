@@ -7,7 +7,7 @@ use Rattle.nvme_trace.specs.Judged.{IsObserved, picks_of}
 use Rattle.nvme_trace.specs.Bases.{IsAllowedBy, IsReasonBy, StandsBy, picks_by}
 use Rattle.nvme_trace.proofs.JudgeLemmas.{at_none, if_none, few_picks}
 use Rattle.nvme_trace.proofs.CheckLemmas.{judged_head, judged_more, judged_all, judged_reason, judged_fault}
-use Rattle.nvme_trace.proofs.checks.judged.Goals as goal
+use Rattle.nvme_trace.proofs.verdicts.judged.Goals as goal
 
 pub loop-init : goal.loop-init
 loop-init g c =

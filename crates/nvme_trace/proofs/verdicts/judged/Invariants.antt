@@ -3,7 +3,7 @@ use Rattle.nvme_trace.specs.Lines.{TakesTold}
 use Rattle.nvme_trace.specs.Format.{start_of_line, head_of_kept}
 use Rattle.nvme_trace.specs.Bases.{picks_by}
 use Rattle.nvme_trace.specs.Checks.{JudgedUpTo}
-use Rattle.nvme_trace.proofs.checks.judged.Given as goal
+use Rattle.nvme_trace.proofs.verdicts.judged.Given as goal
 
 -- the judge stands after the lines so far
 abbrev pub invariant-loop : goal.invariant-loop

@@ -1,6 +1,6 @@
 use Rattle.std.proofs.Common.{◌≡◌}
 use Rattle.nvme_lines.specs.Lines.{unread, PassesBlank}
-use Rattle.nvme_lines.proofs.told.told_after.Given as goal
+use Rattle.nvme_lines.proofs.numbered.line_after.Given as goal
 
 -- blank lines were passed
 abbrev pub invariant-loop : goal.invariant-loop
