@@ -113,7 +113,7 @@ fn is_blank(line: &[u8]) -> bool
 
 // Reads the next line that isn't blank, after the first `number` lines, and counts the lines. The answer is false at the
 // end of the text.
-fn line_after<R: Read>(
+fn numbered_after<R: Read>(
     alloc: Global,
     number: &mut u64,
     lines: &mut Lines<R>,
@@ -205,7 +205,7 @@ impl<R: Read> Trace<R> {
         ensures fits { IfOk result CanBegin }
         ensures err { IfErr result (λ e. IsHeadFault e 0 self.old.rest) }
     {
-        if !line_after(alloc, &mut self.number, &mut self.lines, &mut self.line)? {
+        if !numbered_after(alloc, &mut self.number, &mut self.lines, &mut self.line)? {
             return Err(no_head(alloc));
         }
         match start_of_line(alloc, &self.line) {
@@ -239,7 +239,7 @@ impl<R: Read> Trace<R> {
         ensures observed { IfOk result (λ o. IfSome o (λ e. IsObserved (event_view e))) }
         ensures err { IfErr result (λ e. IsEventFaultBy basis e self.old.number self.old.rest) }
     {
-        if !line_after(alloc, &mut self.number, &mut self.lines, &mut self.line)? {
+        if !numbered_after(alloc, &mut self.number, &mut self.lines, &mut self.line)? {
             return Ok(None);
         }
         match event_of_line(alloc, basis, &self.line) {

@@ -7,10 +7,10 @@ use Rattle.nvme_trace.proofs.trace.Trace.start.Goals.{in-Ok, in-Err}
 
 pub returns-clause-err : goal.returns-clause-err
 returns-clause-err g c =
-    let line = c.line_after.new.line.items in
+    let line = c.numbered_after.new.line.items in
     let old = c.args.self.now.rest in
-    let number = c.line_after.new.number in
-    let new = unread g.R.Read.remaining c.line_after.new.lines in
+    let number = c.numbered_after.new.number in
+    let new = unread g.R.Read.remaining c.numbered_after.new.lines in
     let took : TakesTold (λ l. l ≡ line) 0 old number new = search rules in
     elim c.match-start_of_line.branch [
       | in-Ok w ↦ rw w.result-is tt

@@ -1,6 +1,6 @@
 use Rattle.std.proofs.Common.{◌≡◌}
 use Rattle.nvme_trace.specs.Lines.{unread, PassesBlank}
-use Rattle.nvme_trace.proofs.trace.line_after.Given as goal
+use Rattle.nvme_trace.proofs.trace.numbered_after.Given as goal
 
 -- blank lines were passed
 abbrev pub invariant-loop : goal.invariant-loop
