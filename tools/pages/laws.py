@@ -12,8 +12,8 @@ HEAD = """# Laws and clauses
 A law is a public function that does nothing, so that its contract says what follows from the definitions. A clause is one \
 statement of a contract, which the function ensures for all inputs that meet what it requires. `make docs` makes this page \
 from the sources: each law with its comment, and each other public function with the first sentence of its own. A clause \
-without a name stands as its text, and where that is long, as the definitions that it cites, `.. so ..`. Where there is no \
-clause, nothing is proved but what [PROVED.md](PROVED.md#where-to-begin) says of every function; that page also tells where \
+without a name stands as its text, and where that is long, as the definitions that it cites, `.. so ..`. Those of the C \
+library have name and text, for readers of its header. Where there is no clause, nothing is proved but what [PROVED.md](PROVED.md#where-to-begin) says of every function; that page also tells where \
 to begin.
 """
 CLAUSE = re.compile(r" (?=(?:requires|ensures) (?:\w+ )?\{)")
@@ -60,10 +60,13 @@ def definitions_in(text):
     return {name.split(" as ")[-1].strip() for names in found for name in names.split(",")}
 
 
-def told(clause, definitions):
-    """A clause by its name. Without one by its text, where that is long shortened to the definitions that it cites."""
+def told(clause, definitions, is_of_c):
+    """A clause by its name, of the C library with its text. Without a name by its text, where that is long shortened to the
+    definitions that it cites."""
     head, _, body = clause.partition("{")
     text = body.rstrip("; ").removesuffix("}").strip()
+    if is_of_c:
+        return f"{head.partition(' ')[2].strip()}`: `{text}".removeprefix("`: `")
     unbound = re.sub(r"\([\w ]+ : [^()]+\)", "", text)
     cited = [it for it in dict.fromkeys(re.findall(r"\w+", unbound)) if it in definitions]
     short = " .. ".join(["", *cited, ""]).strip() if len(text) > LONGEST_TEXT and cited else text
@@ -79,7 +82,10 @@ def function_at(path, lines, at, owner, definitions):
     """The function that begins at this line."""
     last = next(i for i in range(at, len(lines)) if ends(lines[i]))
     clauses = CLAUSE.split(" ".join(lines[at:last + 1]).removesuffix("{}").removesuffix("{"))[1:]
-    requires, ensures = ([told(it, definitions) for it in clauses if it.startswith(kind)] for kind in ("requires", "ensures"))
+    is_of_c = 'extern "C"' in lines[at]
+    requires, ensures = (
+        [told(it, definitions, is_of_c) for it in clauses if it.startswith(kind)] for kind in ("requires", "ensures")
+    )
     name = re.search(r"\bfn (\w+)", lines[at])[1]
     says = " ".join(reversed(comment(reversed(lines[:at]), "///")))
     return Function(owner, name, path, at + 1, says, requires, ensures, lines[last].endswith("{}") and bool(ensures))
@@ -128,6 +134,9 @@ def line_of(function):
     said = function.says if function.is_law else first_sentence(function.says)
     name = f"{function.owner}::{function.name}" if function.is_law and function.owner else function.name
     kinds = ("Requires", function.requires), ("Ensures", function.ensures)
+    if function.name.startswith("nvmearb_"):
+        return "\n  - ".join([f"- [`{name}`](../{function.path}#L{function.line}): {said}",
+                              *(f"`{it}`" for it in [*function.requires, *function.ensures])])
     clauses = [f"{kind} {', '.join(f'`{it}`' for it in names)}." for kind, names in kinds if names]
     return " ".join([f"- [`{name}`](../{function.path}#L{function.line}): {said}", *clauses])
 
