@@ -25,14 +25,14 @@ _nvmearb() {
             --blocks | --from | --to | --weights | --window | --seed | --commands | --time | --warm-up | --load | --sweep | --seeds | --jobs) return ;;
             *)
                 case ${COMP_WORDS[1]} in
-                    run) words="--live --workers --summary --format --help" files=toml ;;
+                    run) words="--live --workers --summary --format --json --help" files=toml ;;
                     trace) words="--live --workers --output --help" files=toml ;;
-                    simulate) words="--seed --commands --time --warm-up --load --sweep --seeds --jobs --points --no-head --class --format --bounds --log --trace --chart --output --help" files=toml ;;
+                    simulate) words="--seed --commands --time --warm-up --load --sweep --seeds --jobs --points --no-head --class --format --json --bounds --log --trace --chart --output --help" files=toml ;;
                     lint | expand) words="--help" files=toml ;;
-                    check) words="--spec --all --quiet --format --help" files=any ;;
-                    audit) words="--observer --only --without --quiet --format --help" files=any ;;
+                    check) words="--spec --all --quiet --format --json --help" files=any ;;
+                    audit) words="--observer --only --without --quiet --format --json --help" files=any ;;
                     chart) words="--from --to --no-admin --output --help" files=any ;;
-                    stats) words="--from --to --backlogged --window --format --help" files=any ;;
+                    stats) words="--from --to --backlogged --window --format --json --help" files=any ;;
                     loaded | live) words="--workers --help" ;;
                     once) words="--blocks --help" ;;
                     settings) words="--burst --weights --help" ;;

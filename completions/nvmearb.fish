@@ -50,6 +50,7 @@ complete -c nvmearb -n '__fish_seen_subcommand_from simulate' -l log -r -F -d 'F
 complete -c nvmearb -n '__fish_seen_subcommand_from simulate' -l trace -r -F -d 'File that gets the trace of the picks'
 complete -c nvmearb -n '__fish_seen_subcommand_from simulate' -l chart -r -F -d 'File that gets a picture of the latencies'
 complete -c nvmearb -n '__fish_seen_subcommand_from stats simulate' -l format -x -a 'text json csv' -d 'How the numbers are written'
+complete -c nvmearb -n '__fish_seen_subcommand_from run check audit stats simulate' -l json -d 'The same as --format json'
 complete -c nvmearb -n '__fish_seen_subcommand_from stats' -l backlogged -d 'Count only picks at which each I/O queue has waiting commands'
 complete -c nvmearb -n '__fish_seen_subcommand_from stats' -l window -x -d 'Tell shares by windows of so many picks'
 complete -c nvmearb -n '__fish_seen_subcommand_from stats chart' -l from -x -d 'Number of the first pick to look at'

@@ -150,7 +150,6 @@ RULES = {
 RULE = re.compile(r'"(?:nvmearb: )?(--[^"{]* (?:go|goes|want|wants) [^"{]*)"')
 # What the help doesn't tell: of all words, and of one.
 GENERAL = [
-    "`--json` stands for `--format=json`",
     "A file is made or replaced, that of `--output` once the answer is whole, and the name of a picture ends with .svg",
     "On a terminal, standard error tells how far simulate, check, stats and chart are",
 ]
@@ -294,7 +293,7 @@ def word_of(sources, text, name):
     return Word(
         name,
         says,
-        usage=usage.replace("[FILE]", "[FILE]..." if "several" in says else "[FILE]"),
+        usage=usage,
         reads="; ".join(what for words, what in listed(text, "Input") if name in words.split(", ") and what != "none"),
         terms=[*(Term([], value, ranges.get(value, ""), told) for value, told in operands), *options],
         topics=[it for it in listed(text, "First steps, without a file") if f"nvmearb {name} " in it[0]],
@@ -439,7 +438,7 @@ def synopsis(word):
     def line(it):
         if it.names:
             return f".{'Op ' * (it.names[-1] not in word.usage)}{flags(it.names[:1], it.value)}"
-        return f".{'Op ' * (f'[{it.value}]' in word.usage)}Ar {it.value}{' ...' * word.usage.endswith('...')}"
+        return f".{'Op ' * (f'[{it.value}' in word.usage)}Ar {it.value}{' ...' * (f'{it.value}..' in word.usage)}"
 
     return "\n".join([".Nm", f".Cm {word.name}", *map(line, sorted(word.terms, key=lambda it: not it.names))])
 

@@ -39,11 +39,11 @@ pub fn take_input<R: Read + Drop>(alloc: Global, reader: R) -> Result<Vec<u8>, I
     ensures too_long { IsErrOf result InputError.TooLong → IfSome (R.remaining reader) (λ rest. MAX_INPUT < length rest) }
     ensures longer { IfSome (R.remaining reader) (λ rest. MAX_INPUT < length rest → IsErrOf result InputError.TooLong ⊎ IsErrOf result InputError.Read ⊎ IsErrOf result InputError.NoMemory) }
 {
-    taken(alloc, &mut Counted::new(reader))
+    read_all(alloc, &mut Counted::new(reader))
 }
 
 // All bytes of a reader that wasn't read yet, up to its end.
-fn taken<R: Read>(alloc: Global, reader: &mut Counted<R>) -> Result<Vec<u8>, InputError>
+fn read_all<R: Read>(alloc: Global, reader: &mut Counted<R>) -> Result<Vec<u8>, InputError>
     requires reads { reader.old.reads ≡ 0 }
     requires given { reader.old.given ≡ 0 }
     requires interruptions { reader.old.interruptions ≡ 0 }

@@ -15,6 +15,11 @@ pub const MAX_JOBS: u8 = 64;
 
 const FORMATS: &[&str] = &["text", "json", "csv"];
 
+// What stands in the help for a file, and for one or several.
+const FILE: &str = "FILE";
+
+const FILES: &str = "FILE..";
+
 // The text below the help.
 const AFTER_HELP: &str = "\
 First steps, without a file:
@@ -68,6 +73,28 @@ Example:
 
 Manual pages: nvmearb(1), and nvmearb(5) for files, traces and reports";
 
+// What ends the help of a subcommand whose statuses mean more than those of the others.
+const LINT_STATUSES: &str = "\
+Exit status:
+  0  there is nothing to say
+  1  the input is at fault
+  4  the file is lawful, and there are warnings
+  2, 3 and 141 are those of nvmearb --help";
+
+const CHECK_STATUSES: &str = "\
+Exit status:
+  0  each pick is the one that this front makes, or with --spec one that the
+     specification allows
+  1  the input is at fault, or a pick is another one
+  2, 3 and 141 are those of nvmearb --help";
+
+const AUDIT_STATUSES: &str = "\
+Exit status:
+  0  nobody breaks a rule
+  1  the input is at fault, or the controller breaks a rule
+  4  only the host breaks rules
+  2, 3 and 141 are those of nvmearb --help";
+
 // An option with one value.
 fn option_arg<'a>(
     alloc: Global,
@@ -100,12 +127,12 @@ fn workers_arg<'a>(alloc: Global) -> Arg<'a>
     )
 }
 
-// The name of the input's file.
-fn file_arg<'a>(alloc: Global, help: &'a str) -> Arg<'a>
+// The name of the input's file. What stands in its place in the help is `FILES` where several may be named.
+fn file_arg<'a>(alloc: Global, value: &'a str, help: &'a str) -> Arg<'a>
     ensures { HasRule file result }
 {
     Arg::new(alloc, "file")
-        .value_name("FILE")
+        .value_name(value)
         .help(help)
         .action(ArgAction::Set)
 }
@@ -146,7 +173,7 @@ fn mode_command<'a>(alloc: Global, name: &'a str, about: &'a str) -> Result<Comm
 fn run_command<'a>(alloc: Global, name: &'a str, about: &'a str) -> Result<Command<'a>, AllocError>
     ensures { IfOk result (HasApp (run name.now)) }
 {
-    let file = file_arg(alloc, "The workload file, or - for standard input");
+    let file = file_arg(alloc, FILE, "The workload file, or - for standard input");
     let live = Arg::new(alloc, "live")
         .long("live")
         .help("Let the hosts submit while the front works")
@@ -178,7 +205,8 @@ fn reported_command<'a>(alloc: Global) -> Result<Command<'a>, AllocError>
         .long("summary")
         .help("Print settings, picks and shares of queues, and completions by status alone")
         .action(ArgAction::SetTrue);
-    let format = "How the report is written: text or json; without it text";
+    let format =
+        "How the report is written: text or json; without it text; --json stands for --format json";
     let about = "Runs the workload of a file, and prints its report";
     run_command(alloc, "run", about)?
         .arg(summary)?
@@ -199,12 +227,14 @@ fn lint_command<'a>(alloc: Global) -> Result<Command<'a>, AllocError>
 {
     let file = file_arg(
         alloc,
+        FILE,
         "The workload or simulation file, or - for standard input",
     );
     Command::new(alloc, "lint")
         .about(
             "Tells where a workload or simulation file is at fault, or what of it comes to nothing",
         )
+        .after_help(LINT_STATUSES)
         .arg(file.required(true))
 }
 
@@ -212,13 +242,13 @@ fn lint_command<'a>(alloc: Global) -> Result<Command<'a>, AllocError>
 fn expand_command<'a>(alloc: Global) -> Result<Command<'a>, AllocError>
     ensures { IfOk result (HasApp expand) }
 {
-    let file = file_arg(alloc, "The workload file, or - for standard input");
+    let file = file_arg(alloc, FILE, "The workload file, or - for standard input");
     Command::new(alloc, "expand")
         .about("Writes a short workload file out, entry by entry")
         .arg(file.required(true))
 }
 
-// A subcommand that reads a trace.
+// A subcommand that reads one trace.
 fn trace_command<'a>(
     alloc: Global,
     name: &'a str,
@@ -228,6 +258,7 @@ fn trace_command<'a>(
 {
     let file = file_arg(
         alloc,
+        FILE,
         "The trace; standard input where it is - or is left out",
     );
     Command::new(alloc, name).about(about).arg(file)
@@ -244,6 +275,10 @@ fn all_arg<'a>(alloc: Global) -> Arg<'a>
         )
         .action(ArgAction::SetTrue)
 }
+
+// How an answer on traces or logs is written.
+const VERDICT_FORMAT: &str = "\
+How the answer is written: text, json or junit; without it text; --json stands for --format json";
 
 // Whether only the status tells the answer.
 fn quiet_arg<'a>(alloc: Global) -> Arg<'a>
@@ -263,14 +298,17 @@ fn check_command<'a>(alloc: Global) -> Result<Command<'a>, AllocError>
         .long("spec")
         .help("Judge by what the NVM Express Base Specification alone asks of a pick")
         .action(ArgAction::SetTrue);
-    let format = "How the answer is written: text, json or junit; without it text";
     let about =
         "Tells whether each pick of a trace, or of several, is the one that this front makes";
-    trace_command(alloc, "check", about)?
+    let help = "A trace, or several; standard input where it is - or is left out";
+    Command::new(alloc, "check")
+        .about(about)
+        .after_help(CHECK_STATUSES)
+        .arg(file_arg(alloc, FILES, help))?
         .arg(spec)?
         .arg(all_arg(alloc))?
         .arg(quiet_arg(alloc))?
-        .arg(text_arg(alloc, "format", "FORMAT", format))
+        .arg(text_arg(alloc, "format", "FORMAT", VERDICT_FORMAT))
 }
 
 // From which pick of a trace on it is looked at.
@@ -354,23 +392,24 @@ fn audit_command<'a>(alloc: Global) -> Result<Command<'a>, AllocError>
     let observer = "Judge as if only that were told: bus or host";
     let only = "Judge by these rules, and by those on which all others rest, alone";
     let without = "Judge without these: fetch-beyond-tail, fetch-slot, slot, phase, cq-full, sqhd";
-    let format = "How the answer is written: text, json or junit; without it text";
-    let help = "The log; standard input where it is - or is left out";
+    let help = "A log, or several; standard input where it is - or is left out";
     Command::new(alloc, "audit")
         .about("Tells whether a controller keeps the rules of NVM Express in a log, or in several")
-        .arg(file_arg(alloc, help))?
+        .after_help(AUDIT_STATUSES)
+        .arg(file_arg(alloc, FILES, help))?
         .arg(text_arg(alloc, "observer", "OBSERVER", observer))?
         .arg(text_arg(alloc, "only", "RULE,..", only))?
         .arg(text_arg(alloc, "without", "RULE,..", without))?
         .arg(quiet_arg(alloc))?
-        .arg(text_arg(alloc, "format", "FORMAT", format))
+        .arg(text_arg(alloc, "format", "FORMAT", VERDICT_FORMAT))
 }
 
 // How numbers are written.
 fn format_arg<'a>(alloc: Global, formats: &'a [&'a str]) -> Arg<'a>
     ensures { HasRule (format formats.entry) result }
 {
-    let help = "Tables for people, one JSON object, or comma-separated values";
+    let help =
+        "Tables for people, one JSON object, or comma-separated values; --json stands for --format json";
     let names = ValueParser::Names(formats);
     option_arg(alloc, "format", "FORMAT", help, names).default_value("text")
 }
@@ -406,7 +445,7 @@ fn bounded_command<'a>(alloc: Global) -> Result<Command<'a>, AllocError>
     let load = "What part of what the device can do comes of open queues: their gaps are scaled";
     Command::new(alloc, "simulate")
         .about("Simulates a device and its hosts, and prints latencies, throughput and shares")
-        .arg(file_arg(alloc, help))?
+        .arg(file_arg(alloc, FILE, help))?
         .arg(number_arg(alloc, "seed", seed))?
         .arg(number_arg(alloc, "commands", commands))?
         .arg(text_arg(alloc, "time", "TIME", time))?

@@ -7,7 +7,7 @@ use Rattle.nvme_words.proofs.program.audit_command.Goals as goal
 
 pub returns : goal.returns
 returns c =
-    let start : HasApp (new_app (codes "audit")) c.about.result = search rules in
+    let start : HasApp (new_app (codes "audit")) c.after_help.result = search rules in
     let one = rule_added _ _ _ _ _ c.in_ok-arg.ensures start c.file_arg.ensures in
     let two = rule_added _ _ _ _ _ c.in_ok-arg-2.ensures one c.text_arg.ensures in
     let three = rule_added _ _ _ _ _ c.in_ok-arg-3.ensures two c.text_arg-2.ensures in

@@ -1,7 +1,7 @@
 -- What was given is what was taken, and each turn reads once.
 use Rattle.std.proofs.Common.{◌≡◌, ◌≤◌, false, length}
 use Rattle.std.specs.Io.KnownBytes.{Consumes}
-use Rattle.nvme_words.proofs.input.taken.Given as goal
+use Rattle.nvme_words.proofs.input.read_all.Given as goal
 
 abbrev pub invariant-loop : goal.invariant-loop
 invariant-loop g l = record {

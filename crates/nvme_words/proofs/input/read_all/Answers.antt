@@ -2,7 +2,7 @@
 use Rattle.std.proofs.Common.{◌≡◌, take, ap, rules, arith}
 use Rattle.std.proofs.lemmas.List.{length-take-le}
 use Rattle.nvme_words.proofs.Taking.{all_taken, first_within, taken_within}
-use Rattle.nvme_words.proofs.input.taken.Goals as goal
+use Rattle.nvme_words.proofs.input.read_all.Goals as goal
 
 pub returns-then-has_failed-clause-given : goal.returns-then-has_failed-clause-given
 returns-then-has_failed-clause-given g c =
