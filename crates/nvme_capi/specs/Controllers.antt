@@ -54,8 +54,8 @@ abbrev pub StaysMade : CtrlState → CtrlState → Type 0
 StaysMade old new = (new.mark ≡ old.mark) × (new.count ≡ old.count)
 
 -- what arbitration keeps is in its ranges, too: of any bytes a pick asks no more
-abbrev pub is_whole : CtrlState → Bool
-is_whole s = is_ctrl s && has_arbiter s.ctrl
+abbrev pub is_intact : CtrlState → Bool
+is_intact s = is_ctrl s && has_arbiter s.ctrl
 
 -- what the calls keep: with these slots a controller that was made is one that its calls made. Where the caller wrote into one of them, a call reads and
 -- writes what it is given all the same, and no more

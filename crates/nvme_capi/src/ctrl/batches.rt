@@ -15,7 +15,7 @@ use crate::results::{BAD_ARGUMENT, BAD_STATE, NOTHING, OK};
 use nvme_ctrl::{Controller, Slot};
 
 // Writes how many calls did something.
-fn told(done: usize, n: &mut usize) -> u32
+fn put_count(done: usize, n: &mut usize) -> u32
     ensures count { n.new ≡ done }
     ensures answer { (result ≡ OK) ⊎ (result ≡ NOTHING) }
     ensures some { result ≡ OK → 0 < done }
@@ -103,7 +103,7 @@ pub extern "C" fn nvmearb_ctrl_fetched_n(
     let Some(entries) = entries_of(entries, cookies.len()) else {
         return BAD_ARGUMENT;
     };
-    told(fetch_all(&mut state.ctrl, slots, qid, entries, cookies), n)
+    put_count(fetch_all(&mut state.ctrl, slots, qid, entries, cookies), n)
 }
 
 // Commands are taken until all are, or the array is full. Answers how many were.
@@ -155,7 +155,7 @@ pub extern "C" fn nvmearb_ctrl_take_n(
     if !has_slots(state, slots) {
         return BAD_ARGUMENT;
     }
-    told(take_all(&mut state.ctrl, slots, commands), n)
+    put_count(take_all(&mut state.ctrl, slots, commands), n)
 }
 
 // Completions are posted until none may be, or the array is full. Answers how many were.
@@ -211,5 +211,5 @@ pub extern "C" fn nvmearb_ctrl_post_n(
     if !has_slots(state, slots) {
         return BAD_ARGUMENT;
     }
-    told(post_all(&mut state.ctrl, slots, cqid, posts), n)
+    put_count(post_all(&mut state.ctrl, slots, cqid, posts), n)
 }

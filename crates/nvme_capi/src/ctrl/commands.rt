@@ -22,11 +22,11 @@ ghost use Rattle.nvme_ctrl.specs.declared.picks.Step.TheVariants as made;
 ghost use Rattle.nvme_capi.specs.States.{pick_of_fields};
 ghost use Rattle.nvme_capi.specs.Tables.{plain_answer};
 ghost use Rattle.nvme_capi.specs.Batches.{TakesOne, PostsOne, NoneToTake, NoneToPost, with_slots};
-ghost use Rattle.nvme_capi.specs.Controllers.{is_ctrl, is_whole, has_slots, IsKept, IsOutUnder, StaysMade, HasToldWhat, no_pick, nothing_asked, asked_in, IsCommandIn, device_answer, flags_by, IsFlaggedEntry, HasPostedBytes, IsPostIn};
+ghost use Rattle.nvme_capi.specs.Controllers.{is_ctrl, is_intact, has_slots, IsKept, IsOutUnder, StaysMade, HasToldWhat, no_pick, nothing_asked, asked_in, IsCommandIn, device_answer, flags_by, IsFlaggedEntry, HasPostedBytes, IsPostIn};
 
 use crate::answers::{answer_of, plain_answer};
 use crate::ctrl::state::{
-    AskedFields, CommandFields, CtrlState, PostFields, StepFields, has_slots, is_ctrl, is_whole,
+    AskedFields, CommandFields, CtrlState, PostFields, StepFields, has_slots, is_ctrl, is_intact,
 };
 use crate::ctrl::status_flags::{flagged, flags_by};
 use crate::fields::StatusFields;
@@ -46,15 +46,15 @@ const PASSED: u32 = 3;
 /// Writes the pick that `nvmearb_ctrl_pick` makes next of the commands that wait now. The state stays as it was.
 #[unsafe(no_mangle)]
 pub extern "C" fn nvmearb_ctrl_peek(state: &CtrlState, slots: &[Slot], pick: &mut PickFields) -> u32
-    ensures bad_state { (result ≡ BAD_STATE) ↔ IsFalse (is_whole state.now) }
-    ensures bad_argument { (result ≡ BAD_ARGUMENT) ↔ (IsTrue (is_whole state.now) × IsFalse (has_slots state.now slots.now)) }
+    ensures bad_state { (result ≡ BAD_STATE) ↔ IsFalse (is_intact state.now) }
+    ensures bad_argument { (result ≡ BAD_ARGUMENT) ↔ (IsTrue (is_intact state.now) × IsFalse (has_slots state.now slots.now)) }
     ensures answer { (result ≡ OK) ⊎ ((result ≡ NOTHING) ⊎ ((result ≡ BAD_ARGUMENT) ⊎ (result ≡ BAD_STATE))) }
     ensures nothing { (rules : FrontRules) (late : Bool) (notes : Notes) → Stands rules late notes state.now.ctrl slots.now → result ≡ NOTHING → IsNextPick rules notes None }
     ensures picked { (rules : FrontRules) (late : Bool) (notes : Notes) → Stands rules late notes state.now.ctrl slots.now → result ≡ OK → IsNextPick rules notes (Some (pick_of_fields pick.new)) }
     ensures fits { result ≡ OK → pick.new.fresh ≤ 1 }
     ensures unchanged { result ≢ OK → pick.new ≡ pick.old }
 {
-    if !is_whole(state) {
+    if !is_intact(state) {
         return BAD_STATE;
     }
     if !has_slots(state, slots) {
@@ -128,8 +128,8 @@ pub extern "C" fn nvmearb_ctrl_pick(
     ensures kept { IsKept state.old slots.old → IsKept state.new slots.new }
     ensures same { StaysMade state.old state.new }
     ensures depths { depths_of state.new.ctrl ≡ depths_of state.old.ctrl }
-    ensures bad_state { (result ≡ BAD_STATE) ↔ IsFalse (is_whole state.old) }
-    ensures bad_argument { (result ≡ BAD_ARGUMENT) ↔ (IsTrue (is_whole state.old) × IsFalse (has_slots state.old slots.old)) }
+    ensures bad_state { (result ≡ BAD_STATE) ↔ IsFalse (is_intact state.old) }
+    ensures bad_argument { (result ≡ BAD_ARGUMENT) ↔ (IsTrue (is_intact state.old) × IsFalse (has_slots state.old slots.old)) }
     ensures taken { (rules : FrontRules) (late : Bool) (notes : Notes) → Stands rules late notes state.old.ctrl slots.old → IsBusy notes → (result ≡ BUSY) ⊎ ((result ≡ BAD_ARGUMENT) ⊎ (result ≡ BAD_STATE)) }
     ensures needs_room { room ≡ 0 → result ≢ OK }
     ensures io { result ≡ OK → step.new.kind ≡ PICKED → step.new.pick.qid ≢ 0 }
@@ -149,7 +149,7 @@ pub extern "C" fn nvmearb_ctrl_pick(
     ensures answer { (result ≡ OK) ⊎ ((result ≡ NOTHING) ⊎ ((result ≡ BUSY) ⊎ ((result ≡ NOROOM) ⊎ ((result ≡ BAD_ARGUMENT) ⊎ (result ≡ BAD_STATE))))) }
     ensures unchanged { result ≢ OK → (state.new ≡ state.old) × ((slots.new ≡ slots.old) × (step.new ≡ step.old)) }
 {
-    if !is_whole(state) {
+    if !is_intact(state) {
         return BAD_STATE;
     }
     if !has_slots(state, slots) {

@@ -1,6 +1,6 @@
 // A controller of C, and what its calls are given and write.
 ghost use Rattle.std.specs.Prelude.{◌≡◌};
-ghost use Rattle.nvme_capi.specs.Controllers.{is_ctrl, is_whole, is_depth, has_slots};
+ghost use Rattle.nvme_capi.specs.Controllers.{is_ctrl, is_intact, is_depth, has_slots};
 
 use crate::answers::AnswerFields;
 use crate::states::PickFields;
@@ -113,8 +113,8 @@ pub fn is_ctrl(state: &CtrlState) -> bool
 }
 
 /// Whether a controller was made here, and what its arbitration keeps is in its ranges: all that a pick asks of it.
-pub fn is_whole(state: &CtrlState) -> bool
-    ensures { result ≡ is_whole state.now }
+pub fn is_intact(state: &CtrlState) -> bool
+    ensures { result ≡ is_intact state.now }
 {
     is_ctrl(state) && state.ctrl.has_arbiter()
 }

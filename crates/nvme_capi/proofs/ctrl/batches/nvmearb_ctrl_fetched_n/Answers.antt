@@ -7,12 +7,12 @@ use Rattle.nvme_capi.proofs.Repeats.{no_call, length_pairs}
 use Rattle.nvme_capi.proofs.ctrl.batches.nvmearb_ctrl_fetched_n.Goals as goal
 
 pub returns-clause-bad_state : goal.returns-clause-bad_state
-returns-clause-bad_state c = no_state_refused c.told.result (is_ctrl c.args.state.now) (not_told c.told.result 3 c.told.ensures.answer (omega arith)) (sym c.is_ctrl.ensures ∙ c.if-not-is_ctrl.false)
+returns-clause-bad_state c = no_state_refused c.put_count.result (is_ctrl c.args.state.now) (not_told c.put_count.result 3 c.put_count.ensures.answer (omega arith)) (sym c.is_ctrl.ensures ∙ c.if-not-is_ctrl.false)
 
 pub returns-clause-bad_argument : goal.returns-clause-bad_argument
 returns-clause-bad_argument c =
-    no_refusal c.told.result (is_ctrl c.args.state.now) (has_slots c.args.state.now c.args.slots.now) (length c.args.entries.now ≡ 64 * length c.args.cookies.now → ⊥)
-    (not_told c.told.result 2 c.told.ensures.answer (omega arith)) (sym c.has_slots.ensures ∙ c.if-not-has_slots.false) (λ other. other (c.in-Some.ensures.whole.0 refl))
+    no_refusal c.put_count.result (is_ctrl c.args.state.now) (has_slots c.args.state.now c.args.slots.now) (length c.args.entries.now ≡ 64 * length c.args.cookies.now → ⊥)
+    (not_told c.put_count.result 2 c.put_count.ensures.answer (omega arith)) (sym c.has_slots.ensures ∙ c.if-not-has_slots.false) (λ other. other (c.in-Some.ensures.whole.0 refl))
 
 pub returns-clause-few : goal.returns-clause-few
 returns-clause-few c = λ _. omega (arith, length_pairs c.in-Some.entries.now c.args.cookies.now c.in-Some.ensures.many)
@@ -22,7 +22,7 @@ returns-clause-all c = λ _ less. c.fetch_all.ensures.all (omega (arith, length_
 
 pub returns-clause-nothing : goal.returns-clause-nothing
 returns-clause-nothing c = λ nothing some.
-    let none = c.told.ensures.none (not_ok c.told.result nothing) in
+    let none = c.put_count.ensures.none (not_ok c.put_count.result nothing) in
     subst (NoneToFetch c.args.qid) (no_call (FetchesOne c.args.qid) (zip c.in-Some.entries.now c.args.cookies.now) c.fetch_all.result (with_slots c.args.state.now.ctrl c.args.slots.now) (with_slots c.fetch_all.new.ctrl c.fetch_all.new.slots) none c.fetch_all.ensures.each)
     (c.fetch_all.ensures.all (omega (arith, length_pairs c.in-Some.entries.now c.args.cookies.now c.in-Some.ensures.many)))
 

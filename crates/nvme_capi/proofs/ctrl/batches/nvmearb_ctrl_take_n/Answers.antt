@@ -9,13 +9,13 @@ returns-clause-all c = λ _ less. c.take_all.ensures.all (omega arith)
 
 pub returns-clause-nothing : goal.returns-clause-nothing
 returns-clause-nothing c = λ nothing some.
-    let none = c.told.ensures.none (not_ok c.told.result nothing) in
+    let none = c.put_count.ensures.none (not_ok c.put_count.result nothing) in
     subst NoneToTake (no_call TakesOne c.take_all.new.commands c.take_all.result (with_slots c.args.state.now.ctrl c.args.slots.now) (with_slots c.take_all.new.ctrl c.take_all.new.slots) none c.take_all.ensures.each)
     (c.take_all.ensures.all (omega arith))
 
 pub returns-clause-unchanged : goal.returns-clause-unchanged
 returns-clause-unchanged c = λ not_done.
-    let none = c.told.ensures.none not_done in
+    let none = c.put_count.ensures.none not_done in
     let same = no_call TakesOne c.take_all.new.commands c.take_all.result (with_slots c.args.state.now.ctrl c.args.slots.now) (with_slots c.take_all.new.ctrl c.take_all.new.slots) none c.take_all.ensures.each in
     ((λ i. record c.args.state.now { ctrl = (same i).ctrl }), ((λ i. (same i).slots), all_rest c.take_all.new.commands c.args.commands.now c.take_all.result none c.take_all.ensures.rest))
 
