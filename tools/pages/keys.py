@@ -95,6 +95,8 @@ CODES = ("crates/nvme_entry/specs/Status.antt", "crates/nvme_admin/specs/Placing
 WHERE = {"status_over t": "", "placing_rows_of p": ", where queues may lie anywhere", "rows_of t": ""}
 # Who has to keep rules, the enumeration of these, and the functions that tell their names and sections.
 SIDES = (("controller", "Rule", "rule_name", "section_of"), ("host", "Breach", "breach_name", "section_of_breach"))
+# Faults that only a list of requests of one's own has: those of a file are sorted.
+NEVER_OF_A_FILE = ("TooEarly",)
 # Files whose lines may be at fault.
 LINES = {
     "trace": "crates/nvme_trace/src/fault.rt",
@@ -368,7 +370,8 @@ def faults(sources):
     """The faults of lines but refused memory."""
     made = []
     for kind, path in LINES.items():
-        told = [(re.sub(r"\{\w+\}", "..", fault), says) for says, fault in variants(sources, path, "LineFault").values()]
+        found = variants(sources, path, "LineFault").items()
+        told = [(re.sub(r"\{\w+\}", "..", fault), says) for name, (says, fault) in found if name not in NEVER_OF_A_FILE]
         rows = [[code(fault), says] for fault, says in told if fault != "out of memory"]
         made.append(f"### Of a line of a {kind}\n\n{table(['Fault', 'Cause'], rows)}")
     return "".join(made)
