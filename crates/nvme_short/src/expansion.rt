@@ -114,7 +114,7 @@ fn faults_in(
 }
 
 // What is told of the faults of a short table, which was read from the bytes.
-fn untold(alloc: Global, bytes: &[u8], table: &Table, error: ShortError) -> ExpandError
+fn expand_error_of(alloc: Global, bytes: &[u8], table: &Table, error: ShortError) -> ExpandError
     requires { Fails error (plan_of_short (table_view table.now)) }
     ensures { TellsFaultsOf (table_view table.now) result }
 {
@@ -134,7 +134,7 @@ fn expanded(alloc: Global, bytes: &[u8], table: &Table) -> Result<String, Expand
 {
     match expand(alloc, table) {
         Ok(text) => Ok(text),
-        Err(error) => Err(untold(alloc, bytes, table, error)),
+        Err(error) => Err(expand_error_of(alloc, bytes, table, error)),
     }
 }
 

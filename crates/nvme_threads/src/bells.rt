@@ -128,7 +128,7 @@ impl HostBell {
     }
 
     /// The front moved so many in all: wakes the host if it waits for no more.
-    pub fn told(&self, moved: u64) {
+    pub fn wake_if_due(&self, moved: u64) {
         if moved >= self.due.load(Ordering::SeqCst) {
             self.ring();
         }

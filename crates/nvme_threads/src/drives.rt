@@ -137,7 +137,7 @@ fn prepared<G: Gate + Drop>(
 }
 
 // What is driven, of parts and gates.
-pub(crate) fn taken_apart<G: Gate + Drop>(
+pub(crate) fn driven_of<G: Gate + Drop>(
     alloc: Global,
     parts: Parts,
     gates: Vec<G>,
@@ -240,7 +240,7 @@ pub fn drive<G: Gate + Send + Drop, R: Threads + Wait + Sync>(
     ensures workers { IfOk result (λ r. AllRan (λ view ticket. G.left (G.entered view ticket) ticket) parts.workers.items gates.items r.0.workers.items r.1.items) }
     ensures fault { IfErr result (IsDriveFault parts.front) }
 {
-    let (shared, driven) = taken_apart(alloc, parts, gates)?;
+    let (shared, driven) = driven_of(alloc, parts, gates)?;
     let (driven, ended) = in_threads(rt, alloc, &shared, driven, mode, patience);
     given_back(alloc, shared, driven, ended)
 }

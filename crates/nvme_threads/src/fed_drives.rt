@@ -10,7 +10,7 @@ ghost use Rattle.nvme_threads.specs.declared.drives.DriveError.TheVariants as dr
 ghost use Rattle.nvme_threads.specs.Hosts.{feeder_seen, drainer_seen};
 ghost use Rattle.nvme_threads.specs.Runs.{AllRan};
 
-use crate::drives::{DriveError, Driven, in_threads, put_together, taken_apart};
+use crate::drives::{DriveError, Driven, in_threads, put_together, driven_of};
 use crate::hosts::Hosts;
 use nvme_front::{Parts, drop_beside};
 use nvme_lane::Mode;
@@ -61,7 +61,7 @@ pub fn drive_fed<G: Gate + Send + Drop, R: Threads + Wait + Sync>(
     ensures workers { IfOk result (λ r. AllRan (λ view ticket. G.left (G.entered view ticket) ticket) parts.workers.items gates.items r.0.workers.items r.1.items) }
     ensures fault { IfErr result (IsFedFault parts.front parts.feeders.items) }
 {
-    let (shared, driven) = taken_apart(alloc, parts, gates)?;
+    let (shared, driven) = driven_of(alloc, parts, gates)?;
     let (driven, ended) = in_threads(rt, alloc, &shared, driven, mode, patience);
     match ended {
         Ok(()) => {

@@ -16,7 +16,7 @@ const WORKER_SLEEP: u64 = 20;
 // How often the front spins before it sleeps, twice as long each time.
 const SPINS: u32 = 7;
 // A worker tells at once of so many jobs.
-const TOLD: u64 = 64;
+const MOST_UNTOLD: u64 = 64;
 
 /// How long the front has found nothing to do. It spins first, and then sleeps until it is rung.
 #[derive(Drop)]
@@ -104,7 +104,7 @@ impl CrewPause {
             self.heard = None;
         }
         self.did = self.did.saturating_add(1);
-        if self.did == TOLD {
+        if self.did == MOST_UNTOLD {
             self.tell(flags);
         }
     }

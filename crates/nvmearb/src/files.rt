@@ -22,7 +22,7 @@ pub(crate) struct Answers<'a, W> {
 }
 
 /// All of a file, or of standard input. Where it can't be read that is told, and the error is the exit status.
-pub(crate) fn taken<R: AllocGlobal + Files + Input, E: Write>(
+pub(crate) fn read_input<R: AllocGlobal + Files + Input, E: Write>(
     rt: &R,
     name: Option<&str>,
     notes: &Notes,
@@ -46,7 +46,7 @@ pub(crate) fn taken<R: AllocGlobal + Files + Input, E: Write>(
 
 /// All of a named file of at most so many bytes, beside the input. Where it can't be read that is told, and the error is the
 /// exit status.
-pub(crate) fn whole<R: AllocGlobal + Files, E: Write>(
+pub(crate) fn read_file<R: AllocGlobal + Files, E: Write>(
     rt: &R,
     name: &str,
     most: u64,

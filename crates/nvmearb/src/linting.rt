@@ -1,7 +1,7 @@
 // `nvmearb lint`, of a workload or of a simulation file.
 ghost use Rattle.std.specs.Prelude.{◌≤◌};
 
-use crate::files::taken;
+use crate::files::read_input;
 use crate::noted::{Look, Notes};
 use crate::simulating::model_of;
 use crate::telling::{no_memory, unwritten};
@@ -55,7 +55,7 @@ where
     let Ok(file) = file_named(alloc, words) else {
         return no_memory(errors);
     };
-    let text = match taken(rt, file, notes, errors) {
+    let text = match read_input(rt, file, notes, errors) {
         Ok(text) => text,
         Err(status) => return status,
     };

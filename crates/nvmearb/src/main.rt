@@ -82,7 +82,7 @@ fn is_unfit(alloc: Global, words: &[String]) -> bool {
 }
 
 // The terminal, where the words ask for what goes through a whole trace.
-fn told_of_reading<P: Drop>(words: &[String], terminal: Option<P>) -> Option<P> {
+fn terminal_for<P: Drop>(words: &[String], terminal: Option<P>) -> Option<P> {
     match subcommand(words) {
         "check" | "stats" | "chart" => terminal,
         _ => None,
@@ -104,7 +104,7 @@ where
     ensures { result ≤ 4 }
 {
     let alloc = rt.alloc();
-    let terminal = told_of_reading(words, terminal);
+    let terminal = terminal_for(words, terminal);
     match file_named(alloc, words) {
         Ok(Some(name)) if !is_unfit(alloc, words) => match fs::open(rt, name) {
             Ok(file) => {

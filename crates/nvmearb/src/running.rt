@@ -1,7 +1,7 @@
 // `nvmearb run` whose report is summarised, or written as JSON.
 ghost use Rattle.std.specs.Prelude.{◌≤◌, IfErr, IfSome};
 
-use crate::files::taken;
+use crate::files::read_input;
 use crate::kept::Kept;
 use crate::noted::Notes;
 use crate::telling::{no_memory, unwritten};
@@ -120,7 +120,7 @@ where
     let Ok(file) = file_named(alloc, words) else {
         return no_memory(errors);
     };
-    let text = match taken(rt, file, notes, errors) {
+    let text = match read_input(rt, file, notes, errors) {
         Ok(text) => text,
         Err(status) => return status,
     };

@@ -7,7 +7,7 @@
 // replayed are opened once the simulation file has no fault.
 ghost use Rattle.std.specs.Prelude.{◌≤◌, IfErr};
 
-use crate::files::{Answers, is_svg, not_svg, put_away, taken, whole};
+use crate::files::{Answers, is_svg, not_svg, put_away, read_file, read_input};
 use crate::kept::Kept;
 use crate::noted::{Noted, Notes};
 use crate::sweeping::{File, swept};
@@ -155,7 +155,7 @@ fn listings_of<R: AllocGlobal + Files, E: Write>(
         if listings.has(source) {
             continue;
         }
-        let bytes = whole(rt, file, MAX_REPLAY, errors)?;
+        let bytes = read_file(rt, file, MAX_REPLAY, errors)?;
         if let Err(error) = listings.read(rt.alloc(), source, bytes.as_slice()) {
             return Err(tell_replay(&FileFault { file, error }, errors));
         }
@@ -477,7 +477,7 @@ where
         Ok(overrides) => overrides,
         Err(status) => return status,
     };
-    let text = match taken(rt, line.file, notes, errors) {
+    let text = match read_input(rt, line.file, notes, errors) {
         Ok(text) => text,
         Err(status) => return status,
     };

@@ -28,7 +28,7 @@ pub(crate) struct File<'a> {
 }
 
 // Tells why there is no answer. The answer is the exit status.
-fn told<E: Write>(fault: &SweepFault, errors: &mut E) -> u8
+fn tell_fault<E: Write>(fault: &SweepFault, errors: &mut E) -> u8
     ensures { result ≤ 4 }
 {
     match fault {
@@ -161,13 +161,13 @@ where
     } = file;
     let (sweep, overloads) = match sweep_of(rt, line, overrides, listings, text) {
         Ok(found) => found,
-        Err(fault) => return told(&fault, errors),
+        Err(fault) => return tell_fault(&fault, errors),
     };
     if !line.points {
         note_overloads(&overloads, errors);
     }
     match ran(rt, line, &sweep, origin, terminal, output, chart) {
         Ok(()) => 0,
-        Err(fault) => told(&fault, errors),
+        Err(fault) => tell_fault(&fault, errors),
     }
 }

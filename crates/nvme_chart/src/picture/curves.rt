@@ -37,7 +37,7 @@ fn put_share<W: Write>(part: u64, all: u64, writer: &mut W) -> io::Result<()> {
 }
 
 // Writes the share of a curve in all commands.
-fn put_whole<W: Write>(picture: &Picture, curve: &Curve, writer: &mut W) -> io::Result<()> {
+fn put_share_in_all<W: Write>(picture: &Picture, curve: &Curve, writer: &mut W) -> io::Result<()> {
     put_share(curve.all_commands(picture), commands_of(picture), writer)
 }
 
@@ -70,7 +70,7 @@ fn put_line<W: Write>(
     writer.write_all(b"\"><title>")?;
     curve.put_name(picture, writer)?;
     writer.write_all(b" ")?;
-    put_whole(picture, curve, writer)?;
+    put_share_in_all(picture, curve, writer)?;
     writer.write_all(b"</title></polyline>\n")
 }
 
@@ -158,7 +158,7 @@ fn put_entry<W: Write>(picture: &Picture, curve: &Curve, y: u64, writer: &mut W)
         writer,
         "</text><text x=\"{right}\" y=\"{y}\" text-anchor=\"end\">"
     )?;
-    put_whole(picture, curve, writer)?;
+    put_share_in_all(picture, curve, writer)?;
     writer.write_all(b"</text>\n")
 }
 
@@ -251,7 +251,7 @@ fn put_small_entry<W: Write>(
         writer,
         "</text><text x=\"{right}\" y=\"{y}\" text-anchor=\"end\">"
     )?;
-    put_whole(picture, curve, writer)?;
+    put_share_in_all(picture, curve, writer)?;
     writer.write_all(b"</text>\n")
 }
 

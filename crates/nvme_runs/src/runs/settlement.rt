@@ -69,7 +69,7 @@ pub fn are_loaded(parts: &Parts, mode: Mode) -> bool
 }
 
 // The error of a run whose settling failed, where the hosts are those of the front.
-fn told(error: SettleError) -> RunError
+fn run_error_of(error: SettleError) -> RunError
     requires hosts { error ≢ settling.Strangers }
     ensures outstanding { error ≡ settling.Outstanding → result ≡ fault.GaveUp }
     ensures no_memory { error ≡ settling.NoMemory → result ≡ fault.NoMemory }
@@ -108,6 +108,6 @@ pub fn settle_run<R: Wait>(
     }
     match settle(rt, alloc, parts) {
         Ok(settled) => Ok(settled),
-        Err((error, _)) => Err(told(error)),
+        Err((error, _)) => Err(run_error_of(error)),
     }
 }

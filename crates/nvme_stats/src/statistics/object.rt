@@ -163,7 +163,7 @@ fn put_index<W: Write>(name: &str, index: Option<u128>, writer: &mut W) -> io::R
 }
 
 // Writes what is told of all queues together.
-fn put_whole<W: Write>(counted: &Statistics, writer: &mut W) -> io::Result<()> {
+fn put_of_all<W: Write>(counted: &Statistics, writer: &mut W) -> io::Result<()> {
     let (longest, bound) = (counted.behind.longest, counted.behind.bound);
     write!(
         writer,
@@ -189,7 +189,7 @@ pub fn put_object<W: Write>(counted: &Statistics, writer: &mut W) -> io::Result<
     writer.write_all(b"],\"classes\":[")?;
     put_classes(counted, writer)?;
     writer.write_all(b"]")?;
-    put_whole(counted, writer)?;
+    put_of_all(counted, writer)?;
     put_waits(counted, writer)?;
     if let Some(series) = &counted.windows {
         put_windows(counted, series, writer)?;

@@ -1,5 +1,5 @@
 use Rattle.std.proofs.Common.{rules, refl, sym}
-use Rattle.nvme_threads.proofs.drives.taken_apart.Goals as goal
+use Rattle.nvme_threads.proofs.drives.driven_of.Goals as goal
 
 pub returns : goal.returns
 returns g c =
