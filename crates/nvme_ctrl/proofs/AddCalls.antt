@@ -235,6 +235,7 @@ module _ (rules : FrontRules) (late : Bool) (notes : Notes) (c : Controller) (po
       doorbells = sq_doorbells;
       tags = sq_tags;
       shown = record { held = s.shown.held; classed = s.shown.classed };
+      ordered = s.ordered;
       regions = record { sqs = λ some. absurd (sq_on_regions some); cqs = λ some. absurd (sq_on_regions some) };
       account = λ on_time. early_account rules late notes c pool s Submission a n on_time;
     }
@@ -368,6 +369,7 @@ module _ (rules : FrontRules) (late : Bool) (notes : Notes) (c : Controller) (po
       doorbells = cq_doorbells;
       tags = cq_tags;
       shown = record { held = s.shown.held; classed = s.shown.classed };
+      ordered = s.ordered;
       regions = record { sqs = λ some. absurd (cq_on_regions some); cqs = λ some. absurd (cq_on_regions some) };
       account = λ on_time. early_account rules late notes c pool s Completion a n on_time;
     }

@@ -46,6 +46,7 @@ use Rattle.nvme_ctrl_content.specs.Standing.{Holds, FewQueues}
 use Rattle.nvme_ctrl_content.specs.Steps.{HasNextRegion, CanPick, CanApply, verdict_at, picked_sq, applied_to}
 use Rattle.nvme_ctrl.specs.kept.Kept.{Item, Items, IsWaitingIn, IsUnanswered, HasCookie, StandsAt, tags_of, candidate_of, shown_in}
 use Rattle.nvme_ctrl_content.specs.Shown.{HoldsShown, HasRegionsMade}
+use Rattle.nvme_ctrl_content.specs.Order.{HoldsOrder}
 use Rattle.nvme_ctrl.specs.inside.Loose.{IsLoose, Keeps}
 use Rattle.nvme_ctrl.specs.inside.Carrying.{IsApplied}
 use Rattle.nvme_slots.specs.Pool.{slot_at, IsChain}
@@ -138,7 +139,7 @@ abbrev pub as_candidate : ℕ → Sqe → Candidate
 as_candidate i entry = record { index = i; entry = entry }
 
 module _ (rules : FrontRules) (late : Bool) (notes : Notes) (c : Controller) (slots : List Slot) (k : Content) (g : Items) (holds : Holds rules late (logged notes) k)
-    (shown : HoldsShown notes k) (account : late ≡ false → IsAccount rules notes) (keeps : Keeps rules notes c slots k g)
+    (shown : HoldsShown notes k) (ordered : HoldsOrder notes k) (account : late ≡ false → IsAccount rules notes) (keeps : Keeps rules notes c slots k g)
     (none : c.picked ≡ 0) (pick : Pick) (board : BoardFields) (can_admin : CanPick rules (logged notes) k admin_queue pick (board_of board))
     (arbiter : IsTrue (is_arbiter board.arbiter)) (first_is : pick.qid ≡ 0) (one : pick.n ≡ 1) where
   pub admin_life : k.sq_life 0 ≡ Some 0
@@ -271,6 +272,7 @@ module _ (rules : FrontRules) (late : Bool) (notes : Notes) (c : Controller) (sl
         before = k;
         holds = holds;
         shown = shown;
+        ordered = ordered;
         account = account;
         pick = pick;
         picked = board_of board;
@@ -344,37 +346,37 @@ module _ (rules : FrontRules) (late : Bool) (notes : Notes) (c : Controller) (sl
   place_is = s.holds.tabled.placing
 
   -- ---- at some rules
-  module _ (others : FrontRules) (k : Content) (holds : Holds others late (logged notes) k) (shown : HoldsShown notes k) (account : late ≡ false → IsAccount others notes)
+  module _ (others : FrontRules) (k : Content) (holds : Holds others late (logged notes) k) (shown : HoldsShown notes k) (ordered : HoldsOrder notes k) (account : late ≡ false → IsAccount others notes)
       (keeps : Keeps others notes c slots k s.items) (can_pick : CanPick others (logged notes) k admin_queue pick (board_of board)) where
     abbrev it : IsSplit (s.items.windows 0)
-    it = oldest others late notes c slots k s.items holds shown account keeps none pick board can_pick arbiter first_is one_then
+    it = oldest others late notes c slots k s.items holds shown ordered account keeps none pick board can_pick arbiter first_is one_then
 
     there : IsChain slots sq.window (it.first.tag ∷ tags_of it.rest)
     there = subst (λ (z : SqState). IsChain slots z.window (it.first.tag ∷ tags_of it.rest)) (sym sq_is)
-        (linked others late notes c slots k s.items holds shown account keeps none pick board can_pick arbiter first_is one_then)
+        (linked others late notes c slots k s.items holds shown ordered account keeps none pick board can_pick arbiter first_is one_then)
 
     told_at : IsToldBy k.table.placing (verdict_in did) (verdict_of others.start holds.tabled.history entry)
     told_at =
-        told_now others late notes c slots k s.items holds shown account keeps none pick board can_pick arbiter first_is one_then sq chain tag n o entry table m did
+        told_now others late notes c slots k s.items holds shown ordered account keeps none pick board can_pick arbiter first_is one_then sq chain tag n o entry table m did
         sq_is (left it.first.tag (tags_of it.rest) there) (unwrap it.first.tag (some it.first.tag (tags_of it.rest) there))
-        (n_is ∙ unposted_capped others late notes c slots k s.items holds shown account keeps none pick board can_pick arbiter first_is one_then sq sq_is)
-        (o_is ∙ outstanding_capped others late notes c slots k s.items holds shown account keeps none pick board can_pick arbiter first_is one_then)
+        (n_is ∙ unposted_capped others late notes c slots k s.items holds shown ordered account keeps none pick board can_pick arbiter first_is one_then sq sq_is)
+        (o_is ∙ outstanding_capped others late notes c slots k s.items holds shown ordered account keeps none pick board can_pick arbiter first_is one_then)
         entry_is m_is told applies
 
     applied_at : (w : Verdict) → verdict_of others.start holds.tabled.history entry ≡ w → ((i : ℕ) → HasNextRegion others k.table (as_candidate i entry) w)
         → HasRegionsMade (applied_to k (board_of board) (queue_table others.start (EntryApplied entry ∷ holds.tabled.history))) → IsApplied others late notes m slots tag did w
     applied_at w is next made =
         subst (IsApplied others late notes m slots tag did) is
-        (is_applied others late notes c slots k s.items holds shown account keeps none pick board can_pick arbiter first_is one_then sq chain tag n o entry table m did
+        (is_applied others late notes c slots k s.items holds shown ordered account keeps none pick board can_pick arbiter first_is one_then sq chain tag n o entry table m did
         sq_is (left it.first.tag (tags_of it.rest) there) (unwrap it.first.tag (some it.first.tag (tags_of it.rest) there))
-        (n_is ∙ unposted_capped others late notes c slots k s.items holds shown account keeps none pick board can_pick arbiter first_is one_then sq sq_is)
-        (o_is ∙ outstanding_capped others late notes c slots k s.items holds shown account keeps none pick board can_pick arbiter first_is one_then)
+        (n_is ∙ unposted_capped others late notes c slots k s.items holds shown ordered account keeps none pick board can_pick arbiter first_is one_then sq sq_is)
+        (o_is ∙ outstanding_capped others late notes c slots k s.items holds shown ordered account keeps none pick board can_pick arbiter first_is one_then)
         entry_is m_is told applies (λ i. subst (HasNextRegion others k.table (as_candidate i entry)) (sym is) (next i)) made)
 
   -- ---- at the rules as they are
   applied_here : (w : Verdict) → answer ≡ w → ((i : ℕ) → HasNextRegion rules content.table (as_candidate i entry) w) → HasRegionsMade (applied_to content (board_of board) now)
       → IsApplied rules late notes m slots tag did w
-  applied_here = applied_at rules content s.holds s.shown s.account keeps_then can_then
+  applied_here = applied_at rules content s.holds s.shown s.ordered s.account keeps_then can_then
 
   -- which have the regions of the queues that were made, where the command makes none
   made_none : (w : Verdict) → answer ≡ w → sqs_with w content.table.sqs_made ≡ content.table.sqs_made → cqs_with w content.table.cqs_made ≡ content.table.cqs_made
@@ -406,7 +408,7 @@ module _ (rules : FrontRules) (late : Bool) (notes : Notes) (c : Controller) (sl
 
   module _ (anywhere : is_some content.table.placing ≡ true) (kind : Kind) where
     comes : Comes rules late notes c slots content s.items s.holds kind address asked
-    comes = region_comes kind address asked rules late notes content s.holds s.account anywhere c slots s.items s.numbers s.has s.doorbells s.tags s.shown
+    comes = region_comes kind address asked rules late notes content s.holds s.account anywhere c slots s.items s.numbers s.has s.doorbells s.tags s.shown s.ordered
 
     abbrev more : FrontRules
     more = with_region kind address asked rules
@@ -438,7 +440,7 @@ module _ (rules : FrontRules) (late : Bool) (notes : Notes) (c : Controller) (sl
 
     applied_grown : (w : Verdict) → answer ≡ w → ((i : ℕ) → HasNextRegion more grew.table (as_candidate i entry) w) → HasRegionsMade (applied_to grew (board_of board) later)
         → IsApplied more late notes m slots tag did w
-    applied_grown w is = applied_at more grew comes.holds comes.shown comes.account keeps_grown can_grown w (comes.verdicts entry ∙ is)
+    applied_grown w is = applied_at more grew comes.holds comes.shown comes.ordered comes.account keeps_grown can_grown w (comes.verdicts entry ∙ is)
 
   module _ (anywhere : is_some content.table.placing ≡ true) (qid region cqid : ℕ) (class : Class) (is : answer ≡ verdict.OpenSq qid region cqid class) where
     -- the region is the next
@@ -493,22 +495,22 @@ module _ (rules : FrontRules) (late : Bool) (notes : Notes) (c : Controller) (sl
   -- the entry is that of the oldest place that waits
   entry_of_oldest : (i : ℕ) → slice_get (waiting (logged notes) 0) 0 ≡ Some i → entry_at (logged notes) 0 i ≡ Some entry
   entry_of_oldest i oldest_is =
-      let x : Item = (it rules content s.holds s.shown s.account keeps_then can_then).first in
-      let window = window_is rules late notes c slots content s.items s.holds s.shown s.account keeps_then none pick board can_then arbiter first_is one_then in
+      let x : Item = (it rules content s.holds s.shown s.ordered s.account keeps_then can_then).first in
+      let window = window_is rules late notes c slots content s.items s.holds s.shown s.ordered s.account keeps_then none pick board can_then arbiter first_is one_then in
       let index : x.place.index ≡ i = same_Some x.place.index i
       (ap (λ (cs : List Candidate). slice_get (map (λ (y : Candidate). y.index) cs) 0) (sym window) ∙ ap (λ (is : List ℕ). slice_get is 0) (sym (s.holds.regions 0).waiting_is) ∙ oldest_is) in
       let at : entry_at (logged notes) 0 x.place.index ≡ Some x.entry =
       All-head (λ (y : Candidate). entry_at (logged notes) 0 y.index ≡ Some y.entry) (candidate_of x) _
       (subst (All (λ (y : Candidate). entry_at (logged notes) 0 y.index ≡ Some y.entry)) window (s.holds.regions 0).entries) in
-      let its : tag ≡ x.tag = unwrap x.tag (some x.tag (tags_of (it rules content s.holds s.shown s.account keeps_then can_then).rest) (there rules content s.holds s.shown s.account keeps_then can_then)) in
+      let its : tag ≡ x.tag = unwrap x.tag (some x.tag (tags_of (it rules content s.holds s.shown s.ordered s.account keeps_then can_then).rest) (there rules content s.holds s.shown s.ordered s.account keeps_then can_then)) in
       ap (entry_at (logged notes) 0) (sym index) ∙ at
       ∙ ap (λ (e : Sqe). Some e) (sym (entry_is ∙ ap (λ (z : ℕ). (slot_at slots z).entry) its
-      ∙ (first rules late notes c slots content s.items s.holds s.shown s.account keeps_then none pick board can_then arbiter first_is one_then).entry))
+      ∙ (first rules late notes c slots content s.items s.holds s.shown s.ordered s.account keeps_then none pick board can_then arbiter first_is one_then).entry))
 
   pub admin_call : IsPlacedApplied rules late notes m slots tag did entry
   admin_call = record {
     verdict = answer;
-    told = subst (λ (p : Option Placing). IsToldBy p (verdict_in did) answer) place_is (told_at rules content s.holds s.shown s.account keeps_then can_then);
+    told = subst (λ (p : Option Placing). IsToldBy p (verdict_in did) answer) place_is (told_at rules content s.holds s.shown s.ordered s.account keeps_then can_then);
     applied = by_verdict (placing_in rules) refl answer refl;
     its_entry = entry_of_oldest;
   }

@@ -42,7 +42,7 @@ use Rattle.nvme_ctrl_content.proofs.ReadyHand.{All-taken}
 use Rattle.nvme_ctrl.proofs.Lives.{put_cq-lives, put_cq-states}
 use Rattle.nvme_ctrl_log.proofs.OutTags.{still_not_out-answered, still_not_out-flagged}
 use Rattle.nvme_ctrl.proofs.SlotItems.{All-both, at_put, ready_state-range, out_stays, all_waiting_stay, all_ready_stay, all_free_stay}
-use Rattle.nvme_ctrl.proofs.AnsweredPlaces.{IsOther, is_other, at_hand, has_entries, has_it, queue_is, goes_to, answered, holds_answered, was_fetched, others_out, others_in_windows}
+use Rattle.nvme_ctrl.proofs.AnsweredPlaces.{answered-in-order, IsOther, is_other, at_hand, has_entries, has_it, queue_is, goes_to, answered, holds_answered, was_fetched, others_out, others_in_windows}
 use Rattle.nvme_ctrl.proofs.PendingDeletions.{deletions_stay}
 use Rattle.nvme_ctrl.specs.kept.QueueSets.{with_queue}
 use Rattle.nvme_ctrl.proofs.QueueSets.{readied-put}
@@ -543,6 +543,7 @@ answer-item rules late notes c slots s before it after are answer flags types ne
     doorbells = answer-doorbells rules late notes c slots s.content s.items s.holds s.numbers s.has s.tags before it after are answer flags types new chain p s.doorbells;
     tags = answer-tags rules late notes c slots s.content s.items s.holds s.numbers s.has s.tags before it after are answer flags types new chain p;
     shown = record { held = s.shown.held; classed = s.shown.classed };
+    ordered = answered-in-order rules late notes c slots s.content s.items s.holds s.numbers s.has s.tags before it after are answer s.ordered;
     regions = record { sqs = s.regions.sqs; cqs = s.regions.cqs };
     account = λ on_time. answer-account rules late notes c slots s.content s.items s.holds s.numbers s.has s.tags before it after are answer flags types new chain p (s.account on_time);
   };

@@ -1,6 +1,6 @@
 -- The device answers a command: its place is none of those of the others.
 use Rattle.std.proofs.Common.{◌≡◌, ℕ, ◌<◌, ◌==◌, ◌&&◌, not, nat_lt, Bool, true, false, List, [], ◌∷◌, ◌++◌, length, map, take, drop, Option, Some, None, refl, sym, ap, ◌∙◌, subst, arith, inl, inr}
-use Rattle.std.specs.Prelude.{unwrap_or}
+use Rattle.std.specs.Prelude.{unwrap_or, option_map}
 use Rattle.std.specs.List.{All}
 use Rattle.std.proofs.lemmas.Bool.{cases_eq, eq-eqb, ne_eqb, eqb-true, ltb-true, and_parts, false_from_ne_true, true≢false}
 use Rattle.std.proofs.lemmas.List.{append_assoc, map-append, take-append-drop}
@@ -10,10 +10,10 @@ use Rattle.nvme_log.specs.Rules.{FrontRules}
 use Rattle.nvme_log.specs.Answers.{Answer}
 use Rattle.nvme_log.specs.Places.{fetched, fate_of, is_waiting, one_if}
 use Rattle.nvme_log.specs.declared.place.Place.{Place}
-use Rattle.nvme_ctrl_log.specs.Notes.{Notes, logged}
+use Rattle.nvme_ctrl_log.specs.Notes.{Notes, Answered, logged}
 use Rattle.nvme_slots.specs.declared.slot.Slot.{Slot}
 use Rattle.nvme_ctrl.specs.declared.state.Controller.{Controller}
-use Rattle.nvme_ctrl_content.specs.Content.{Candidate, Ready, Content}
+use Rattle.nvme_ctrl_content.specs.Content.{Candidate, Ready, Attachment, Content}
 use Rattle.nvme_ctrl_content.specs.Standing.{Holds, IsInHand, times_held, held_upto, hand_of}
 use Rattle.nvme_ctrl_content.specs.Steps.{done}
 use Rattle.nvme_ctrl.specs.kept.Kept.{Item, Items, IsWaitingIn, IsOutIn, IsSqOf, HasNumbers, HasItems, HoldsTags, HasEntry, places_of, candidate_of, untaken, picked_region, picked_of}
@@ -24,6 +24,8 @@ use Rattle.nvme_ctrl_content.proofs.OwnStatus.{All-unmap, IsAnswerable, ready_is
 use Rattle.nvme_ctrl_content.proofs.ReadyHand.{All-taken, times_held-append}
 use Rattle.nvme_ctrl_content.proofs.Standing.{holds-answer}
 use Rattle.nvme_ctrl.proofs.SlotItems.{All-both, All-parts}
+use Rattle.nvme_ctrl_content.proofs.Ordering.{order_answered}
+use Rattle.nvme_ctrl_content.specs.Order.{HoldsOrder}
 
 -- ---- other places
 -- a place is another than this one
@@ -98,6 +100,12 @@ module _ (rules : FrontRules) (late : Bool) (notes : Notes) (c : Controller) (sl
   pub holds_answered : Holds rules late (logged notes) answered
   holds_answered =
       holds-answer rules late (logged notes) k it.place (places_of before) (places_of behind) sqid goes_to it.entry.cid answer it.entry s can has_entries.0 refl
+
+  -- its completion is the last that is ready
+  pub answered-in-order : HoldsOrder notes k → HoldsOrder (Answered it.place.region it.place.index answer ∷ notes) answered
+  answered-in-order ordered =
+      order_answered notes (record k { hand = places_of before ++ places_of behind }) it.place.region it.place.index goes_to answer (done sqid it.place it.entry.cid answer)
+      (s.queues.cq_region_is it.place.region ∙ ap (option_map (λ (a : Attachment). a.cq_region)) attached) refl ordered
 
   -- its place is ready then
   answerable : IsAnswerable (logged notes) (hand_of answered) it.place.region it.place.index

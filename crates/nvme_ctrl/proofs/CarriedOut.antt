@@ -1,7 +1,8 @@
 -- An admin command was carried out: the controller stands at the notes of its pick, of what it makes, and of its answer.
 use Rattle.nvme_ctrl_log.specs.Account.{PostsOwn, IsLawfulEvent, IsLawful, IsAccount, IsCarriedOut, FetchesSubmitted, PostsOnFreeSlot, PostsWhatIsThrough, PicksOnObservation}
 use Rattle.std.proofs.Common.{◌≡◌, ℕ, suc, ◌<◌, ◌==◌, ◌&&◌, Bool, true, false, if◌then◌else◌, List, [], ◌∷◌, ◌++◌, length, map, drop, Option, Some, None, refl, sym, ap, ◌∙◌, subst, arith, inl, inr}
-use Rattle.std.specs.Prelude.{slice_get, nat_lt, All, is_some}
+use Rattle.std.proofs.lemmas.Option.{none-some}
+use Rattle.std.specs.Prelude.{slice_get, nat_lt, All, is_some, option_map}
 use Rattle.std.specs.List.{AllPairs}
 use Rattle.std.proofs.lemmas.Bool.{cases_eq, ne_eqb, and_parts, false_from_ne_true, eqb-true}
 use Rattle.std.proofs.lemmas.List.Elements.{All-nil, All-head, All-tail, All-same, All-weaker}
@@ -35,12 +36,13 @@ use Rattle.nvme_ctrl_log.specs.Steps.{with_logged, picked_notes, IsNextPick}
 use Rattle.nvme_ctrl.specs.Steps.{IsAnswerOf, HasCarriedOut}
 use Rattle.nvme_slots.specs.declared.slot.Slot.{Slot}
 use Rattle.nvme_ctrl.specs.declared.state.Controller.{Controller}
-use Rattle.nvme_ctrl_content.specs.Content.{Candidate, Ready, Content, with_ready}
+use Rattle.nvme_ctrl_content.specs.Content.{Attachment, Candidate, Ready, Content, with_ready}
 use Rattle.nvme_ctrl_content.specs.Standing.{Holds, HasOwnStatus, hand_of, answer_in, HasItsStatus}
 use Rattle.nvme_ctrl_content.specs.Steps.{applied_to, told, oldest_named}
 use Rattle.nvme_ctrl_log.specs.Next.{IsNext, EachNext}
 use Rattle.nvme_ctrl.specs.kept.Kept.{Item, Items, IsWaitingIn, candidate_of, picked_of, untaken, IsDevices, DeleteItem, deletion_in}
 use Rattle.nvme_ctrl_content.specs.Shown.{HoldsShown, HasRegionsMade}
+use Rattle.nvme_ctrl_content.specs.Order.{HoldsOrder}
 use Rattle.nvme_ctrl.specs.inside.Loose.{Keeps}
 use Rattle.nvme_ctrl.specs.inside.Carrying.{IsApplied, HasBegun}
 use Rattle.nvme_ctrl.specs.kept.State.{picked_in}
@@ -50,7 +52,7 @@ use Rattle.nvme_ctrl_content.proofs.DeletedQueues.{deletion_done, unheld_undelet
 use Rattle.nvme_ctrl.proofs.PendingDeletions.{deletion_item}
 use Rattle.nvme_ctrl_content.proofs.Standing.{holds-admin}
 use Rattle.nvme_ctrl_content.proofs.AdminEvents.{next-admin}
-use Rattle.nvme_ctrl_content.proofs.AdminPick.{deleted_region, target_region}
+use Rattle.nvme_ctrl_content.proofs.AdminPick.{deleted_region, target_region, made_request, found_before}
 use Rattle.nvme_log.proofs.AdminPicks.{admin_is_whole}
 use Rattle.nvme_ctrl_content.proofs.Observing.{seen_is_observed}
 use Rattle.nvme_ctrl_content.proofs.Showing.{OpensApart, shown_verdict}
@@ -59,6 +61,8 @@ use Rattle.nvme_ctrl.proofs.LaterNotes.{logged-with, answer_of-logged, cookie_of
 use Rattle.nvme_ctrl_content.proofs.OwnStatus.{IsAnswerable, ready_is_answerable, answerable_is_done, candidates_wait, oldest_waits, waiting_is_unaborted, All-unmap}
 use Rattle.nvme_ctrl.proofs.SlotItems.{All-parts}
 use Rattle.nvme_ctrl_content.proofs.Windows.{window-below, window-ascending}
+use Rattle.nvme_ctrl_content.proofs.Ordering.{IsToldAtOnce, order_told}
+use Rattle.nvme_ctrl_log.specs.Ready.{PostsInOrder}
 
 -- ---- lawful events
 own_of-effect : (rules : FrontRules) (notes : Notes) (e : Event) → is_effect e ≡ true → PostsOwn rules notes e
@@ -77,6 +81,10 @@ through-effect : (notes : Notes) (e : Event) → is_effect e ≡ true → PostsW
 through-effect notes (event.Post c r i cqe) h = cc h
 through-effect notes e h = tt
 
+order-effect : (notes : Notes) (e : Event) → is_effect e ≡ true → PostsInOrder notes e
+order-effect notes (event.Post c r i cqe) h = cc h
+order-effect notes e h = tt
+
 observed-effect : (notes : Notes) (e : Event) → is_effect e ≡ true → PicksOnObservation notes e
 observed-effect notes (event.Pick seen pick) h = cc h
 observed-effect notes e h = tt
@@ -93,6 +101,7 @@ lawful-effect rules notes e is n = record {
   fetches_submitted = submitted-effect rules notes e is;
   posts_on_free_slot = free-effect rules notes e is;
   posts_what_is_through = through-effect notes e is;
+  posts_in_order = order-effect notes e is;
 }
 
 -- so is each of some
@@ -224,6 +233,24 @@ module _ (rules : FrontRules) (late : Bool) (notes : Notes) (a : Controller) (sl
           opened_apart region q other (h.holds.queues.unused region (ap (λ (t : QueueTable). t.sq_region_used region) h.holds.tabled.table_is ∙ tells.due.unused)) is same
       apart w tells = tt
 
+  -- its completion is ready after those that were, and after that of a command that it aborted
+  order_made : (c : ℕ) (board : BoardView) (answer : Answer) → IsChosen rules (logged notes) h.before c h.picked board v → IsAnswerOf v (Some answer)
+      → HoldsOrder (Answered 0 h.candidate.index answer ∷ made_notes) (after_admin (logged notes) applied h.candidate c board v)
+  order_made c board answer chosen answered =
+      order_told (logged notes) (picked_notes notes h.pick) applied h.candidate c board h.ordered v answer (at_once v answered chosen)
+      ((holds_made c board chosen).ready.admin_region)
+    where
+      at_once : (w : Verdict) → IsAnswerOf w (Some answer)
+          → IsChosen rules (logged notes) h.before c h.picked board w → IsToldAtOnce (logged notes) (picked_notes notes h.pick) applied h.candidate c board h.ordered w
+      at_once (verdict.BeginDelete qid) never chosen = absurd (none-some answer (sym never))
+      at_once (verdict.Abort sqid cid) told chosen = λ queue target. record {
+        oldest = made_request rules late (logged notes) h.before (observed_of notes) h.pick h.picked h.holds h.can_pick.is_open h.of_admin h.table sqid cid queue target;
+        goes = λ found finds.
+            let before = found_before rules late (logged notes) h.before (observed_of notes) h.pick h.picked h.holds h.can_pick.is_open h.of_admin h.table sqid cid queue found target finds in
+            h.holds.queues.cq_region_is queue.region ∙ ap (option_map (λ (a : Attachment). a.cq_region)) (chosen queue found target before).attached;
+      }
+      at_once w told chosen = tt
+
   -- and the regions are those of the queues that were made
   regions-made : (c : ℕ) (board : BoardView) → HasRegionsMade (after_admin (logged notes) applied h.candidate c board v)
   regions-made c board = by v where
@@ -272,6 +299,7 @@ module _ (rules : FrontRules) (late : Bool) (notes : Notes) (a : Controller) (sl
           fetches_submitted = tt;
           posts_on_free_slot = tt;
           posts_what_is_through = tt;
+          posts_in_order = tt;
         },
         (h.account on_time).each,
       )
@@ -425,6 +453,7 @@ module _ (rules : FrontRules) (late : Bool) (notes : Notes) (a : Controller) (sl
         doorbells = s.doorbells;
         tags = s.tags;
         shown = (let shown : HoldsShown made_notes k = subst (HoldsShown made_notes) is (shown_made c board) in record { held = shown.held; classed = shown.classed });
+        ordered = subst (HoldsOrder (Answered 0 h.candidate.index (answer_in t) ∷ made_notes)) is (order_made c board (answer_in t) chosen answered);
         regions = subst HasRegionsMade is (regions-made c board);
         account = account_told;
       };
@@ -432,9 +461,9 @@ module _ (rules : FrontRules) (late : Bool) (notes : Notes) (a : Controller) (sl
 
   -- ---- it began a deletion, and is answered later
   pub carried_later : IsAnswerOf v None → (c : ℕ) (board : BoardView) → IsChosen rules (logged notes) h.before c h.picked board v → (k : Content)
-      → after_admin (logged notes) applied h.candidate c board v ≡ k → (b : Controller) (pool : List Slot) → HasBegun rules made_notes k b pool
+      → after_admin (logged notes) applied h.candidate c board v ≡ k → HoldsOrder made_notes k → (b : Controller) (pool : List Slot) → HasBegun rules made_notes k b pool
       → HasCarriedOut rules late notes v b pool
-  carried_later answered c board chosen k is b pool s =
+  carried_later answered c board chosen k is ordered b pool s =
       let holds : Holds rules late (logged made_notes) k = subst (Holds rules late (logged made_notes)) is (holds_made c board chosen) in
       record {
         pick = h.pick;
@@ -453,6 +482,7 @@ module _ (rules : FrontRules) (late : Bool) (notes : Notes) (a : Controller) (sl
           doorbells = s.doorbells;
           tags = s.tags;
           shown = subst (HoldsShown made_notes) is (shown_made c board);
+          ordered = ordered;
           regions = subst HasRegionsMade is (regions-made c board);
           account = λ on_time. record { each = each_made on_time; lawful = holds.arbitration.lawful; effects_whole = (holds.own on_time).effects_whole };
         };

@@ -2,8 +2,8 @@
 use Rattle.nvme_ctrl_content.proofs.OpenQueues.{io_region}
 use Rattle.nvme_ctrl_content.proofs.DeletedQueues.{open_undeleted}
 use Rattle.std.proofs.lemmas.Bool.{ne_eqb}
-use Rattle.std.proofs.Common.{◌≡◌, ℕ, ◌+◌, ◌<◌, ◌^◌, Bool, true, List, ◌∷◌, length, map, Some, None, refl, sym, ap, ◌∙◌, subst, arith, false}
-use Rattle.std.specs.Prelude.{IsSome, All}
+use Rattle.std.proofs.Common.{◌≡◌, ℕ, ◌+◌, ◌<◌, ◌^◌, Bool, true, List, ◌∷◌, length, map, Option, Some, None, refl, sym, ap, ◌∙◌, subst, arith, false}
+use Rattle.std.specs.Prelude.{IsSome, All, option_map}
 use Rattle.std.proofs.lemmas.Option.{same_Some}
 use Rattle.std.proofs.lemmas.List.Elements.{All-same}
 use Rattle.nvme_arbiter.specs.Board.{BoardView}
@@ -23,9 +23,10 @@ use Rattle.nvme_ctrl_log.specs.Notes.{Notes, logged}
 use Rattle.nvme_ctrl_log.specs.Observation.{observed_of}
 use Rattle.nvme_ctrl_log.specs.Tags.{answer_of, is_passed}
 use Rattle.nvme_ctrl.specs.Steps.{HasCarriedOut}
+use Rattle.nvme_ctrl_log.specs.Steps.{with_logged, picked_notes}
 use Rattle.nvme_slots.specs.declared.slot.Slot.{Slot}
 use Rattle.nvme_ctrl.specs.declared.state.Controller.{Controller}
-use Rattle.nvme_ctrl_content.specs.Content.{Candidate, SqContent, Content}
+use Rattle.nvme_ctrl_content.specs.Content.{Candidate, SqContent, Attachment, Content}
 use Rattle.nvme_ctrl.specs.kept.Kept.{Items, IsCookie}
 use Rattle.nvme_ctrl.specs.inside.Loose.{IsLoose, Keeps}
 use Rattle.nvme_ctrl.specs.inside.Carrying.{IsApplied, HasBegun}
@@ -37,6 +38,8 @@ use Rattle.nvme_ctrl.proofs.AppliedQueues.{named_region, named_attached, named_o
 use Rattle.nvme_ctrl.proofs.CarriedOut.{made_notes, applied, logged_is, unanswered, cookie_kept, not_passed_on, keeps_made, carried_later}
 use Rattle.nvme_ctrl.proofs.PoolBounds.{unposted_held}
 use Rattle.nvme_ctrl_content.proofs.OwnStatus.{All-unmap, aborts_all}
+use Rattle.nvme_ctrl_content.proofs.Ordering.{order_begun}
+use Rattle.nvme_ctrl_content.specs.Order.{HoldsOrder}
 
 -- ---- the deletion of a submission queue begins
 module _ (rules : FrontRules) (late : Bool) (notes : Notes) (a : Controller) (slots : List Slot) (tag qid : ℕ) (did : Effect)
@@ -105,6 +108,14 @@ module _ (rules : FrontRules) (late : Bool) (notes : Notes) (a : Controller) (sl
       let as_many = ap (λ (s : SqContent). length s.window) left in
       omega (arith, held, same, as_many, h.keeps.tags.free_count, h.keeps.has.few)
 
+  -- their completions are ready, the oldest first
+  ordered : HoldsOrder now (deleting k qid region opened h.candidate)
+  ordered =
+      subst (λ (o : Option Queue). HoldsOrder (with_logged (closing_of (logged notes) qid o) (picked_notes notes h.pick)) (deleting k qid region opened h.candidate)) (sym is_open)
+      (order_begun (logged notes) (picked_notes notes h.pick) k h.candidate opened h.picked h.ordered qid (begins_queue rules late notes a slots tag qid did h)
+      ((h.holds.regions region).waiting_is ∙ ap (λ (s : SqContent). map (λ (c : Candidate). c.index) s.window) (sym left))
+      (h.holds.queues.cq_region_is region ∙ ap (option_map (λ (x : Attachment). x.cq_region)) attached))
+
   -- it began
   pub ended_begun : (b : Controller) (pool : List Slot)
       → ((rules : FrontRules) (notes : Notes) (k : Content) (g : Items) (region c : ℕ) (candidate : Candidate) → Keeps rules notes a slots k g → a.picked ≡ 0 → IsLoose slots g tag
@@ -116,5 +127,5 @@ module _ (rules : FrontRules) (late : Bool) (notes : Notes) (a : Controller) (sl
       (λ queue open_too.
       subst (λ (q : Queue). (h.before.sq q.region).queue ≡ Some (record { qid = qid; cq_region = opened }))
       (same_Some (begins_queue rules late notes a slots tag qid did h) queue (sym is_open ∙ open_too)) attached)
-      (deleting k qid region opened h.candidate) (ap (deleting_from k qid opened h.candidate) is_open) b pool
+      (deleting k qid region opened h.candidate) (ap (deleting_from k qid opened h.candidate) is_open) ordered b pool
       (begun rules now k h.items region opened h.candidate (keeps_made rules late notes a slots tag did v h) h.none_picked h.loose h.entry h.queue (unanswered rules late notes a slots tag did v h) (cookie_kept rules late notes a slots tag did v h) (not_passed_on rules late notes a slots tag did v h) droppable few)

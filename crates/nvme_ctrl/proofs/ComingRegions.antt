@@ -24,6 +24,7 @@ use Rattle.nvme_ctrl_content.specs.Standing.{Holds, HoldsOwn}
 use Rattle.nvme_ctrl.specs.kept.Kept.{Items, HasNumbers, HasItems, HoldsDoorbells, HoldsTags, IsSqOf, IsCqOf, shown_in}
 use Rattle.nvme_ctrl.proofs.QueueStates.{sq_told, each_sqs}
 use Rattle.nvme_ctrl_content.specs.Shown.{HoldsShown}
+use Rattle.nvme_ctrl_content.specs.Order.{HoldsOrder}
 use Rattle.nvme_ctrl.specs.kept.State.{sq_at, cq_at}
 use Rattle.nvme_ctrl_log.proofs.AddedTables.{slots_last, slots_other, sq-more, sq-same, cq-more, cq-same}
 use Rattle.nvme_ctrl_log.proofs.DoorbellCounts.{submitted_same, submitted_none, consumed_same, consumed_none}
@@ -71,6 +72,7 @@ pub record Comes (rules : FrontRules) (late : Bool) (notes : Notes) (c : Control
   pub doorbells : HoldsDoorbells (with_region kind a n rules) notes c (with_next rules notes kind a n k)
   pub tags : HoldsTags notes c slots (with_next rules notes kind a n k) items
   pub shown : HoldsShown notes (with_next rules notes kind a n k)
+  pub ordered : HoldsOrder notes (with_next rules notes kind a n k)
   pub account : late ≡ false → IsAccount (with_region kind a n rules) notes
   -- the table is the same but for the region
   pub table_is : (with_next rules notes kind a n k).table ≡ table_with kind a n k.table
@@ -336,15 +338,16 @@ module _ (kind : Kind) (a n : ℕ) where
       tags-then t = t
 
       -- a region comes
-      pub region_comes : HasNumbers c k → HasItems c slots k items → HoldsDoorbells rules notes c k → HoldsTags notes c slots k items → HoldsShown notes k
+      pub region_comes : HasNumbers c k → HasItems c slots k items → HoldsDoorbells rules notes c k → HoldsTags notes c slots k items → HoldsShown notes k → HoldsOrder notes k
           → Comes rules late notes c slots k items s kind a n
-      region_comes numbers has doorbells tags shown = record {
+      region_comes numbers has doorbells tags shown ordered = record {
         holds = holds-then;
         numbers = numbers-then numbers;
         has = has-then has;
         doorbells = doorbells-then numbers doorbells;
         tags = tags-then tags;
         shown = record { held = shown.held; classed = shown.classed };
+        ordered = ordered;
         account = λ early. account-stays rules kind a n sqs_there cqs_there notes (account early) passed;
         table_is = table-same;
         verdicts = verdicts-same;

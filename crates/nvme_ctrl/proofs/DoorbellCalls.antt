@@ -295,6 +295,7 @@ module _ (rules : FrontRules) (late : Bool) (notes : Notes) (c : Controller) (sl
               flagged = s.tags.flagged;
             };
             shown = record { held = s.shown.held; classed = s.shown.classed };
+            ordered = s.ordered;
             regions = record { sqs = s.regions.sqs; cqs = s.regions.cqs };
             account = λ on_time. (let a = s.account on_time in record { each = (tail, a.each); lawful = a.lawful; effects_whole = a.effects_whole });
           };
@@ -485,6 +486,7 @@ module _ (rules : FrontRules) (late : Bool) (notes : Notes) (c : Controller) (sl
               flagged = s.tags.flagged;
             };
             shown = record { held = s.shown.held; classed = s.shown.classed };
+            ordered = s.ordered;
             regions = record { sqs = s.regions.sqs; cqs = s.regions.cqs };
             account = λ on_time. (let a = s.account on_time in record { each = (head, a.each); lawful = a.lawful; effects_whole = a.effects_whole });
           };

@@ -634,6 +634,7 @@ module _ (rules : FrontRules) (late : Bool) (notes : Notes) (c : Controller) (sl
           fetches_submitted = more_submitted rules late notes c slots s qid e can;
           posts_on_free_slot = tt;
           posts_what_is_through = tt;
+          posts_in_order = tt;
         }
 
     is_kept_now : IsKept (Logged (Fetch e.region index entry) ∷ notes) e.region index
@@ -657,6 +658,7 @@ module _ (rules : FrontRules) (late : Bool) (notes : Notes) (c : Controller) (sl
       doorbells = doorbells_now;
       tags = tags_now;
       shown = record { held = s.shown.held; classed = s.shown.classed };
+      ordered = s.ordered;
       regions = record { sqs = s.regions.sqs; cqs = s.regions.cqs };
       account = account_now;
     }

@@ -64,6 +64,7 @@ use Rattle.nvme_ctrl_content.proofs.DeletedQueues.{unheld_apart, unheld_undeleti
 use Rattle.nvme_ctrl_content.proofs.DeletingRegions.{Here, Elsewhere, is_put, put-same, put-other}
 use Rattle.nvme_ctrl.proofs.PendingDeletions.{deletion_item, IsFlagged, flagged_item, item_flagged, none_counted, some_deletes, deletions_ended}
 use Rattle.nvme_ctrl.proofs.QueueSets.{rung-kept}
+use Rattle.nvme_ctrl_content.proofs.Ordering.{order_answered}
 
 -- what holds of the first n and of the others holds of all
 all_joined : {X : Type 0} (P : X → Type 0) (n : ℕ) (xs : List X) → All P (take n xs) → All P (drop n xs) → All P xs
@@ -573,6 +574,7 @@ module _ (rules : FrontRules) (late : Bool) (notes : Notes) (c : Controller) (sl
                 fetches_submitted = tt;
                 posts_on_free_slot = tt;
                 posts_what_is_through = tt;
+                posts_in_order = tt;
               },
               (s.account on_time).each,
             ),
@@ -597,6 +599,7 @@ module _ (rules : FrontRules) (late : Bool) (notes : Notes) (c : Controller) (sl
         doorbells = kept.doorbells;
         tags = kept.tags;
         shown = record { held = s.shown.held; classed = s.shown.classed };
+        ordered = order_answered (Logged (event.ClosedSq item.qid region) ∷ notes) k1 0 item.index 0 answer t holds_after.ready.admin_region refl s.ordered;
         regions = finished_made rules late past k d s.holds s.regions;
         account = account_finished;
       };

@@ -269,6 +269,7 @@ module _ (rules : FrontRules) (late : Bool) (notes : Notes) (c : Controller) (sl
       held = held_now;
       classed = λ p other is_other. ap (λ (o : Option Class). put_class k.classed r o other.region) left ∙ put_class-same k.classed r other.region ∙ s.shown.classed p other is_other;
     };
+    ordered = s.ordered;
     regions = record { sqs = s.regions.sqs; cqs = s.regions.cqs };
     account = λ on_time. (let a = s.account on_time in record { each = (record { queue = queue; is_open = is_open }, a.each); lawful = a.lawful; effects_whole = a.effects_whole });
   }
@@ -297,6 +298,7 @@ module _ (rules : FrontRules) (late : Bool) (notes : Notes) (c : Controller) (sl
       held = λ p other is_other. ap (λ (b : Bool). put_held k.held r b other.region) left ∙ put_held-same k.held r other.region ∙ s.shown.held p other is_other;
       classed = λ p other is_other. classed_now p other is_other ∙ ap (λ (o : Option Class). if q == p then o else class_set notes p) is;
     };
+    ordered = s.ordered;
     regions = record { sqs = s.regions.sqs; cqs = s.regions.cqs };
     account = λ on_time. (let a = s.account on_time in record {
       each = (record { queue = queue; is_open = is_open; io = io; class_of_io = class_of_io }, a.each);

@@ -416,6 +416,7 @@ module _ (rules : FrontRules) (mechanism : Mechanism) (settings : ArbitrationFie
       doorbells = new_doorbells;
       tags = new_tags;
       shown = record { held = λ q queue is. refl; classed = λ q queue is. refl };
+      ordered = λ x. refl;
       regions = first_made rules first.placing first.sq_address sq_slots first.cq_address cq_slots first.regions_are (board_of board) board_stands queues;
       account = λ on_time. record { each = tt; lawful = tt; effects_whole = refl };
     }

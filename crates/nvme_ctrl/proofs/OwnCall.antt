@@ -34,6 +34,7 @@ owned rules late notes c slots own depths s = record {
   doorbells = (let d = s.doorbells in record { sqs = d.sqs; cqs = d.cqs });
   tags = s.tags;
   shown = record { held = s.shown.held; classed = s.shown.classed };
+  ordered = s.ordered;
   regions = record { sqs = s.regions.sqs; cqs = s.regions.cqs };
   account = s.account;
 }

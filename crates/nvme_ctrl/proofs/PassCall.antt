@@ -82,13 +82,13 @@ module _ (rules : FrontRules) (late : Bool) (notes : Notes) (c : Controller) (sl
   can_be = can_admin rules late notes c slots s none pick board lawful stands queues arbiter first_is
 
   abbrev x : Item
-  x = (oldest rules late notes c slots k g s.holds s.shown s.account keeps none pick board can_be arbiter first_is one_is).first
+  x = (oldest rules late notes c slots k g s.holds s.shown s.ordered s.account keeps none pick board can_be arbiter first_is one_is).first
 
   abbrev rest : List Item
-  rest = (oldest rules late notes c slots k g s.holds s.shown s.account keeps none pick board can_be arbiter first_is one_is).rest
+  rest = (oldest rules late notes c slots k g s.holds s.shown s.ordered s.account keeps none pick board can_be arbiter first_is one_is).rest
 
   windows_are : g.windows 0 ≡ x ∷ rest
-  windows_are = (oldest rules late notes c slots k g s.holds s.shown s.account keeps none pick board can_be arbiter first_is one_is).is
+  windows_are = (oldest rules late notes c slots k g s.holds s.shown s.ordered s.account keeps none pick board can_be arbiter first_is one_is).is
 
   abbrev queue : Queue
   queue = (due rules late notes c slots s none pick board lawful stands queues arbiter).queue
@@ -109,15 +109,15 @@ module _ (rules : FrontRules) (late : Bool) (notes : Notes) (c : Controller) (sl
   later = Passed i ∷ picked_notes notes pick
 
   window_here : (k.sq 0).window ≡ candidate_of x ∷ map candidate_of rest
-  window_here = window_is rules late notes c slots k g s.holds s.shown s.account keeps none pick board can_be arbiter first_is one_is
+  window_here = window_is rules late notes c slots k g s.holds s.shown s.ordered s.account keeps none pick board can_be arbiter first_is one_is
 
   waits_there : IsWaitingIn slots 0 0 x
-  waits_there = first rules late notes c slots k g s.holds s.shown s.account keeps none pick board can_be arbiter first_is one_is
+  waits_there = first rules late notes c slots k g s.holds s.shown s.ordered s.account keeps none pick board can_be arbiter first_is one_is
 
   -- it is the one that is looked at
   entry_is : x.entry ≡ oldest_entry c slots
   entry_is =
-      let there = linked rules late notes c slots k g s.holds s.shown s.account keeps none pick board can_be arbiter first_is one_is in
+      let there = linked rules late notes c slots k g s.holds s.shown s.ordered s.account keeps none pick board can_be arbiter first_is one_is in
       let first_slot : (sq_at c.sqs 0).window.first ≡ x.tag = linked-head slots (sq_at c.sqs 0).window.first (sq_at c.sqs 0).window.last x.tag (tags_of rest) there.linked in
       sym (ap (λ (z : ℕ). (slot_at slots z).entry) first_slot ∙ waits_there.entry)
 
@@ -267,7 +267,7 @@ module _ (rules : FrontRules) (late : Bool) (notes : Notes) (c : Controller) (sl
   -- the note is lawful
   unanswered : answer_of notes 0 i ≡ None
   unanswered = subst (λ (r : ℕ). answer_of notes r i ≡ None) waits_there.place
-      (All-head (λ (it : Item). IsUnanswered notes it.place) x rest (unanswered_all rules late notes c slots k g s.holds s.shown s.account keeps none pick board can_be arbiter first_is one_is))
+      (All-head (λ (it : Item). IsUnanswered notes it.place) x rest (unanswered_all rules late notes c slots k g s.holds s.shown s.ordered s.account keeps none pick board can_be arbiter first_is one_is))
 
   is_passed_now : IsPassed (picked_notes notes pick) i
   is_passed_now = record {
@@ -295,6 +295,7 @@ module _ (rules : FrontRules) (late : Bool) (notes : Notes) (c : Controller) (sl
     doorbells = pass-doorbells;
     tags = pass-tags;
     shown = record { held = s.shown.held; classed = s.shown.classed };
+    ordered = s.ordered;
     regions = record { sqs = s.regions.sqs; cqs = s.regions.cqs };
     account = λ on_time.
         let next = next-io rules late now k queue (observed_of notes) pick (board_of board)
@@ -315,6 +316,7 @@ module _ (rules : FrontRules) (late : Bool) (notes : Notes) (c : Controller) (sl
                 fetches_submitted = tt;
                 posts_on_free_slot = tt;
                 posts_what_is_through = tt;
+                posts_in_order = tt;
               },
               (s.account on_time).each,
             ),

@@ -358,6 +358,7 @@ module _ (rules : FrontRules) (late : Bool) (notes : Notes) (c : Controller) (sl
       doorbells = pick-doorbells;
       tags = pick-tags;
       shown = record { held = s.shown.held; classed = s.shown.classed };
+      ordered = s.ordered;
       regions = record { sqs = s.regions.sqs; cqs = s.regions.cqs };
       account = λ on_time.
           let next = next-io rules late now k due.queue (observed_of notes) pick (board_of board) attached.cq_region s.holds can saw (inl io) attached.attached pick-holds.regions on_time in
@@ -373,6 +374,7 @@ module _ (rules : FrontRules) (late : Bool) (notes : Notes) (c : Controller) (sl
                 fetches_submitted = tt;
                 posts_on_free_slot = tt;
                 posts_what_is_through = tt;
+                posts_in_order = tt;
               },
               (s.account on_time).each,
             );

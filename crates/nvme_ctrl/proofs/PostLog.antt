@@ -44,6 +44,7 @@ use Rattle.nvme_ctrl.proofs.PostItems.{tag, size_is, other_kept, tag_freed, read
 use Rattle.nvme_ctrl_log.proofs.OutTags.{still_not_out-logged}
 use Rattle.nvme_ctrl.proofs.SlotItems.{All-both, All-parts, at_put}
 use Rattle.nvme_ctrl.specs.kept.QueueSets.{with_queue}
+use Rattle.nvme_ctrl_content.proofs.Ordering.{first_is_next, order_posted}
 
 -- ---- who holds a tag after a post
 -- another place than the posted one keeps its tag
@@ -300,6 +301,7 @@ module _ (p : PostCall) where
         fetches_submitted = tt;
         posts_on_free_slot = omega (arith, has_room p, p.stands.holds.tabled.cq_slots p.x, (p.stands.numbers.cqs.each p.cqid p.x p.life).slots);
         posts_what_is_through = is_done;
+        posts_in_order = first_is_next p.notes (content p) p.stands.ordered p.x p.item.ready (readies_of p.rest) (cqe_of p) (oldest_is p);
       }
 
   pub account_after : p.late ≡ false → IsAccount p.rules (notes_after p)
@@ -327,6 +329,7 @@ stands_after p = record {
   doorbells = doorbells_after p;
   tags = tags_after p;
   shown = record { held = p.stands.shown.held; classed = p.stands.shown.classed };
+  ordered = order_posted p.notes (content p) p.stands.ordered p.x p.item.ready (readies_of p.rest) (cqe_of p) (oldest_is p);
   regions = record { sqs = p.stands.regions.sqs; cqs = p.stands.regions.cqs };
   account = account_after p;
 }

@@ -91,6 +91,7 @@ module _ (rules : FrontRules) (regions : TableHistory) (sizes : List ℕ) (same 
     doorbells = record { sqs = s.doorbells.sqs; cqs = s.doorbells.cqs };
     tags = s.tags;
     shown = s.shown;
+    ordered = s.ordered;
     regions = s.regions;
     account = λ early. record { each = tt; lawful = tt; effects_whole = refl };
   }

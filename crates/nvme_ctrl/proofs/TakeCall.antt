@@ -392,6 +392,7 @@ module _ (rules : FrontRules) (late : Bool) (notes : Notes) (c : Controller) (sl
     doorbells = take-doorbells c slots s.content s.items s.numbers s.has it rest is some picked_life chain popped rules notes s.doorbells;
     tags = take-tags c slots s.content s.items s.numbers s.has it rest is some picked_life chain popped notes s.tags;
     shown = record { held = s.shown.held; classed = s.shown.classed };
+    ordered = s.ordered;
     regions = record { sqs = s.regions.sqs; cqs = s.regions.cqs };
     account = λ on_time. take-account c slots s.content s.items s.numbers s.has it rest is some picked_life chain popped rules notes s.tags (s.account on_time);
   }

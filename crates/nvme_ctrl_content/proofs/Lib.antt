@@ -12,6 +12,7 @@ mod QueueVerdicts
 pub mod QueueSteps
 pub mod Observing
 pub mod Showing
+pub mod Ordering
 pub mod Oldest
 mod DeletionSteps
 mod LifeSteps

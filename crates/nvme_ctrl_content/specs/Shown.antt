@@ -1,5 +1,5 @@
 -- What arbitration is shown of the queues that a controller keeps, and its regions where queues may lie anywhere (profile).
-use Rattle.std.specs.Prelude.{◌≡◌, ℕ, suc, true, [], Some, is_some}
+use Rattle.std.specs.Prelude.{◌≡◌, ℕ, suc, true, Some, is_some}
 use Rattle.nvme_log.specs.Queues.{Queue, open_sq}
 use Rattle.nvme_ctrl_log.specs.Notes.{Notes, logged}
 use Rattle.nvme_ctrl_log.specs.Observation.{is_held, class_set}

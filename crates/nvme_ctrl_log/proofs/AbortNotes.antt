@@ -50,6 +50,7 @@ posted = record {
   fetches_submitted = tt;
   posts_on_free_slot = omega arith;
   posts_what_is_through = refl;
+  posts_in_order = refl;
 }
 
 pub posted_unaborted : IsLawful one_deletion abort_answered (Logged (Post 0 0 2 (abort_done 1))) → ⊥
@@ -70,4 +71,5 @@ read_posted = record {
   fetches_submitted = tt;
   posts_on_free_slot = omega arith;
   posts_what_is_through = refl;
+  posts_in_order = refl;
 }

@@ -42,15 +42,15 @@ pub held_account : IsAccount one_deletion held_and_deleted
 unfolding effects_of queue_table status_of dw0_of verdict_of
 held_account = record {
   each = (
-    record { index_counts = tt; served_while_open = tt; observed = tt; effects_at_once = ([], refl); deletes = refl; posts_own = tt; fetches_submitted = tt; posts_on_free_slot = tt; posts_what_is_through = tt },
+    record { index_counts = tt; served_while_open = tt; observed = tt; effects_at_once = ([], refl); deletes = refl; posts_own = tt; fetches_submitted = tt; posts_on_free_slot = tt; posts_what_is_through = tt; posts_in_order = tt },
     (
-      record { index_counts = tt; served_while_open = tt; observed = tt; effects_at_once = (Abort 1 2 ∷ [], refl); deletes = refl; posts_own = tt; fetches_submitted = tt; posts_on_free_slot = tt; posts_what_is_through = tt },
+      record { index_counts = tt; served_while_open = tt; observed = tt; effects_at_once = (Abort 1 2 ∷ [], refl); deletes = refl; posts_own = tt; fetches_submitted = tt; posts_on_free_slot = tt; posts_what_is_through = tt; posts_in_order = tt },
       (
-        record { index_counts = tt; served_while_open = tt; observed = tt; effects_at_once = (Abort 1 1 ∷ Abort 1 2 ∷ [], refl); deletes = refl; posts_own = tt; fetches_submitted = tt; posts_on_free_slot = tt; posts_what_is_through = tt },
+        record { index_counts = tt; served_while_open = tt; observed = tt; effects_at_once = (Abort 1 1 ∷ Abort 1 2 ∷ [], refl); deletes = refl; posts_own = tt; fetches_submitted = tt; posts_on_free_slot = tt; posts_what_is_through = tt; posts_in_order = tt },
         (
-          record { index_counts = tt; served_while_open = tt; observed = tt; effects_at_once = (Abort 1 0 ∷ Abort 1 1 ∷ Abort 1 2 ∷ [], refl); deletes = (refl, refl); posts_own = tt; fetches_submitted = tt; posts_on_free_slot = tt; posts_what_is_through = tt },
+          record { index_counts = tt; served_while_open = tt; observed = tt; effects_at_once = (Abort 1 0 ∷ Abort 1 1 ∷ Abort 1 2 ∷ [], refl); deletes = (refl, refl); posts_own = tt; fetches_submitted = tt; posts_on_free_slot = tt; posts_what_is_through = tt; posts_in_order = tt },
           (
-            record { index_counts = tt; served_while_open = refl; observed = refl; effects_at_once = refl; deletes = refl; posts_own = tt; fetches_submitted = tt; posts_on_free_slot = tt; posts_what_is_through = tt },
+            record { index_counts = tt; served_while_open = refl; observed = refl; effects_at_once = refl; deletes = refl; posts_own = tt; fetches_submitted = tt; posts_on_free_slot = tt; posts_what_is_through = tt; posts_in_order = tt },
             (record { queue = record { region = 1; cqid = 1; class = Urgent }; is_open = refl }, each_of_reads),
           ),
         ),
@@ -65,7 +65,7 @@ pub classed_account : IsAccount one_deletion classed_and_picked
 unfolding effects_of queue_table status_of dw0_of verdict_of
 classed_account = record {
   each = (
-    record { index_counts = tt; served_while_open = refl; observed = refl; effects_at_once = refl; deletes = refl; posts_own = tt; fetches_submitted = tt; posts_on_free_slot = tt; posts_what_is_through = tt },
+    record { index_counts = tt; served_while_open = refl; observed = refl; effects_at_once = refl; deletes = refl; posts_own = tt; fetches_submitted = tt; posts_on_free_slot = tt; posts_what_is_through = tt; posts_in_order = tt },
     (record { queue = record { region = 1; cqid = 1; class = Urgent }; is_open = refl; io = λ e. cc e; class_of_io = λ e. cc e }, each_of_reads),
   );
   lawful = lawful_is_limited one_deletion.mechanism one_deletion.start.settings (arbitration_of (logged classed_and_picked)) (search rules);

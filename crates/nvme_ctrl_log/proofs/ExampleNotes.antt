@@ -13,43 +13,43 @@ use Rattle.nvme_log.specs.Aborts.{is_index}
 each_of_two : EachNote (IsLawful two_slots) two_passes
 unfolding effects_of queue_table status_of dw0_of verdict_of
 each_of_two = (
-  record { index_counts = tt; served_while_open = tt; observed = tt; effects_at_once = refl; deletes = (refl, λ s. refl); posts_own = (refl, refl, record { entry = get_arbitration 3; is_there = refl; region = refl; sqid = refl; cid = refl; status = refl; dw0 = refl; sqhd = refl; phase = refl }); fetches_submitted = tt; posts_on_free_slot = omega arith; posts_what_is_through = refl },
+  record { index_counts = tt; served_while_open = tt; observed = tt; effects_at_once = refl; deletes = (refl, λ s. refl); posts_own = (refl, refl, record { entry = get_arbitration 3; is_there = refl; region = refl; sqid = refl; cid = refl; status = refl; dw0 = refl; sqhd = refl; phase = refl }); fetches_submitted = tt; posts_on_free_slot = omega arith; posts_what_is_through = refl; posts_in_order = refl },
   (
     record { first = refl; executed = record { entry = get_arbitration 3; is_there = refl; picked = refl; whole = refl; finished = λ r. refl; status = refl; dw0 = refl } },
     (
-      record { index_counts = tt; served_while_open = refl; observed = refl; effects_at_once = refl; deletes = refl; posts_own = tt; fetches_submitted = tt; posts_on_free_slot = tt; posts_what_is_through = tt },
+      record { index_counts = tt; served_while_open = refl; observed = refl; effects_at_once = refl; deletes = refl; posts_own = tt; fetches_submitted = tt; posts_on_free_slot = tt; posts_what_is_through = tt; posts_in_order = tt },
       (
         record { is_open = refl; is_slot = omega arith; posted = omega arith },
         (
-          record { index_counts = tt; served_while_open = tt; observed = tt; effects_at_once = refl; deletes = (refl, λ s. refl); posts_own = (refl, refl, record { entry = get_arbitration 2; is_there = refl; region = refl; sqid = refl; cid = refl; status = refl; dw0 = refl; sqhd = refl; phase = refl }); fetches_submitted = tt; posts_on_free_slot = omega arith; posts_what_is_through = refl },
+          record { index_counts = tt; served_while_open = tt; observed = tt; effects_at_once = refl; deletes = (refl, λ s. refl); posts_own = (refl, refl, record { entry = get_arbitration 2; is_there = refl; region = refl; sqid = refl; cid = refl; status = refl; dw0 = refl; sqhd = refl; phase = refl }); fetches_submitted = tt; posts_on_free_slot = omega arith; posts_what_is_through = refl; posts_in_order = refl },
           (
             record { first = refl; executed = record { entry = get_arbitration 2; is_there = refl; picked = refl; whole = refl; finished = λ r. refl; status = refl; dw0 = refl } },
             (
-              record { index_counts = tt; served_while_open = refl; observed = refl; effects_at_once = refl; deletes = refl; posts_own = tt; fetches_submitted = tt; posts_on_free_slot = tt; posts_what_is_through = tt },
+              record { index_counts = tt; served_while_open = refl; observed = refl; effects_at_once = refl; deletes = refl; posts_own = tt; fetches_submitted = tt; posts_on_free_slot = tt; posts_what_is_through = tt; posts_in_order = tt },
               (
                 record { is_open = refl; is_slot = omega arith; posted = omega arith },
                 (
-                  record { index_counts = tt; served_while_open = tt; observed = tt; effects_at_once = refl; deletes = (refl, λ s. refl); posts_own = (refl, refl, record { entry = get_arbitration 1; is_there = refl; region = refl; sqid = refl; cid = refl; status = refl; dw0 = refl; sqhd = refl; phase = refl }); fetches_submitted = tt; posts_on_free_slot = omega arith; posts_what_is_through = refl },
+                  record { index_counts = tt; served_while_open = tt; observed = tt; effects_at_once = refl; deletes = (refl, λ s. refl); posts_own = (refl, refl, record { entry = get_arbitration 1; is_there = refl; region = refl; sqid = refl; cid = refl; status = refl; dw0 = refl; sqhd = refl; phase = refl }); fetches_submitted = tt; posts_on_free_slot = omega arith; posts_what_is_through = refl; posts_in_order = refl },
                   (
                     record { first = refl; executed = record { entry = get_arbitration 1; is_there = refl; picked = refl; whole = refl; finished = λ r. refl; status = refl; dw0 = refl } },
                     (
-                      record { index_counts = tt; served_while_open = refl; observed = refl; effects_at_once = refl; deletes = refl; posts_own = tt; fetches_submitted = tt; posts_on_free_slot = tt; posts_what_is_through = tt },
+                      record { index_counts = tt; served_while_open = refl; observed = refl; effects_at_once = refl; deletes = refl; posts_own = tt; fetches_submitted = tt; posts_on_free_slot = tt; posts_what_is_through = tt; posts_in_order = tt },
                       (
                         record { is_open = refl; is_slot = omega arith; posted = omega arith },
                         (
-                          record { index_counts = tt; served_while_open = tt; observed = tt; effects_at_once = refl; deletes = (refl, λ s. refl); posts_own = (refl, refl, record { entry = get_arbitration 0; is_there = refl; region = refl; sqid = refl; cid = refl; status = refl; dw0 = refl; sqhd = refl; phase = refl }); fetches_submitted = tt; posts_on_free_slot = omega arith; posts_what_is_through = refl },
+                          record { index_counts = tt; served_while_open = tt; observed = tt; effects_at_once = refl; deletes = (refl, λ s. refl); posts_own = (refl, refl, record { entry = get_arbitration 0; is_there = refl; region = refl; sqid = refl; cid = refl; status = refl; dw0 = refl; sqhd = refl; phase = refl }); fetches_submitted = tt; posts_on_free_slot = omega arith; posts_what_is_through = refl; posts_in_order = refl },
                           (
                             record { first = refl; executed = record { entry = get_arbitration 0; is_there = refl; picked = refl; whole = refl; finished = λ r. refl; status = refl; dw0 = refl } },
                             (
-                              record { index_counts = tt; served_while_open = refl; observed = refl; effects_at_once = refl; deletes = refl; posts_own = tt; fetches_submitted = tt; posts_on_free_slot = tt; posts_what_is_through = tt },
+                              record { index_counts = tt; served_while_open = refl; observed = refl; effects_at_once = refl; deletes = refl; posts_own = tt; fetches_submitted = tt; posts_on_free_slot = tt; posts_what_is_through = tt; posts_in_order = tt },
                               (
-                                record { index_counts = refl; served_while_open = (refl, refl); observed = tt; effects_at_once = refl; deletes = (refl, refl); posts_own = tt; fetches_submitted = omega arith; posts_on_free_slot = tt; posts_what_is_through = tt },
+                                record { index_counts = refl; served_while_open = (refl, refl); observed = tt; effects_at_once = refl; deletes = (refl, refl); posts_own = tt; fetches_submitted = omega arith; posts_on_free_slot = tt; posts_what_is_through = tt; posts_in_order = tt },
                                 (
-                                  record { index_counts = refl; served_while_open = (refl, refl); observed = tt; effects_at_once = refl; deletes = (refl, refl); posts_own = tt; fetches_submitted = omega arith; posts_on_free_slot = tt; posts_what_is_through = tt },
+                                  record { index_counts = refl; served_while_open = (refl, refl); observed = tt; effects_at_once = refl; deletes = (refl, refl); posts_own = tt; fetches_submitted = omega arith; posts_on_free_slot = tt; posts_what_is_through = tt; posts_in_order = tt },
                                   (
-                                    record { index_counts = refl; served_while_open = (refl, refl); observed = tt; effects_at_once = refl; deletes = (refl, refl); posts_own = tt; fetches_submitted = omega arith; posts_on_free_slot = tt; posts_what_is_through = tt },
+                                    record { index_counts = refl; served_while_open = (refl, refl); observed = tt; effects_at_once = refl; deletes = (refl, refl); posts_own = tt; fetches_submitted = omega arith; posts_on_free_slot = tt; posts_what_is_through = tt; posts_in_order = tt },
                                     (
-                                      record { index_counts = refl; served_while_open = (refl, refl); observed = tt; effects_at_once = refl; deletes = (refl, refl); posts_own = tt; fetches_submitted = omega arith; posts_on_free_slot = tt; posts_what_is_through = tt },
+                                      record { index_counts = refl; served_while_open = (refl, refl); observed = tt; effects_at_once = refl; deletes = (refl, refl); posts_own = tt; fetches_submitted = omega arith; posts_on_free_slot = tt; posts_what_is_through = tt; posts_in_order = tt },
                                       (
                                         record { is_open = refl; is_slot = omega arith; fits = omega arith },
                                         tt,
@@ -86,61 +86,61 @@ over false i = refl
 each_of_deletion : EachNote (IsLawful one_deletion) deletion_noted
 unfolding effects_of queue_table status_of dw0_of verdict_of
 each_of_deletion = (
-  record { index_counts = tt; served_while_open = tt; observed = tt; effects_at_once = refl; deletes = (refl, λ s. over (1 == s) 2); posts_own = (refl, refl, record { entry = delete_sq; is_there = refl; region = refl; sqid = refl; cid = refl; status = refl; dw0 = refl; sqhd = refl; phase = refl }); fetches_submitted = tt; posts_on_free_slot = omega arith; posts_what_is_through = refl },
+  record { index_counts = tt; served_while_open = tt; observed = tt; effects_at_once = refl; deletes = (refl, λ s. over (1 == s) 2); posts_own = (refl, refl, record { entry = delete_sq; is_there = refl; region = refl; sqid = refl; cid = refl; status = refl; dw0 = refl; sqhd = refl; phase = refl }); fetches_submitted = tt; posts_on_free_slot = omega arith; posts_what_is_through = refl; posts_in_order = refl },
   (
     record { first = refl; executed = record { entry = delete_sq; is_there = refl; picked = refl; whole = refl; finished = λ r. over (1 == r) 2; status = refl; dw0 = refl } },
     (
-      record { index_counts = tt; served_while_open = tt; observed = tt; effects_at_once = refl; deletes = (refl, refl, refl); posts_own = tt; fetches_submitted = tt; posts_on_free_slot = tt; posts_what_is_through = tt },
+      record { index_counts = tt; served_while_open = tt; observed = tt; effects_at_once = refl; deletes = (refl, refl, refl); posts_own = tt; fetches_submitted = tt; posts_on_free_slot = tt; posts_what_is_through = tt; posts_in_order = tt },
       (
-        record { index_counts = tt; served_while_open = tt; observed = tt; effects_at_once = refl; deletes = (refl, λ s. refl); posts_own = (refl, refl, record { entry = read 0; is_there = refl; region = refl; sqid = refl; cid = refl; status = refl; dw0 = refl; sqhd = refl; phase = refl }); fetches_submitted = tt; posts_on_free_slot = omega arith; posts_what_is_through = refl },
+        record { index_counts = tt; served_while_open = tt; observed = tt; effects_at_once = refl; deletes = (refl, λ s. refl); posts_own = (refl, refl, record { entry = read 0; is_there = refl; region = refl; sqid = refl; cid = refl; status = refl; dw0 = refl; sqhd = refl; phase = refl }); fetches_submitted = tt; posts_on_free_slot = omega arith; posts_what_is_through = refl; posts_in_order = refl },
         (
           record { first = refl; executed = record { tag = 7; stands = refl } },
           (
-            record { index_counts = tt; served_while_open = tt; observed = tt; effects_at_once = refl; deletes = (refl, λ s. refl); posts_own = (refl, refl, record { entry = read 2; is_there = refl; region = refl; sqid = refl; cid = refl; status = refl; dw0 = refl; sqhd = refl; phase = refl }); fetches_submitted = tt; posts_on_free_slot = omega arith; posts_what_is_through = refl },
+            record { index_counts = tt; served_while_open = tt; observed = tt; effects_at_once = refl; deletes = (refl, λ s. refl); posts_own = (refl, refl, record { entry = read 2; is_there = refl; region = refl; sqid = refl; cid = refl; status = refl; dw0 = refl; sqhd = refl; phase = refl }); fetches_submitted = tt; posts_on_free_slot = omega arith; posts_what_is_through = refl; posts_in_order = refl },
             (
-              record { index_counts = tt; served_while_open = tt; observed = tt; effects_at_once = refl; deletes = (refl, λ s. refl); posts_own = (refl, refl, record { entry = read 1; is_there = refl; region = refl; sqid = refl; cid = refl; status = refl; dw0 = refl; sqhd = refl; phase = refl }); fetches_submitted = tt; posts_on_free_slot = omega arith; posts_what_is_through = refl },
+              record { index_counts = tt; served_while_open = tt; observed = tt; effects_at_once = refl; deletes = (refl, λ s. refl); posts_own = (refl, refl, record { entry = read 1; is_there = refl; region = refl; sqid = refl; cid = refl; status = refl; dw0 = refl; sqhd = refl; phase = refl }); fetches_submitted = tt; posts_on_free_slot = omega arith; posts_what_is_through = refl; posts_in_order = refl },
               (
-                record { index_counts = tt; served_while_open = tt; observed = tt; effects_at_once = ([], refl); deletes = refl; posts_own = tt; fetches_submitted = tt; posts_on_free_slot = tt; posts_what_is_through = tt },
+                record { index_counts = tt; served_while_open = tt; observed = tt; effects_at_once = ([], refl); deletes = refl; posts_own = tt; fetches_submitted = tt; posts_on_free_slot = tt; posts_what_is_through = tt; posts_in_order = tt },
                 (
-                  record { index_counts = tt; served_while_open = tt; observed = tt; effects_at_once = (Abort 1 2 ∷ [], refl); deletes = refl; posts_own = tt; fetches_submitted = tt; posts_on_free_slot = tt; posts_what_is_through = tt },
+                  record { index_counts = tt; served_while_open = tt; observed = tt; effects_at_once = (Abort 1 2 ∷ [], refl); deletes = refl; posts_own = tt; fetches_submitted = tt; posts_on_free_slot = tt; posts_what_is_through = tt; posts_in_order = tt },
                   (
-                    record { index_counts = tt; served_while_open = tt; observed = tt; effects_at_once = (Abort 1 1 ∷ Abort 1 2 ∷ [], refl); deletes = (refl, refl); posts_own = tt; fetches_submitted = tt; posts_on_free_slot = tt; posts_what_is_through = tt },
+                    record { index_counts = tt; served_while_open = tt; observed = tt; effects_at_once = (Abort 1 1 ∷ Abort 1 2 ∷ [], refl); deletes = (refl, refl); posts_own = tt; fetches_submitted = tt; posts_on_free_slot = tt; posts_what_is_through = tt; posts_in_order = tt },
                     (
-                      record { index_counts = tt; served_while_open = refl; observed = refl; effects_at_once = refl; deletes = refl; posts_own = tt; fetches_submitted = tt; posts_on_free_slot = tt; posts_what_is_through = tt },
+                      record { index_counts = tt; served_while_open = refl; observed = refl; effects_at_once = refl; deletes = refl; posts_own = tt; fetches_submitted = tt; posts_on_free_slot = tt; posts_what_is_through = tt; posts_in_order = tt },
                       (
                         record { next = refl; free = refl },
                         (
-                          record { index_counts = tt; served_while_open = refl; observed = refl; effects_at_once = refl; deletes = refl; posts_own = tt; fetches_submitted = tt; posts_on_free_slot = tt; posts_what_is_through = tt },
+                          record { index_counts = tt; served_while_open = refl; observed = refl; effects_at_once = refl; deletes = refl; posts_own = tt; fetches_submitted = tt; posts_on_free_slot = tt; posts_what_is_through = tt; posts_in_order = tt },
                           (
-                            record { index_counts = refl; served_while_open = (refl, refl); observed = tt; effects_at_once = refl; deletes = (refl, refl); posts_own = tt; fetches_submitted = omega arith; posts_on_free_slot = tt; posts_what_is_through = tt },
+                            record { index_counts = refl; served_while_open = (refl, refl); observed = tt; effects_at_once = refl; deletes = (refl, refl); posts_own = tt; fetches_submitted = omega arith; posts_on_free_slot = tt; posts_what_is_through = tt; posts_in_order = tt },
                             (
-                              record { index_counts = refl; served_while_open = (refl, refl); observed = tt; effects_at_once = refl; deletes = (refl, refl); posts_own = tt; fetches_submitted = omega arith; posts_on_free_slot = tt; posts_what_is_through = tt },
+                              record { index_counts = refl; served_while_open = (refl, refl); observed = tt; effects_at_once = refl; deletes = (refl, refl); posts_own = tt; fetches_submitted = omega arith; posts_on_free_slot = tt; posts_what_is_through = tt; posts_in_order = tt },
                               (
-                                record { index_counts = refl; served_while_open = (refl, refl); observed = tt; effects_at_once = refl; deletes = (refl, refl); posts_own = tt; fetches_submitted = omega arith; posts_on_free_slot = tt; posts_what_is_through = tt },
+                                record { index_counts = refl; served_while_open = (refl, refl); observed = tt; effects_at_once = refl; deletes = (refl, refl); posts_own = tt; fetches_submitted = omega arith; posts_on_free_slot = tt; posts_what_is_through = tt; posts_in_order = tt },
                                 (
                                   record { is_open = refl; is_slot = omega arith; fits = omega arith },
                                   (
-                                    record { index_counts = tt; served_while_open = tt; observed = tt; effects_at_once = refl; deletes = (refl, λ s. refl); posts_own = (refl, refl, record { entry = create_sq; is_there = refl; region = refl; sqid = refl; cid = refl; status = refl; dw0 = refl; sqhd = refl; phase = refl }); fetches_submitted = tt; posts_on_free_slot = omega arith; posts_what_is_through = refl },
+                                    record { index_counts = tt; served_while_open = tt; observed = tt; effects_at_once = refl; deletes = (refl, λ s. refl); posts_own = (refl, refl, record { entry = create_sq; is_there = refl; region = refl; sqid = refl; cid = refl; status = refl; dw0 = refl; sqhd = refl; phase = refl }); fetches_submitted = tt; posts_on_free_slot = omega arith; posts_what_is_through = refl; posts_in_order = refl },
                                     (
                                       record { first = refl; executed = record { entry = create_sq; is_there = refl; picked = refl; whole = refl; finished = λ r. refl; status = refl; dw0 = refl } },
                                       (
-                                        record { index_counts = tt; served_while_open = tt; observed = tt; effects_at_once = ([], refl); deletes = tt; posts_own = tt; fetches_submitted = tt; posts_on_free_slot = tt; posts_what_is_through = tt },
+                                        record { index_counts = tt; served_while_open = tt; observed = tt; effects_at_once = ([], refl); deletes = tt; posts_own = tt; fetches_submitted = tt; posts_on_free_slot = tt; posts_what_is_through = tt; posts_in_order = tt },
                                         (
-                                          record { index_counts = tt; served_while_open = refl; observed = refl; effects_at_once = refl; deletes = refl; posts_own = tt; fetches_submitted = tt; posts_on_free_slot = tt; posts_what_is_through = tt },
+                                          record { index_counts = tt; served_while_open = refl; observed = refl; effects_at_once = refl; deletes = refl; posts_own = tt; fetches_submitted = tt; posts_on_free_slot = tt; posts_what_is_through = tt; posts_in_order = tt },
                                           (
-                                            record { index_counts = tt; served_while_open = tt; observed = tt; effects_at_once = refl; deletes = (refl, λ s. refl); posts_own = (refl, refl, record { entry = create_cq; is_there = refl; region = refl; sqid = refl; cid = refl; status = refl; dw0 = refl; sqhd = refl; phase = refl }); fetches_submitted = tt; posts_on_free_slot = omega arith; posts_what_is_through = refl },
+                                            record { index_counts = tt; served_while_open = tt; observed = tt; effects_at_once = refl; deletes = (refl, λ s. refl); posts_own = (refl, refl, record { entry = create_cq; is_there = refl; region = refl; sqid = refl; cid = refl; status = refl; dw0 = refl; sqhd = refl; phase = refl }); fetches_submitted = tt; posts_on_free_slot = omega arith; posts_what_is_through = refl; posts_in_order = refl },
                                             (
                                               record { first = refl; executed = record { entry = create_cq; is_there = refl; picked = refl; whole = refl; finished = λ r. refl; status = refl; dw0 = refl } },
                                               (
-                                                record { index_counts = tt; served_while_open = tt; observed = tt; effects_at_once = ([], refl); deletes = tt; posts_own = tt; fetches_submitted = tt; posts_on_free_slot = tt; posts_what_is_through = tt },
+                                                record { index_counts = tt; served_while_open = tt; observed = tt; effects_at_once = ([], refl); deletes = tt; posts_own = tt; fetches_submitted = tt; posts_on_free_slot = tt; posts_what_is_through = tt; posts_in_order = tt },
                                                 (
-                                                  record { index_counts = tt; served_while_open = refl; observed = refl; effects_at_once = refl; deletes = refl; posts_own = tt; fetches_submitted = tt; posts_on_free_slot = tt; posts_what_is_through = tt },
+                                                  record { index_counts = tt; served_while_open = refl; observed = refl; effects_at_once = refl; deletes = refl; posts_own = tt; fetches_submitted = tt; posts_on_free_slot = tt; posts_what_is_through = tt; posts_in_order = tt },
                                                   (
-                                                    record { index_counts = refl; served_while_open = (refl, refl); observed = tt; effects_at_once = refl; deletes = (refl, refl); posts_own = tt; fetches_submitted = omega arith; posts_on_free_slot = tt; posts_what_is_through = tt },
+                                                    record { index_counts = refl; served_while_open = (refl, refl); observed = tt; effects_at_once = refl; deletes = (refl, refl); posts_own = tt; fetches_submitted = omega arith; posts_on_free_slot = tt; posts_what_is_through = tt; posts_in_order = tt },
                                                     (
-                                                      record { index_counts = refl; served_while_open = (refl, refl); observed = tt; effects_at_once = refl; deletes = (refl, refl); posts_own = tt; fetches_submitted = omega arith; posts_on_free_slot = tt; posts_what_is_through = tt },
+                                                      record { index_counts = refl; served_while_open = (refl, refl); observed = tt; effects_at_once = refl; deletes = (refl, refl); posts_own = tt; fetches_submitted = omega arith; posts_on_free_slot = tt; posts_what_is_through = tt; posts_in_order = tt },
                                                       (
-                                                        record { index_counts = refl; served_while_open = (refl, refl); observed = tt; effects_at_once = refl; deletes = (refl, refl); posts_own = tt; fetches_submitted = omega arith; posts_on_free_slot = tt; posts_what_is_through = tt },
+                                                        record { index_counts = refl; served_while_open = (refl, refl); observed = tt; effects_at_once = refl; deletes = (refl, refl); posts_own = tt; fetches_submitted = omega arith; posts_on_free_slot = tt; posts_what_is_through = tt; posts_in_order = tt },
                                                         (
                                                           record { is_open = refl; is_slot = omega arith; fits = omega arith },
                                                           tt,
@@ -192,93 +192,93 @@ first_over false false = refl
 each_of_two_deletions : EachNote (IsLawful two_deletions) both_gone
 unfolding effects_of queue_table status_of dw0_of verdict_of
 each_of_two_deletions = (
-  record { index_counts = tt; served_while_open = tt; observed = tt; effects_at_once = refl; deletes = (refl, λ s. first_over (1 == s) (2 == s)); posts_own = (refl, refl, record { entry = delete_queue 4 1; is_there = refl; region = refl; sqid = refl; cid = refl; status = refl; dw0 = refl; sqhd = refl; phase = refl }); fetches_submitted = tt; posts_on_free_slot = omega arith; posts_what_is_through = refl },
+  record { index_counts = tt; served_while_open = tt; observed = tt; effects_at_once = refl; deletes = (refl, λ s. first_over (1 == s) (2 == s)); posts_own = (refl, refl, record { entry = delete_queue 4 1; is_there = refl; region = refl; sqid = refl; cid = refl; status = refl; dw0 = refl; sqhd = refl; phase = refl }); fetches_submitted = tt; posts_on_free_slot = omega arith; posts_what_is_through = refl; posts_in_order = refl },
   (
     record { first = refl; executed = record { entry = delete_queue 4 1; is_there = refl; picked = refl; whole = refl; finished = λ r. first_over (1 == r) (2 == r); status = refl; dw0 = refl } },
     (
-      record { index_counts = tt; served_while_open = tt; observed = tt; effects_at_once = refl; deletes = (refl, refl, refl); posts_own = tt; fetches_submitted = tt; posts_on_free_slot = tt; posts_what_is_through = tt },
+      record { index_counts = tt; served_while_open = tt; observed = tt; effects_at_once = refl; deletes = (refl, refl, refl); posts_own = tt; fetches_submitted = tt; posts_on_free_slot = tt; posts_what_is_through = tt; posts_in_order = tt },
       (
-        record { index_counts = tt; served_while_open = tt; observed = tt; effects_at_once = refl; deletes = (refl, λ s. refl); posts_own = (refl, refl, record { entry = read 0; is_there = refl; region = refl; sqid = refl; cid = refl; status = refl; dw0 = refl; sqhd = refl; phase = refl }); fetches_submitted = tt; posts_on_free_slot = omega arith; posts_what_is_through = refl },
+        record { index_counts = tt; served_while_open = tt; observed = tt; effects_at_once = refl; deletes = (refl, λ s. refl); posts_own = (refl, refl, record { entry = read 0; is_there = refl; region = refl; sqid = refl; cid = refl; status = refl; dw0 = refl; sqhd = refl; phase = refl }); fetches_submitted = tt; posts_on_free_slot = omega arith; posts_what_is_through = refl; posts_in_order = refl },
         (
           record { first = refl; executed = record { tag = 7; stands = refl } },
           (
-            record { index_counts = tt; served_while_open = tt; observed = tt; effects_at_once = refl; deletes = (refl, λ s. second_over (2 == s) (1 == s)); posts_own = (refl, refl, record { entry = delete_queue 5 2; is_there = refl; region = refl; sqid = refl; cid = refl; status = refl; dw0 = refl; sqhd = refl; phase = refl }); fetches_submitted = tt; posts_on_free_slot = omega arith; posts_what_is_through = refl },
+            record { index_counts = tt; served_while_open = tt; observed = tt; effects_at_once = refl; deletes = (refl, λ s. second_over (2 == s) (1 == s)); posts_own = (refl, refl, record { entry = delete_queue 5 2; is_there = refl; region = refl; sqid = refl; cid = refl; status = refl; dw0 = refl; sqhd = refl; phase = refl }); fetches_submitted = tt; posts_on_free_slot = omega arith; posts_what_is_through = refl; posts_in_order = refl },
             (
               record { first = refl; executed = record { entry = delete_queue 5 2; is_there = refl; picked = refl; whole = refl; finished = λ r. second_over (2 == r) (1 == r); status = refl; dw0 = refl } },
               (
-                record { index_counts = tt; served_while_open = tt; observed = tt; effects_at_once = refl; deletes = (refl, refl, refl); posts_own = tt; fetches_submitted = tt; posts_on_free_slot = tt; posts_what_is_through = tt },
+                record { index_counts = tt; served_while_open = tt; observed = tt; effects_at_once = refl; deletes = (refl, refl, refl); posts_own = tt; fetches_submitted = tt; posts_on_free_slot = tt; posts_what_is_through = tt; posts_in_order = tt },
                 (
-                  record { index_counts = tt; served_while_open = tt; observed = tt; effects_at_once = refl; deletes = (refl, λ s. refl); posts_own = (refl, refl, record { entry = read 0; is_there = refl; region = refl; sqid = refl; cid = refl; status = refl; dw0 = refl; sqhd = refl; phase = refl }); fetches_submitted = tt; posts_on_free_slot = omega arith; posts_what_is_through = refl },
+                  record { index_counts = tt; served_while_open = tt; observed = tt; effects_at_once = refl; deletes = (refl, λ s. refl); posts_own = (refl, refl, record { entry = read 0; is_there = refl; region = refl; sqid = refl; cid = refl; status = refl; dw0 = refl; sqhd = refl; phase = refl }); fetches_submitted = tt; posts_on_free_slot = omega arith; posts_what_is_through = refl; posts_in_order = refl },
                   (
                     record { first = refl; executed = record { tag = 8; stands = refl } },
                     (
                       record { next = refl; free = refl },
                       (
-                        record { index_counts = tt; served_while_open = refl; observed = refl; effects_at_once = refl; deletes = refl; posts_own = tt; fetches_submitted = tt; posts_on_free_slot = tt; posts_what_is_through = tt },
+                        record { index_counts = tt; served_while_open = refl; observed = refl; effects_at_once = refl; deletes = refl; posts_own = tt; fetches_submitted = tt; posts_on_free_slot = tt; posts_what_is_through = tt; posts_in_order = tt },
                         (
-                          record { index_counts = refl; served_while_open = (refl, refl); observed = tt; effects_at_once = refl; deletes = (refl, refl); posts_own = tt; fetches_submitted = omega arith; posts_on_free_slot = tt; posts_what_is_through = tt },
+                          record { index_counts = refl; served_while_open = (refl, refl); observed = tt; effects_at_once = refl; deletes = (refl, refl); posts_own = tt; fetches_submitted = omega arith; posts_on_free_slot = tt; posts_what_is_through = tt; posts_in_order = tt },
                           (
                             record { is_open = refl; is_slot = omega arith; fits = omega arith },
                             (
-                              record { index_counts = tt; served_while_open = tt; observed = tt; effects_at_once = ([], refl); deletes = (refl, refl); posts_own = tt; fetches_submitted = tt; posts_on_free_slot = tt; posts_what_is_through = tt },
+                              record { index_counts = tt; served_while_open = tt; observed = tt; effects_at_once = ([], refl); deletes = (refl, refl); posts_own = tt; fetches_submitted = tt; posts_on_free_slot = tt; posts_what_is_through = tt; posts_in_order = tt },
                               (
-                                record { index_counts = tt; served_while_open = refl; observed = refl; effects_at_once = refl; deletes = refl; posts_own = tt; fetches_submitted = tt; posts_on_free_slot = tt; posts_what_is_through = tt },
+                                record { index_counts = tt; served_while_open = refl; observed = refl; effects_at_once = refl; deletes = refl; posts_own = tt; fetches_submitted = tt; posts_on_free_slot = tt; posts_what_is_through = tt; posts_in_order = tt },
                                 (
-                                  record { index_counts = tt; served_while_open = tt; observed = tt; effects_at_once = ([], refl); deletes = (refl, refl); posts_own = tt; fetches_submitted = tt; posts_on_free_slot = tt; posts_what_is_through = tt },
+                                  record { index_counts = tt; served_while_open = tt; observed = tt; effects_at_once = ([], refl); deletes = (refl, refl); posts_own = tt; fetches_submitted = tt; posts_on_free_slot = tt; posts_what_is_through = tt; posts_in_order = tt },
                                   (
-                                    record { index_counts = tt; served_while_open = refl; observed = refl; effects_at_once = refl; deletes = refl; posts_own = tt; fetches_submitted = tt; posts_on_free_slot = tt; posts_what_is_through = tt },
+                                    record { index_counts = tt; served_while_open = refl; observed = refl; effects_at_once = refl; deletes = refl; posts_own = tt; fetches_submitted = tt; posts_on_free_slot = tt; posts_what_is_through = tt; posts_in_order = tt },
                                     (
                                       record { next = refl; free = refl },
                                       (
-                                        record { index_counts = tt; served_while_open = refl; observed = refl; effects_at_once = refl; deletes = refl; posts_own = tt; fetches_submitted = tt; posts_on_free_slot = tt; posts_what_is_through = tt },
+                                        record { index_counts = tt; served_while_open = refl; observed = refl; effects_at_once = refl; deletes = refl; posts_own = tt; fetches_submitted = tt; posts_on_free_slot = tt; posts_what_is_through = tt; posts_in_order = tt },
                                         (
-                                          record { index_counts = refl; served_while_open = (refl, refl); observed = tt; effects_at_once = refl; deletes = (refl, refl); posts_own = tt; fetches_submitted = omega arith; posts_on_free_slot = tt; posts_what_is_through = tt },
+                                          record { index_counts = refl; served_while_open = (refl, refl); observed = tt; effects_at_once = refl; deletes = (refl, refl); posts_own = tt; fetches_submitted = omega arith; posts_on_free_slot = tt; posts_what_is_through = tt; posts_in_order = tt },
                                           (
                                             record { is_open = refl; is_slot = omega arith; fits = omega arith },
                                             (
-                                              record { index_counts = tt; served_while_open = tt; observed = tt; effects_at_once = refl; deletes = (refl, λ s. refl); posts_own = (refl, refl, record { entry = create_queue 3; is_there = refl; region = refl; sqid = refl; cid = refl; status = refl; dw0 = refl; sqhd = refl; phase = refl }); fetches_submitted = tt; posts_on_free_slot = omega arith; posts_what_is_through = refl },
+                                              record { index_counts = tt; served_while_open = tt; observed = tt; effects_at_once = refl; deletes = (refl, λ s. refl); posts_own = (refl, refl, record { entry = create_queue 3; is_there = refl; region = refl; sqid = refl; cid = refl; status = refl; dw0 = refl; sqhd = refl; phase = refl }); fetches_submitted = tt; posts_on_free_slot = omega arith; posts_what_is_through = refl; posts_in_order = refl },
                                               (
                                                 record { first = refl; executed = record { entry = create_queue 3; is_there = refl; picked = refl; whole = refl; finished = λ r. refl; status = refl; dw0 = refl } },
                                                 (
-                                                  record { index_counts = tt; served_while_open = tt; observed = tt; effects_at_once = ([], refl); deletes = tt; posts_own = tt; fetches_submitted = tt; posts_on_free_slot = tt; posts_what_is_through = tt },
+                                                  record { index_counts = tt; served_while_open = tt; observed = tt; effects_at_once = ([], refl); deletes = tt; posts_own = tt; fetches_submitted = tt; posts_on_free_slot = tt; posts_what_is_through = tt; posts_in_order = tt },
                                                   (
-                                                    record { index_counts = tt; served_while_open = refl; observed = refl; effects_at_once = refl; deletes = refl; posts_own = tt; fetches_submitted = tt; posts_on_free_slot = tt; posts_what_is_through = tt },
+                                                    record { index_counts = tt; served_while_open = refl; observed = refl; effects_at_once = refl; deletes = refl; posts_own = tt; fetches_submitted = tt; posts_on_free_slot = tt; posts_what_is_through = tt; posts_in_order = tt },
                                                     (
-                                                      record { index_counts = tt; served_while_open = tt; observed = tt; effects_at_once = refl; deletes = (refl, λ s. refl); posts_own = (refl, refl, record { entry = create_queue 2; is_there = refl; region = refl; sqid = refl; cid = refl; status = refl; dw0 = refl; sqhd = refl; phase = refl }); fetches_submitted = tt; posts_on_free_slot = omega arith; posts_what_is_through = refl },
+                                                      record { index_counts = tt; served_while_open = tt; observed = tt; effects_at_once = refl; deletes = (refl, λ s. refl); posts_own = (refl, refl, record { entry = create_queue 2; is_there = refl; region = refl; sqid = refl; cid = refl; status = refl; dw0 = refl; sqhd = refl; phase = refl }); fetches_submitted = tt; posts_on_free_slot = omega arith; posts_what_is_through = refl; posts_in_order = refl },
                                                       (
                                                         record { first = refl; executed = record { entry = create_queue 2; is_there = refl; picked = refl; whole = refl; finished = λ r. refl; status = refl; dw0 = refl } },
                                                         (
-                                                          record { index_counts = tt; served_while_open = tt; observed = tt; effects_at_once = ([], refl); deletes = tt; posts_own = tt; fetches_submitted = tt; posts_on_free_slot = tt; posts_what_is_through = tt },
+                                                          record { index_counts = tt; served_while_open = tt; observed = tt; effects_at_once = ([], refl); deletes = tt; posts_own = tt; fetches_submitted = tt; posts_on_free_slot = tt; posts_what_is_through = tt; posts_in_order = tt },
                                                           (
-                                                            record { index_counts = tt; served_while_open = refl; observed = refl; effects_at_once = refl; deletes = refl; posts_own = tt; fetches_submitted = tt; posts_on_free_slot = tt; posts_what_is_through = tt },
+                                                            record { index_counts = tt; served_while_open = refl; observed = refl; effects_at_once = refl; deletes = refl; posts_own = tt; fetches_submitted = tt; posts_on_free_slot = tt; posts_what_is_through = tt; posts_in_order = tt },
                                                             (
-                                                              record { index_counts = tt; served_while_open = tt; observed = tt; effects_at_once = refl; deletes = (refl, λ s. refl); posts_own = (refl, refl, record { entry = create_queue 1; is_there = refl; region = refl; sqid = refl; cid = refl; status = refl; dw0 = refl; sqhd = refl; phase = refl }); fetches_submitted = tt; posts_on_free_slot = omega arith; posts_what_is_through = refl },
+                                                              record { index_counts = tt; served_while_open = tt; observed = tt; effects_at_once = refl; deletes = (refl, λ s. refl); posts_own = (refl, refl, record { entry = create_queue 1; is_there = refl; region = refl; sqid = refl; cid = refl; status = refl; dw0 = refl; sqhd = refl; phase = refl }); fetches_submitted = tt; posts_on_free_slot = omega arith; posts_what_is_through = refl; posts_in_order = refl },
                                                               (
                                                                 record { first = refl; executed = record { entry = create_queue 1; is_there = refl; picked = refl; whole = refl; finished = λ r. refl; status = refl; dw0 = refl } },
                                                                 (
-                                                                  record { index_counts = tt; served_while_open = tt; observed = tt; effects_at_once = ([], refl); deletes = tt; posts_own = tt; fetches_submitted = tt; posts_on_free_slot = tt; posts_what_is_through = tt },
+                                                                  record { index_counts = tt; served_while_open = tt; observed = tt; effects_at_once = ([], refl); deletes = tt; posts_own = tt; fetches_submitted = tt; posts_on_free_slot = tt; posts_what_is_through = tt; posts_in_order = tt },
                                                                   (
-                                                                    record { index_counts = tt; served_while_open = refl; observed = refl; effects_at_once = refl; deletes = refl; posts_own = tt; fetches_submitted = tt; posts_on_free_slot = tt; posts_what_is_through = tt },
+                                                                    record { index_counts = tt; served_while_open = refl; observed = refl; effects_at_once = refl; deletes = refl; posts_own = tt; fetches_submitted = tt; posts_on_free_slot = tt; posts_what_is_through = tt; posts_in_order = tt },
                                                                     (
-                                                                      record { index_counts = tt; served_while_open = tt; observed = tt; effects_at_once = refl; deletes = (refl, λ s. refl); posts_own = (refl, refl, record { entry = create_cq; is_there = refl; region = refl; sqid = refl; cid = refl; status = refl; dw0 = refl; sqhd = refl; phase = refl }); fetches_submitted = tt; posts_on_free_slot = omega arith; posts_what_is_through = refl },
+                                                                      record { index_counts = tt; served_while_open = tt; observed = tt; effects_at_once = refl; deletes = (refl, λ s. refl); posts_own = (refl, refl, record { entry = create_cq; is_there = refl; region = refl; sqid = refl; cid = refl; status = refl; dw0 = refl; sqhd = refl; phase = refl }); fetches_submitted = tt; posts_on_free_slot = omega arith; posts_what_is_through = refl; posts_in_order = refl },
                                                                       (
                                                                         record { first = refl; executed = record { entry = create_cq; is_there = refl; picked = refl; whole = refl; finished = λ r. refl; status = refl; dw0 = refl } },
                                                                         (
-                                                                          record { index_counts = tt; served_while_open = tt; observed = tt; effects_at_once = ([], refl); deletes = tt; posts_own = tt; fetches_submitted = tt; posts_on_free_slot = tt; posts_what_is_through = tt },
+                                                                          record { index_counts = tt; served_while_open = tt; observed = tt; effects_at_once = ([], refl); deletes = tt; posts_own = tt; fetches_submitted = tt; posts_on_free_slot = tt; posts_what_is_through = tt; posts_in_order = tt },
                                                                           (
-                                                                            record { index_counts = tt; served_while_open = refl; observed = refl; effects_at_once = refl; deletes = refl; posts_own = tt; fetches_submitted = tt; posts_on_free_slot = tt; posts_what_is_through = tt },
+                                                                            record { index_counts = tt; served_while_open = refl; observed = refl; effects_at_once = refl; deletes = refl; posts_own = tt; fetches_submitted = tt; posts_on_free_slot = tt; posts_what_is_through = tt; posts_in_order = tt },
                                                                             (
-                                                                              record { index_counts = refl; served_while_open = (refl, refl); observed = tt; effects_at_once = refl; deletes = (refl, refl); posts_own = tt; fetches_submitted = omega arith; posts_on_free_slot = tt; posts_what_is_through = tt },
+                                                                              record { index_counts = refl; served_while_open = (refl, refl); observed = tt; effects_at_once = refl; deletes = (refl, refl); posts_own = tt; fetches_submitted = omega arith; posts_on_free_slot = tt; posts_what_is_through = tt; posts_in_order = tt },
                                                                               (
-                                                                                record { index_counts = refl; served_while_open = (refl, refl); observed = tt; effects_at_once = refl; deletes = (refl, refl); posts_own = tt; fetches_submitted = omega arith; posts_on_free_slot = tt; posts_what_is_through = tt },
+                                                                                record { index_counts = refl; served_while_open = (refl, refl); observed = tt; effects_at_once = refl; deletes = (refl, refl); posts_own = tt; fetches_submitted = omega arith; posts_on_free_slot = tt; posts_what_is_through = tt; posts_in_order = tt },
                                                                                 (
-                                                                                  record { index_counts = refl; served_while_open = (refl, refl); observed = tt; effects_at_once = refl; deletes = (refl, refl); posts_own = tt; fetches_submitted = omega arith; posts_on_free_slot = tt; posts_what_is_through = tt },
+                                                                                  record { index_counts = refl; served_while_open = (refl, refl); observed = tt; effects_at_once = refl; deletes = (refl, refl); posts_own = tt; fetches_submitted = omega arith; posts_on_free_slot = tt; posts_what_is_through = tt; posts_in_order = tt },
                                                                                   (
-                                                                                    record { index_counts = refl; served_while_open = (refl, refl); observed = tt; effects_at_once = refl; deletes = (refl, refl); posts_own = tt; fetches_submitted = omega arith; posts_on_free_slot = tt; posts_what_is_through = tt },
+                                                                                    record { index_counts = refl; served_while_open = (refl, refl); observed = tt; effects_at_once = refl; deletes = (refl, refl); posts_own = tt; fetches_submitted = omega arith; posts_on_free_slot = tt; posts_what_is_through = tt; posts_in_order = tt },
                                                                                     (
-                                                                                      record { index_counts = refl; served_while_open = (refl, refl); observed = tt; effects_at_once = refl; deletes = (refl, refl); posts_own = tt; fetches_submitted = omega arith; posts_on_free_slot = tt; posts_what_is_through = tt },
+                                                                                      record { index_counts = refl; served_while_open = (refl, refl); observed = tt; effects_at_once = refl; deletes = (refl, refl); posts_own = tt; fetches_submitted = omega arith; posts_on_free_slot = tt; posts_what_is_through = tt; posts_in_order = tt },
                                                                                       (
-                                                                                        record { index_counts = refl; served_while_open = (refl, refl); observed = tt; effects_at_once = refl; deletes = (refl, refl); posts_own = tt; fetches_submitted = omega arith; posts_on_free_slot = tt; posts_what_is_through = tt },
+                                                                                        record { index_counts = refl; served_while_open = (refl, refl); observed = tt; effects_at_once = refl; deletes = (refl, refl); posts_own = tt; fetches_submitted = omega arith; posts_on_free_slot = tt; posts_what_is_through = tt; posts_in_order = tt },
                                                                                         (
                                                                                           record { is_open = refl; is_slot = omega arith; fits = omega arith },
                                                                                           tt,

@@ -185,6 +185,7 @@ module _ (rules : FrontRules) (kind : Kind) (a n : ℕ) (some_sqs : 0 < length (
       fetches_submitted = fetch-stays e left h.fetches_submitted;
       posts_on_free_slot = slot-stays e left h.posts_on_free_slot;
       posts_what_is_through = h.posts_what_is_through;
+      posts_in_order = h.posts_in_order;
     }
 
     -- ---- an answer

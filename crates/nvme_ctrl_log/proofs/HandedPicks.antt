@@ -1,6 +1,6 @@
 -- The picks whose commands are handed to the device.
 use Rattle.nvme_log.specs.Histories.{admin_entry}
-use Rattle.std.proofs.Common.{◌⊎◌, true, ◌≡◌, [], Some}
+use Rattle.std.proofs.Common.{◌⊎◌, true, ◌≡◌, Some}
 use Rattle.nvme_entry.specs.declared.submission.Sqe.{Sqe}
 use Rattle.nvme_arbiter.specs.declared.pick.Pick.{Pick}
 use Rattle.nvme_log.specs.Rules.{Past}

@@ -39,6 +39,7 @@ pub mod Sums
 mod LateNotes
 pub mod Handing
 mod Posting
+mod ReadyOrder
 mod PassedNotes
 mod AbortNotes
 pub mod ToldVerdicts

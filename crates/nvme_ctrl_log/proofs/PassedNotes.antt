@@ -41,6 +41,7 @@ posted = record {
   fetches_submitted = tt;
   posts_on_free_slot = omega arith;
   posts_what_is_through = refl;
+  posts_in_order = refl;
 }
 
 pub passed_twice : IsLawful two_slots identify_passed (Passed 0) → ⊥

@@ -1,16 +1,13 @@
 -- Which places of a region were picked or aborted, after one more event.
-use Rattle.std.proofs.Common.{◌≡◌, ℕ, ◌+◌, ◌<◌, ◌≤◌, ◌==◌, ◌||◌, nat_lt, Bool, true, false, if◌then◌else◌, List, [], ◌∷◌, ◌++◌, length, Some, take, ap, sym, refl, ◌∙◌, arith, inl, inr, ◌⊎◌}
+use Rattle.std.proofs.Common.{◌≡◌, ℕ, ◌+◌, ◌<◌, ◌≤◌, ◌==◌, nat_lt, Bool, true, false, if◌then◌else◌, List, [], ◌∷◌, ◌++◌, length, Some, ap, sym, refl, ◌∙◌, arith, inl, inr, ◌⊎◌}
 use Rattle.std.specs.Prelude.{slice_get}
 use Rattle.std.proofs.lemmas.List.{length_push}
-use Rattle.std.proofs.lemmas.List.Sums.{sum_by-append, sum_by-cons, sum_by-take-drop}
+use Rattle.std.proofs.lemmas.List.Sums.{sum_by-append, sum_by-cons}
 use Rattle.std.proofs.lemmas.Bool.{eq-eqb, ne_eqb, cases_order, lt-ltb, le-ltb}
 use Rattle.nvme_entry.specs.declared.submission.Sqe.{Sqe}
-use Rattle.nvme_arbiter.specs.declared.pick.Pick.{Pick}
-use Rattle.nvme_arbiter.specs.declared.pick.Seen.{Seen}
 use Rattle.nvme_log.specs.declared.event.Event.TheVariants as event
 use Rattle.nvme_log.specs.Rules.{Past}
-use Rattle.nvme_log.specs.Queues.{open_sq, has_region}
-use Rattle.nvme_log.specs.Places.{fetched, entry_at, picked, is_aborted, unaborted_below, fate_of, is_waiting, is_picked, waiting, one_if, is_served}
+use Rattle.nvme_log.specs.Places.{fetched, entry_at, picked, is_aborted, unaborted_below, waiting, one_if, is_served}
 use Rattle.nvme_log.proofs.Waiting.{times_among, served-or_waits, fetched-fetch, waiting-fetch}
 use Rattle.nvme_ctrl_log.proofs.LaterEvents.{with_events}
 use Rattle.nvme_ctrl_log.proofs.AbortTargets.{slice_get-append_left, aborts_of}

@@ -15,7 +15,7 @@ use Rattle.nvme_log.specs.Examples.{two_slots, one_deletion, create_cq, get_arbi
 use Rattle.nvme_ctrl_log.specs.Notes.{logged, Logged, Tail, Head, Kept, Taken, Answered, Flagged}
 use Rattle.nvme_ctrl_log.specs.Tags.{is_place}
 use Rattle.nvme_ctrl_log.specs.Account.{IsLawful}
-use Rattle.nvme_ctrl_log.specs.Examples.{told, three_of_four, four_fetched, first_picked, first_answered, first_posted, third_answered, succeeded, out_of_range, create_picked, reads_submitted, reads_waiting, read_picked, read_taken, delete_begun, aborts_posted, read_answered, reads_posted, not_retried, more_told, two_deletions, two_closing, third_served, second_gone}
+use Rattle.nvme_ctrl_log.specs.Examples.{told, three_of_four, four_fetched, first_picked, first_answered, first_posted, third_answered, succeeded, out_of_range, create_picked, reads_submitted, reads_waiting, read_picked, read_taken, delete_begun, aborted_done, aborts_posted, read_answered, reads_posted, not_retried, more_told, two_deletions, two_closing, third_served, second_gone}
 
 pub other_answer : IsLawful one_deletion (Answered 1 0 out_of_range ∷ aborts_posted) (Logged (Post 1 1 0 (done 1 0 lba_out_of_range)))
 unfolding effects_of queue_table status_of dw0_of verdict_of
@@ -29,6 +29,7 @@ other_answer = record {
   fetches_submitted = tt;
   posts_on_free_slot = omega arith;
   posts_what_is_through = refl;
+  posts_in_order = refl;
 }
 
 -- places of a queue with other indexes
@@ -96,6 +97,9 @@ unanswered h = let e : false ≡ true = h.posts_what_is_through in cc e
 
 pub other_status : IsLawful one_deletion read_answered (Logged (Post 1 1 0 (done 1 0 lba_out_of_range))) → ⊥
 other_status h = let e : lba_out_of_range ≡ success = h.posts_own.2.status in let n : 0x80 ≡ 0 = ap (λ (x : StatusCode). x.sc) e in omega (arith, n)
+
+pub out_of_turn : IsLawful one_deletion delete_begun (Logged (Post 1 1 2 (aborted_done 2))) → ⊥
+out_of_turn h = other 1 2 (λ e. omega (arith, e)) h.posts_in_order
 
 -- ---- the device, and deletions
 pub taken_out_of_turn : IsLawful one_deletion read_picked (Taken 7 1 1) → ⊥

@@ -27,6 +27,7 @@ use Rattle.nvme_ctrl_log.specs.Doorbells.{sq_slots, cq_slots, submitted, consume
 use Rattle.nvme_ctrl_log.specs.Own.{may_be_own, before_pick}
 use Rattle.nvme_ctrl_log.specs.Observation.{observed_of}
 use Rattle.nvme_ctrl_log.specs.Deletions.{DeletesNone, FollowsDeletions}
+use Rattle.nvme_ctrl_log.specs.Ready.{PostsInOrder}
 use Rattle.nvme_ctrl_log.specs.Tags.{is_passed, is_of_device, handed, taken, holder, answer_of, cookie_of, flags_of, answers, is_through}
 
 -- ---- events
@@ -77,6 +78,7 @@ pub record IsLawfulEvent (rules : FrontRules) (notes : Notes) (e : Event) : Type
   pub fetches_submitted : FetchesSubmitted rules notes e
   pub posts_on_free_slot : PostsOnFreeSlot rules notes e
   pub posts_what_is_through : PostsWhatIsThrough notes e
+  pub posts_in_order : PostsInOrder notes e
 
 -- ---- doorbells
 -- a tail is a slot of an open queue, no further on than where the ring is full (Full Queue)

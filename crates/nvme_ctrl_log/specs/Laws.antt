@@ -1,5 +1,5 @@
 -- Laws of the log of a controller, in the words of those who embed one. (profile)
-use Rattle.std.specs.Prelude.{◌≡◌, ◌≢◌, ◌⊎◌, ℕ, ◌+◌, ◌<◌, ◌≤◌, ◌%◌, ◌&&◌, true, false, not, List, ◌∷◌, ◌++◌, length, Some, None, sum_by}
+use Rattle.std.specs.Prelude.{◌≡◌, ◌≢◌, ◌⊎◌, ℕ, ◌+◌, ◌<◌, ◌≤◌, ◌%◌, ◌&&◌, true, false, not, List, ◌∷◌, ◌++◌, length, Some, None, slice_get, sum_by}
 use Rattle.std.specs.List.{list_all, All}
 use mathlib.Core.List.{IsPrefix}
 use Rattle.nvme_entry.specs.declared.submission.Sqe.{Sqe}
@@ -12,6 +12,7 @@ use Rattle.nvme_log.specs.Rules.{FrontRules, sq_regions_of, cq_regions_of, Each,
 use Rattle.nvme_log.specs.Places.{fetched, is_aborted, places, observation_of, waiting}
 use Rattle.nvme_log.specs.declared.place.Place.{Place}
 use Rattle.nvme_log.specs.Aborts.{is_aborted_with_queue}
+use Rattle.nvme_log.specs.Dispatches.{place_at}
 use Rattle.nvme_log.specs.Histories.{arbitration_of}
 use Rattle.nvme_log.specs.Completions.{is_posted, posted_to, posts_of, phase_after, outstanding}
 use Rattle.nvme_log.specs.Answers.{Answer, by_answers}
@@ -22,6 +23,7 @@ use Rattle.nvme_ctrl_log.specs.Notes.{Notes, Logged, logged, Note, Held}
 use Rattle.nvme_ctrl_log.specs.Making.{with_region, is_named}
 use Rattle.nvme_ctrl_log.specs.Doorbells.{sq_slots, cq_slots, submitted, consumed}
 use Rattle.nvme_ctrl_log.specs.Tags.{is_passed, is_of_device, holder, answer_of, answers, all_fetches, all_posts}
+use Rattle.nvme_ctrl_log.specs.Ready.{ready_in}
 use Rattle.nvme_ctrl_log.specs.Deletions.{deleting}
 use Rattle.nvme_ctrl_log.specs.Observation.{is_held, observed_of, NoneArranged}
 use Rattle.nvme_ctrl_log.specs.Account.{IsAccount}
@@ -72,6 +74,12 @@ SlotsAreFree = (rules : FrontRules) (later between before : Notes) (c r i s j : 
     → IsAccount rules (later ++ Logged (event.Post c s j second) ∷ (between ++ Logged (event.Post c r i first) ∷ before))
     → length (posted_to (logged (between ++ Logged (event.Post c r i first) ∷ before)) c) % cq_slots rules c ≡ length (posted_to (logged before) c) % cq_slots rules c
     → length (posted_to (logged before) c) < consumed rules (between ++ Logged (event.Post c r i first) ∷ before) c
+
+-- the completions of a queue are posted in the order in which they became ready, the nth as the nth: one that is ready is posted within as many posts of its
+-- queue as were to come before it, and its own
+abbrev pub ReadyArePostedInTurn : Type 0
+ReadyArePostedInTurn = (rules : FrontRules) (later before : Notes) (c n r i : ℕ) → IsAccount rules (later ++ before)
+    → slice_get (ready_in before c) n ≡ Some (place_at r i) → n < length (posted_to (logged (later ++ before)) c) → is_posted (logged (later ++ before)) r i ≡ true
 
 -- SQHD and phase tag of a completion (Completion Queue Entry, Phase Tag)
 abbrev pub CompletionsTellTheHead : Type 0

@@ -9,6 +9,7 @@ pub mod Deletions
 pub mod Account
 pub mod Calls
 pub mod Posts
+pub mod Ready
 pub mod Steps
 pub mod Making
 pub mod Laws

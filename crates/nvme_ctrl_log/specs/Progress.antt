@@ -1,5 +1,5 @@
 -- What a command may wait for. (profile)
-use Rattle.std.specs.Prelude.{◌≡◌, ◌≢◌, ℕ, [], Some, None}
+use Rattle.std.specs.Prelude.{◌≡◌, ◌≢◌, ℕ, Some, None}
 use Rattle.nvme_log.specs.Rules.{FrontRules}
 use Rattle.nvme_log.specs.Queues.{cq_region_of}
 use Rattle.nvme_log.specs.Completions.{unposted_of}

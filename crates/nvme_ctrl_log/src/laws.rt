@@ -11,10 +11,10 @@ ghost use Rattle.nvme_ctrl_log.specs.StatusFlags.{own_flags};
 ghost use Rattle.nvme_ctrl_log.specs.Tags.{cookie_of, flags_of, all_fetches};
 ghost use Rattle.nvme_ctrl_log.specs.Making.{is_named};
 ghost use Rattle.nvme_ctrl_log.specs.Account.{IsLawful, IsAccount};
-ghost use Rattle.nvme_ctrl_log.specs.Examples.{identify_fetched, identify_picked, identify_passed, identify_taken, identify_answered, identified, told, three_of_four, four_fetched, first_picked, first_answered, first_posted, third_answered, two_passes, succeeded, out_of_range, without_region, with_late_region, creates_fetched, create_picked, create_refused, reads_submitted, reads_waiting, read_picked, read_taken, delete_begun, aborts_posted, read_answered, reads_posted, deletion_noted, unflagged, not_retried, more_told, abort_picked, abort_passed, abort_taken, aborted_read, read_aborted, abort_answered, abort_done, held_and_deleted, classed_and_picked, weighted_rules, two_waiting, pick_of, two_deletions, two_closing, third_served, second_gone, both_gone};
+ghost use Rattle.nvme_ctrl_log.specs.Examples.{identify_fetched, identify_picked, identify_passed, identify_taken, identify_answered, identified, told, three_of_four, four_fetched, first_picked, first_answered, first_posted, third_answered, two_passes, succeeded, out_of_range, without_region, with_late_region, creates_fetched, create_picked, create_refused, reads_submitted, reads_waiting, read_picked, read_taken, delete_begun, aborted_done, aborts_posted, read_answered, reads_posted, deletion_noted, unflagged, not_retried, more_told, abort_picked, abort_passed, abort_taken, aborted_read, read_aborted, abort_answered, abort_done, held_and_deleted, classed_and_picked, weighted_rules, two_waiting, pick_of, two_deletions, two_closing, third_served, second_gone, both_gone};
 ghost use Rattle.nvme_ctrl_log.specs.StepCounts.{StepsAreFew, steps};
 ghost use Rattle.nvme_ctrl_log.specs.Progress.{IsWithDevice, WaitsForHost, WaitsForQueue};
-ghost use Rattle.nvme_ctrl_log.specs.Laws.{RegionsLeaveAccounts, EventsAreAccounted, SlotsAreFetchedInOrder, CompletionsFollowAnswers, OneCompletionEach, SlotsAreFree, CompletionsTellTheHead, DeletesAreAnsweredLast, NoneFetchedAfterDeletion, NonePickedAfterDeletion, PicksAreLawful, TagsAreApart, ObservedAsInTheLog, HeldQueuesWait, HeldQueuesWaitUntilTold};
+ghost use Rattle.nvme_ctrl_log.specs.Laws.{RegionsLeaveAccounts, EventsAreAccounted, SlotsAreFetchedInOrder, CompletionsFollowAnswers, OneCompletionEach, SlotsAreFree, ReadyArePostedInTurn, CompletionsTellTheHead, DeletesAreAnsweredLast, NoneFetchedAfterDeletion, NonePickedAfterDeletion, PicksAreLawful, TagsAreApart, ObservedAsInTheLog, HeldQueuesWait, HeldQueuesWaitUntilTold};
 
 /// An account stays one at the rules with a region more, where no Create that was picked named the region's address.
 pub fn regions_leave_accounts()
@@ -48,6 +48,12 @@ pub fn each_command_has_one_completion()
 /// No completion is written onto one that the host hasn't consumed.
 pub fn slots_are_free()
     ensures { SlotsAreFree }
+{}
+
+/// The completions of a queue are posted in the order in which they became ready: one that is ready is posted within as many
+/// posts of its queue as were to come before it, and its own. So a host that reads its completion queue gets each.
+pub fn completions_take_turns()
+    ensures { ReadyArePostedInTurn }
 {}
 
 /// The submission queue head pointer and the phase tag of a completion are those of the specification.
@@ -157,14 +163,15 @@ pub fn wrong_doorbells_are_refused()
     ensures head_no_queue { IsLawful two_slots first_posted (Head 1 0) → ⊥ }
 {}
 
-/// A completion goes into a slot that isn't free, its phase tag doesn't turn, it comes before the answer, or has
-/// another status.
+/// A completion goes into a slot that isn't free, its phase tag doesn't turn, it comes before the answer, has another
+/// status, or goes before one of its queue that became ready earlier.
 pub fn wrong_completions_are_refused()
     ensures slot_not_free { IsLawful two_slots (Answered 0 1 told ∷ Logged (admin_picked 3) ∷ first_posted) (Logged (admin_posted 1 true)) → ⊥ }
     ensures phase_stays { IsLawful two_slots third_answered (Logged (admin_posted 2 true)) → ⊥ }
     ensures unanswered_admin { IsLawful two_slots first_picked (Logged (admin_posted 0 true)) → ⊥ }
     ensures unanswered { IsLawful one_deletion aborts_posted (Logged (Post 1 1 0 (done 1 0 success))) → ⊥ }
     ensures other_status { IsLawful one_deletion read_answered (Logged (Post 1 1 0 (done 1 0 lba_out_of_range))) → ⊥ }
+    ensures out_of_turn { IsLawful one_deletion delete_begun (Logged (Post 1 1 2 (aborted_done 2))) → ⊥ }
 {}
 
 /// A command is taken out of turn or under a tag in use, is answered before it is picked or taken, twice, with another

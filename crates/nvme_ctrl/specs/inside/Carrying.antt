@@ -24,6 +24,7 @@ use Rattle.nvme_ctrl_content.specs.Standing.{Holds, counted_on}
 use Rattle.nvme_ctrl_content.specs.Steps.{HasNextRegion, CanPick, CanApply, verdict_at, applied_to, aborted, oldest_named, without_oldest}
 use Rattle.nvme_ctrl.specs.kept.Kept.{Item, Items, candidate_of, HasNumbers, HasItems, HoldsDoorbells, HoldsTags}
 use Rattle.nvme_ctrl_content.specs.Shown.{HoldsShown, HasRegionsMade}
+use Rattle.nvme_ctrl_content.specs.Order.{HoldsOrder}
 use Rattle.nvme_ctrl.specs.inside.Loose.{IsLoose, Keeps, ended, with_item}
 use Rattle.nvme_ctrl_content.specs.Carrying.{queue_in, requesting}
 
@@ -34,6 +35,7 @@ pub record IsApplied (rules : FrontRules) (late : Bool) (notes : Notes) (c : Con
   pub before : Content
   pub holds : Holds rules late (logged notes) before
   pub shown : HoldsShown notes before
+  pub ordered : HoldsOrder notes before
   pub account : late ≡ false → IsAccount rules notes
   -- the pick, and the board after it
   pub pick : Pick

@@ -34,6 +34,7 @@ use Rattle.nvme_slots.specs.Pool.{slot_at, flags_in, IsChain, AreApart}
 use Rattle.nvme_ctrl.specs.kept.QueueSets.{HoldsRung, HoldsReadied}
 use Rattle.nvme_ctrl.specs.kept.State.{no_sq_state, no_cq_state, sq_at, cq_at, delete_tag, count_closing}
 use Rattle.nvme_ctrl_content.specs.Shown.{HoldsShown, HasRegionsMade}
+use Rattle.nvme_ctrl_content.specs.Order.{HoldsOrder}
 
 -- ---- commands in slots
 -- a command in a slot that waits, or that the device has: its slot, its place, which nobody keeps, and its entry
@@ -391,5 +392,6 @@ pub record StandsAt (rules : FrontRules) (late : Bool) (notes : Notes) (c : Cont
   pub doorbells : HoldsDoorbells rules notes c content
   pub tags : HoldsTags notes c slots content items
   pub shown : HoldsShown notes content
+  pub ordered : HoldsOrder notes content
   pub regions : HasRegionsMade content
   pub account : late ≡ false → IsAccount rules notes
