@@ -1,5 +1,5 @@
 -- Calls over arrays: what the single call does, for one item after the other (profile).
-use Rattle.std.specs.Prelude.{◌≡◌, ℕ, Bool, true, List, [], ◌∷◌, length, zip, Some, None}
+use Rattle.std.specs.Prelude.{◌≡◌, ℕ, Bool, true, List, [], ◌∷◌, length, zip, Some, None, IsSomeAnd}
 use Rattle.std.specs.Simd.{first_chunks}
 use Rattle.nvme_entry.specs.Submission.{IsSubmissionEntry}
 use Rattle.nvme_entry.specs.declared.submission.Sqe.{Sqe}
@@ -53,6 +53,7 @@ pub record TakesOne (a : WithSlots) (f : CommandFields) (b : WithSlots) : Type 0
 pub record PostsOne (cqid : ℕ) (a : WithSlots) (f : PostFields) (b : WithSlots) : Type 0 where
   pub stands : (rules : FrontRules) (late : Bool) (notes : Notes) → Stands rules late notes a.ctrl a.slots → HasPostedBytes rules late notes cqid f b.ctrl b.slots
   pub command : IsPostIn a.slots f
+  pub tag : IsSomeAnd (next_post_of a.ctrl a.slots cqid) (λ p. (tag_of f.tag).slot ≡ p.tag)
   pub due : HasPost a.ctrl a.slots cqid
   pub generations : SameGenerations a.slots b.slots
 

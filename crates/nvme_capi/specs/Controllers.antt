@@ -18,11 +18,12 @@ use Rattle.nvme_ctrl_log.specs.Making.{first_rules, anywhere_rules, placing_in}
 use Rattle.nvme_ctrl.specs.Calls.{HasPosted}
 use Rattle.nvme_ctrl.specs.Posts.{IsPostOf}
 use Rattle.nvme_ctrl.specs.Steps.{HasDone}
-use Rattle.nvme_ctrl_log.specs.Steps.{NamesIdentifiers}
+use Rattle.nvme_ctrl_log.specs.Steps.{NamesIdentifiers, IsVerdictOf}
 use Rattle.nvme_admin.specs.Effects.{verdict_in}
 use Rattle.nvme_admin.specs.Placing.{vector_of, interrupts_of}
 use Rattle.nvme_admin.specs.declared.effect.Effect.{Effect}
 use Rattle.nvme_admin.specs.declared.effect.Effect.TheVariants.{OpenSq, OpenCq}
+use Rattle.nvme_entry.specs.AdminCommand.{admin_command_of}
 use Rattle.nvme_entry.specs.declared.submission.Sqe.{Sqe}
 use Rattle.nvme_capi.specs.declared.ctrl.state.AskedFields.{AskedFields}
 use Rattle.nvme_capi.specs.declared.ctrl.state.PlacementFields.{PlacementFields}
@@ -127,6 +128,8 @@ pub record HasToldWhat (rules : FrontRules) (late : Bool) (notes : Notes) (told 
   pub entry : Sqe
   pub told_is : told ≡ answer_of (verdict_in effect)
   pub asked_is : asked ≡ asked_in effect entry
+  -- it is of this command
+  pub commanded : IsVerdictOf (admin_command_of entry) (verdict_in effect)
   pub anywhere : is_some (placing_in rules) ≡ true → NamesIdentifiers effect
   pub done : HasDone rules late notes effect entry c slots
 

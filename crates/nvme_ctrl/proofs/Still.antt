@@ -230,7 +230,7 @@ module _ (rules : FrontRules) (late : Bool) (notes : Notes) (c : Controller) (sl
             let d = delete_found r i k.deletion k.nsq (omega (arith, held, parts, none)) in
             let pending = s.holds.deletion.stands d.region d.delete d.is in
             let deletes : deleting past d.region ≡ Some i = s.holds.deletion.place_is d.region ∙ ap (option_map (λ (x : PendingDelete). x.place.index)) d.is ∙ ap Some d.at_index in
-            inr (record { of_admin = sym d.at_region ∙ pending.of_admin; region = d.region; deletes = deletes; unposted = still.ends d.region i deletes })
+            inr (record { of_admin = sym d.at_region ∙ pending.of_admin; region = d.region; other = λ e. pending.not_admin (pending.at ∙ e); deletes = deletes; unposted = still.ends d.region i deletes })
       ]
 
   served_waits : IsWithDevice notes r i ⊎ (WaitsForHost rules notes r ⊎ WaitsForQueue notes r i)

@@ -1,11 +1,11 @@
 //! Laws of controllers, over the definitions alone. Each function does nothing: its contract is the law.
-ghost use Rattle.std.specs.Prelude.{◌≡◌, [], true, false};
-ghost use Rattle.nvme_log.specs.Examples.{create_cq, read};
-ghost use Rattle.nvme_ctrl_log.specs.Notes.{logged};
+ghost use Rattle.std.specs.Prelude.{◌≡◌, ℕ, [], ◌∷◌, true, false};
+ghost use Rattle.nvme_log.specs.Examples.{create_cq, read, two_slots, one_deletion};
+ghost use Rattle.nvme_ctrl_log.specs.Notes.{Tail, logged};
 ghost use Rattle.nvme_ctrl.specs.Own.{is_own, no_own, with_opcode, with_feature};
-ghost use Rattle.nvme_ctrl_log.specs.Examples.{identify, get_feature, set_feature, told, abort_of_read, abort_waiting};
+ghost use Rattle.nvme_ctrl_log.specs.Examples.{identify, identify_fetched, identify_passed, identify_taken, identify_answered, reads_posted, get_feature, set_feature, told, abort_of_read, abort_waiting};
 ghost use Rattle.nvme_ctrl.specs.Depths.{DepthsSuffice, DepthsLeaveRoom, HeldWaitOrAreUnposted};
-ghost use Rattle.nvme_ctrl.specs.Progress.{NoneWaitDeleted, ServedAwait, UnfetchedAwait, WaitingAwait};
+ghost use Rattle.nvme_ctrl.specs.Progress.{IsStill, NoneWaitDeleted, ServedAwait, UnfetchedAwait, WaitingAwait};
 ghost use Rattle.nvme_ctrl.specs.Laws.{ControllersKeepAccounts, SeenOneByOne, FewHoldSlots};
 ghost use Rattle.nvme_ctrl.specs.NextQueue.{FetchesTakeTurns, PostsTakeTurns};
 
@@ -48,6 +48,18 @@ pub fn nothing_stands_still()
     ensures waiting { WaitingAwait }
     ensures deleted { NoneWaitDeleted }
     ensures served { ServedAwait }
+{}
+
+/// Worked: a controller has nothing to do while the device has its one command. It has where a slot more is submitted, the
+/// command waits to be picked or to be taken, or was answered, and where the last command of a queue that is being deleted
+/// has its completion.
+pub fn worked_stillness()
+    ensures still { IsStill two_slots (λ (r : ℕ). 2) identify_taken }
+    ensures fetches { IsStill two_slots (λ (r : ℕ). 2) (Tail 0 2 ∷ identify_taken) → ⊥ }
+    ensures picks { IsStill two_slots (λ (r : ℕ). 2) identify_fetched → ⊥ }
+    ensures takes { IsStill two_slots (λ (r : ℕ). 2) identify_passed → ⊥ }
+    ensures posts { IsStill two_slots (λ (r : ℕ). 2) identify_answered → ⊥ }
+    ensures ends { IsStill one_deletion (λ (r : ℕ). 4) reads_posted → ⊥ }
 {}
 
 /// Which commands are the device's: those of the opcodes and feature identifiers that it announced, but for fused ones,

@@ -20,9 +20,10 @@ pub record WaitsForHost (rules : FrontRules) (notes : Notes) (r : ℕ) : Type 0 
   pub goes_to : cq_region_of (logged notes) r ≡ Some x
   pub full : IsFullRing rules notes x
 
--- a Delete of the admin queue waits for commands of the queue that it deletes, which have no completion posted
+-- a Delete of the admin queue waits for commands of the other queue that it deletes, which have no completion posted
 pub record WaitsForQueue (notes : Notes) (r i : ℕ) : Type 0 where
   pub of_admin : r ≡ 0
   pub region : ℕ
+  pub other : region ≢ 0
   pub deletes : deleting (logged notes) region ≡ Some i
   pub unposted : unposted_of (logged notes) region ≢ 0

@@ -1,7 +1,8 @@
 -- The next pick, what is noted of it, and the deletions that can be finished. (Base Specification, Command Arbitration, Admin Command Set)
-use Rattle.std.specs.Prelude.{◌≡◌, ◌≢◌, ℕ, ◌<◌, List, [], ◌∷◌, length, Option, Some, None}
+use Rattle.std.specs.Prelude.{◌≡◌, ◌≢◌, ℕ, ◌<◌, Bool, true, false, List, [], ◌∷◌, length, Option, Some, None}
 use Rattle.nvme_arbiter.specs.Lawful.{lawful_pick, limited_pick}
 use Rattle.nvme_arbiter.specs.declared.pick.Pick.{Pick}
+use Rattle.nvme_admin.specs.Checks.{is_success}
 use Rattle.nvme_admin.specs.declared.verdict.Verdict.{Verdict}
 use Rattle.nvme_admin.specs.declared.verdict.Verdict.TheVariants as verdict
 use Rattle.nvme_admin.specs.declared.effect.Effect.{Effect}
@@ -68,11 +69,18 @@ NamesIdentifiers (BeginDelete qid region) = IsIdentifier qid region
 NamesIdentifiers (CloseCq qid region) = IsIdentifier qid region
 NamesIdentifiers effect = Unit {0}
 
--- a verdict is of a command: the deletion of a submission queue begins by its Delete, and a command is aborted by its Abort (Delete I/O Submission
--- Queue, Abort)
+-- a command that was accepted has a verdict of its own, also where it made nothing (Delete I/O Submission Queue, Abort)
+abbrev pub has_own_verdict : AdminCommand → Bool
+has_own_verdict (command.DeleteSq qid) = true
+has_own_verdict (command.Abort sqid cid) = true
+has_own_verdict c = false
+
+-- a verdict is of a command: the deletion of a submission queue begins by its Delete, a command is aborted by its Abort, and such commands end with no
+-- other verdict of success (Delete I/O Submission Queue, Abort)
 abbrev pub IsVerdictOf : AdminCommand → Verdict → Type 0
 IsVerdictOf c (verdict.BeginDelete qid) = c ≡ command.DeleteSq qid
 IsVerdictOf c (verdict.Abort sqid cid) = c ≡ command.Abort sqid cid
+IsVerdictOf c (verdict.Done status dw0) = is_success status ≡ true → has_own_verdict c ≡ false
 IsVerdictOf c v = Unit {0}
 
 -- commands are picked that the device hasn't taken

@@ -1,5 +1,5 @@
 // The commands of a controller of C: picks, what the device takes and answers, and completions.
-ghost use Rattle.std.specs.Prelude.{◌≡◌, ◌≢◌, ◌<◌, ◌≤◌, ◌⊎◌, ◌↔◌, ℕ, Bool, true, false, None, Some, IfSome, IsTrue, IsFalse};
+ghost use Rattle.std.specs.Prelude.{◌≡◌, ◌≢◌, ◌<◌, ◌≤◌, ◌⊎◌, ◌↔◌, ℕ, Bool, true, false, None, Some, IfSome, IsSomeAnd, IsTrue, IsFalse};
 ghost use Rattle.nvme_entry.specs.Bits.{bits_of};
 ghost use Rattle.nvme_admin.specs.Placing.{interrupts_of};
 ghost use Rattle.nvme_log.specs.Rules.{FrontRules};
@@ -133,6 +133,7 @@ pub extern "C" fn nvmearb_ctrl_pick(
     ensures taken { (rules : FrontRules) (late : Bool) (notes : Notes) → Stands rules late notes state.old.ctrl slots.old → IsBusy notes → (result ≡ BUSY) ⊎ ((result ≡ BAD_ARGUMENT) ⊎ (result ≡ BAD_STATE)) }
     ensures needs_room { room ≡ 0 → result ≢ OK }
     ensures io { result ≡ OK → step.new.kind ≡ PICKED → step.new.pick.qid ≢ 0 }
+    ensures fits { result ≡ OK → step.new.pick.fresh ≤ 1 }
     ensures idle { (rules : FrontRules) (late : Bool) (notes : Notes) → Stands rules late notes state.old.ctrl slots.old → result ≡ NOTHING → HasStepped rules late notes room made.Idle state.new.ctrl slots.new }
     ensures busy { (rules : FrontRules) (late : Bool) (notes : Notes) → Stands rules late notes state.old.ctrl slots.old → result ≡ BUSY → HasStepped rules late notes room made.Busy state.new.ctrl slots.new }
     ensures no_room { (rules : FrontRules) (late : Bool) (notes : Notes) → Stands rules late notes state.old.ctrl slots.old → result ≡ NOROOM → HasStepped rules late notes room made.NoRoom state.new.ctrl slots.new }
@@ -406,6 +407,7 @@ pub extern "C" fn nvmearb_ctrl_post(
     ensures none_due { result ≡ NOTHING → next_post_of state.old.ctrl slots.old cqid ≡ None }
     ensures stands { (rules : FrontRules) (late : Bool) (notes : Notes) → Stands rules late notes state.old.ctrl slots.old → result ≡ OK → HasPostedBytes rules late notes cqid post.new state.new.ctrl slots.new }
     ensures command { result ≡ OK → IsPostIn slots.old post.new }
+    ensures tag { result ≡ OK → IsSomeAnd (next_post_of state.old.ctrl slots.old cqid) (λ p. (tag_of post.new.tag).slot ≡ p.tag) }
     ensures generations { SameGenerations slots.old slots.new }
     ensures left { own_of state.new.ctrl ≡ own_of state.old.ctrl }
     ensures unchanged { result ≢ OK → (state.new ≡ state.old) × ((slots.new ≡ slots.old) × (post.new ≡ post.old)) }

@@ -36,7 +36,7 @@ returns-clause-host_read c w =
     absurd (omega (arith, full, read, slots, posted))
 
 pub returns-clause-queue : goal.returns-clause-queue
-returns-clause-queue c = record { of_admin = refl; region = 1; deletes = refl; unposted = λ e. cc e }
+returns-clause-queue c = record { of_admin = refl; region = 1; other = λ e. omega (arith, e); deletes = refl; unposted = λ e. cc e }
 
 pub returns-clause-queue_done : goal.returns-clause-queue_done
 returns-clause-queue_done c w = elim (cases_eq 1 w.region) [

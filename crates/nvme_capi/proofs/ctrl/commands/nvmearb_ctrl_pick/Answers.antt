@@ -31,6 +31,7 @@ returns-in-Done-clause-carried_out c = λ rules late notes s _ _. record {
   entry = c.in-Done.entry;
   told_is = c.answer_of.ensures ∙ ap answer_of c.verdict.ensures;
   asked_is = c.asked_by.ensures;
+  commanded = c.pick.ensures.commanded rules late notes s c.in-Done.effect c.in-Done.entry c.in-Done.is;
   anywhere = λ on. c.pick.ensures.anywhere rules late notes s on c.in-Done.effect c.in-Done.entry c.in-Done.is;
   done = subst (λ (it : Step). HasStepped rules late notes c.args.room it c.pick.new.self c.pick.new.slots) c.in-Done.is (c.pick.ensures.stands rules late notes s);
 }

@@ -1,4 +1,7 @@
-use Rattle.std.proofs.Common.{rules, ◌≡◌, ◌∙◌, ℕ, None, Some, sym, subst}
+use Rattle.std.proofs.Common.{rules, ◌≡◌, ◌∙◌, ℕ, Option, None, Some, sym, subst}
+use Rattle.std.specs.Prelude.{IsSomeAnd}
+use Rattle.nvme_slots.specs.Generations.{tag_of}
+use Rattle.nvme_ctrl.specs.declared.posts.Post.{Post}
 use Rattle.nvme_ctrl.specs.Calls.{HasPosted}
 use Rattle.nvme_capi.specs.Controllers.{IsPostIn}
 use Rattle.nvme_capi.proofs.ctrl.commands.post_one.Goals as goal
@@ -6,6 +9,7 @@ use Rattle.nvme_capi.proofs.ctrl.commands.post_one.Goals as goal
 pub returns-in-Some-clause-posted : goal.returns-in-Some-clause-posted
 returns-in-Some-clause-posted c =
     let told : IsPostIn c.args.slots.now c.fields_of_post.result = search rules in
+    let here : (tag_of c.fields_of_post.result.tag).slot ≡ c.in-Some.it.tag = search rules in
     λ _. record {
       stands = λ rules late notes s. record {
         cqe = c.in-Some.it.cqe;
@@ -16,6 +20,7 @@ returns-in-Some-clause-posted c =
             (c.in-Some.ensures.stands rules late notes s));
       };
       command = told;
+      tag = subst (λ (o : Option Post). IsSomeAnd o (λ (p : Post). (tag_of c.fields_of_post.result.tag).slot ≡ p.tag)) (sym (sym c.post.ensures.value ∙ c.in-Some.is)) here;
       due = λ none. (let lost : None ≡ Some c.in-Some.it = sym none ∙ sym c.post.ensures.value ∙ c.in-Some.is in cc lost);
       generations = c.post.ensures.generations;
     }

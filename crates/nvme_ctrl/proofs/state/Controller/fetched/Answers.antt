@@ -19,7 +19,7 @@ use Rattle.nvme_ctrl.specs.declared.state.Controller.{Controller}
 use Rattle.nvme_slots.specs.Pool.{IsNew, IsChain, SameItems, SameLinks}
 use Rattle.nvme_ctrl.specs.kept.State.{sq_at}
 use Rattle.std.proofs.lemmas.Bool.{false≢true}
-use Rattle.nvme_ctrl.proofs.FetchCalls.{Fetches, fetched_state, has_fetched, may_come, few_queues, told_fetchable}
+use Rattle.nvme_ctrl.proofs.FetchCalls.{Fetches, has_fetched, may_come, few_queues, told_fetchable}
 use Rattle.nvme_slots.proofs.Generations.{left_both, put_left, items_left}
 use Rattle.nvme_ctrl.proofs.FetchTold.{is_fetchable, some_popped}
 use Rattle.nvme_ctrl.specs.kept.QueueSets.{with_queue}

@@ -1,11 +1,11 @@
 use Rattle.std.proofs.Common.{◌≡◌, ◌<◌, Bool, true, sym, ap, subst, ◌∙◌, arith}
-use Rattle.std.specs.Prelude.{◌↔◌, IsTrue, slice_set}
+use Rattle.std.specs.Prelude.{◌↔◌, IsTrue}
 use Rattle.std.proofs.lemmas.Bool.{false≢true}
 use Rattle.nvme_ctrl.specs.Calls.{TailRung}
 use Rattle.nvme_ctrl_log.specs.Calls.{IsTailOf}
 use Rattle.nvme_ctrl.specs.declared.state.Controller.{Controller}
 use Rattle.nvme_ctrl.specs.declared.state.SqState.{SqState}
-use Rattle.nvme_ctrl.proofs.DoorbellCalls.{open_unclosing, unclosing_is_open, ring_lives, tail_told, tail_stands, with_ring, TailAnswer, TailCounts}
+use Rattle.nvme_ctrl.proofs.DoorbellCalls.{open_unclosing, unclosing_is_open, ring_lives, tail_told, tail_stands, TailAnswer, TailCounts}
 use Rattle.nvme_ctrl.specs.kept.QueueSets.{with_queue}
 use Rattle.nvme_ctrl.proofs.state.Controller.sq_tail.Goals as goal
 
