@@ -100,7 +100,8 @@ impl Arbiter {
         Some(pick)
     }
 
-    /// Keeps the pick that `peek` answers, or one of fewer of its commands.
+    /// Keeps the pick that `peek` answers, or one of fewer of its commands, at least one. Where it is one of none, the turn
+    /// goes on, and no law speaks of the run any more.
     pub fn keep(&mut self, seen: &[Seen], pick: Pick)
         requires observed { IsObservation seen.now }
         requires peeked { IsSomeAnd (pick_of self.old seen.now) (λ whole. IsCutOf whole pick) }

@@ -309,7 +309,8 @@ impl ArbiterFields {
         Some(pick)
     }
 
-    /// Keeps the pick that `peek` answers, or one of fewer of its commands.
+    /// Keeps the pick that `peek` answers, or one of fewer of its commands, at least one. Where it is one of none, the turn
+    /// goes on, and no law speaks of the run any more.
     #[inline(always)]
     pub fn keep<Q: ReadyQueues>(&mut self, queues: &Q, pick: Pick)
         requires observed { IsObservation (Q.seen queues.now) }

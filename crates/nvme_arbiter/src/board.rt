@@ -165,7 +165,8 @@ impl Board {
         Some(pick)
     }
 
-    /// Keeps the pick that `peek` answers, or one of fewer of its commands. As many commands of its queue wait no longer.
+    /// Keeps the pick that `peek` answers, or one of fewer of its commands, at least one. As many commands of its queue wait
+    /// no longer. Where it is one of none, the turn goes on, and no law speaks of the run any more.
     pub fn keep(&mut self, pick: Pick)
         requires { IsSomeAnd (pick_of self.old.kept (seen_of self.old.queues)) (λ whole. IsCutOf whole pick) }
         ensures stands { (mechanism : Mechanism) (first : ArbitrationFields) (past : History) → BoardStandsAt mechanism first past self.old → BoardStandsAt mechanism first (Picked (seen_of self.old.queues) pick ∷ past) self.new }

@@ -148,7 +148,8 @@ impl BoardFields {
         self.arbiter.peek(&self.queues)
     }
 
-    /// Keeps the pick that `peek` answers, or one of fewer of its commands. As many commands of its queue wait no longer.
+    /// Keeps the pick that `peek` answers, or one of fewer of its commands, at least one. As many commands of its queue wait
+    /// no longer. Where it is one of none, the turn goes on, and no law speaks of the run any more.
     #[inline(always)]
     pub fn keep(&mut self, pick: Pick)
         requires is_arbiter { IsTrue (is_arbiter self.old.arbiter) }
