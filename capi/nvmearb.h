@@ -629,11 +629,13 @@ uint32_t nvmearb_ctrl_add_cq_region(nvmearb_ctrl *ctrl, uint64_t address, uint16
  * I/O commands. 00h, 01h, 04h, 05h, 09h and 0Ah stay the controller's, and so does a fused command, which it refuses.
  * PSDT is left to the device. A command that is neither's is answered with 0/01, and Set and Get Features of an
  * identifier that is neither's with 0/02.
- * The controller answers a waiting command that an Abort names with 0/07. If none waits, it answers the Abort with 1 as
- * Dword 0, not aborted, unless NVMEARB_OPC_ABORT was announced here. Then the device gets the Abort, and finds the tag
- * by nvmearb_admin_of and nvmearb_ctrl_named. If it can end that command, it completes it with 0/07, and then the Abort
- * with 0; otherwise the Abort with 1, also one that names itself (compare the tags). Above the ACL of Identify it is
- * 1/03, Abort Command Limit Exceeded. capi/examples/admin.c ends event requests so.
+ * The controller answers a waiting command that an Abort names with 0/07, and the Abort with 0 as Dword 0. The
+ * Abort's completion isn't held for that of the command, whose queue may be full: a device that wants this order
+ * posts to that queue first. If none waits, it answers the Abort with 1, not aborted, unless NVMEARB_OPC_ABORT was
+ * announced here. Then the device gets the Abort, and finds the tag by nvmearb_admin_of and nvmearb_ctrl_named. If
+ * it can end that command, it completes it with 0/07, and then the Abort with 0; otherwise the Abort with 1, also
+ * one that names itself (compare the tags). Above the ACL of Identify it is 1/03, Abort Command Limit Exceeded.
+ * capi/examples/admin.c ends event requests so.
  */
 uint32_t nvmearb_ctrl_own_opcode(nvmearb_ctrl *ctrl, uint8_t opcode);
 
