@@ -1,5 +1,5 @@
 -- A fetch from a queue: when it may be made, and that the controller stands at its log afterwards.
-use Rattle.std.proofs.Common.{◌≡◌, ◌≢◌, ℕ, ◌+◌, ◌-◌, ◌%◌, ◌^◌, ◌<◌, ◌≤◌, ◌==◌, not, Bool, false, if◌then◌else◌, List, [], ◌∷◌, ◌++◌, length, map, take, drop, Option, Some, None, refl, sym, ap, ◌∙◌, subst, arith, inl, inr, length-append, length-drop, true, ◌&&◌, is_some}
+use Rattle.std.proofs.Common.{◌≡◌, ◌≢◌, ℕ, ◌+◌, ◌-◌, ◌%◌, ◌^◌, ◌<◌, ◌≤◌, ◌==◌, Bool, false, if◌then◌else◌, List, [], ◌∷◌, ◌++◌, length, map, take, drop, Option, Some, None, refl, sym, ap, ◌∙◌, subst, arith, inl, inr, length-append, length-drop, true, ◌&&◌, is_some}
 use Rattle.std.specs.Prelude.{slice_set, IsTrue, IsSomeAnd, IfSome, option_map, unwrap_or}
 use Rattle.std.specs.List.{All}
 use Rattle.std.proofs.lemmas.Bool.{cases_eq, eq-eqb, ne_eqb, and_parts, eqb-true}
@@ -57,7 +57,7 @@ use Rattle.nvme_ctrl_content.proofs.Standing.{holds-fetch}
 use Rattle.nvme_ctrl_content.proofs.DeletingRegions.{put-same, put-other}
 use Rattle.nvme_ctrl.proofs.PendingDeletions.{deletions_stay, deletions_kept}
 use Rattle.nvme_ctrl.specs.kept.QueueSets.{with_queue}
-use Rattle.nvme_ctrl.proofs.QueueSets.{rung-put, not_false}
+use Rattle.nvme_ctrl.proofs.QueueSets.{rung-read}
 
 -- ---- what waits
 module _ (rules : FrontRules) (late : Bool) (notes : Notes) (c : Controller) (slots : List Slot) (s : StandsAt rules late notes c slots) where
@@ -230,9 +230,13 @@ pub record Fetches (c : Controller) (slots : List Slot) (qid : ℕ) (entry : Sqe
 abbrev pub fetched_state : SqState → Chain → Ring → SqState
 fetched_state state window ring = record state { ring = ring; window = window }
 
+-- a queue whose last entry was read leaves the set of those that may have some
+abbrev pub rung_left : ℕ → ℕ → Ring → ℕ
+rung_left set q ring = if ring.head == ring.tail then with_queue set q false else set
+
 abbrev pub fetched_controller : Controller → ℕ → Chain → Chain → Ring → BoardFields → Controller
 fetched_controller c q free window ring board =
-    record c { sqs = slice_set c.sqs q (fetched_state (sq_at c.sqs q) window ring); free = free; board = board; rung = with_queue c.rung q (not (ring.head == ring.tail)) }
+    record c { sqs = slice_set c.sqs q (fetched_state (sq_at c.sqs q) window ring); free = free; board = board; rung = rung_left c.rung q ring }
 
 abbrev pub fetched_item : (tag r n : ℕ) → Sqe → Item
 fetched_item tag r n entry = record { tag = tag; place = place_at r n; entry = entry }
@@ -394,12 +398,12 @@ module _ (rules : FrontRules) (late : Bool) (notes : Notes) (c : Controller) (sl
           is_arbiter = subst (λ (a : ArbiterFields). IsTrue (is_arbiter a)) (sym f.arbiter) n.is_arbiter;
           outstanding_is = n.outstanding_is;
           sqs = (let h = n.sqs.each qid e.region life in let state : SqState = fetched_state (sq_at c.sqs qid) window ring in let more : SqContent = fetched_sq (s.content.sq e.region) entry in
-              put_sqs c s.content n qid e.region life state (with_queue c.rung qid (not (ring.head == ring.tail))) content.sq s.content.held (shown_in content.board)
+              put_sqs c s.content n qid e.region life state (rung_left c.rung qid ring) content.sq s.content.held (shown_in content.board)
               (subst (λ (x : SqContent). IsSq s.content.table s.content.cq_life qid e.region state x (s.content.held e.region) (shown_in content.board qid)) (sym (put-same s.content.sq e.region more))
               (sq_changed s.content.table s.content.cq_life qid e.region (sq_at c.sqs qid) state (s.content.sq e.region) more (s.content.held e.region) (s.content.held e.region)
               (shown_in s.content.board qid) (shown_in content.board qid) h refl f.same_slots h.unposted refl refl h.held (h.shown ∙ sym (still_shown qid))))
               (λ x other. put-other s.content.sq e.region more x other) (λ x other. refl) (λ p other. still_shown p)
-              (rung-put c.rung qid (not (ring.head == ring.tail)) c.sqs state there n.sqs.rung (λ same. eqb-true ring.head ring.tail (not_false (ring.head == ring.tail) same))));
+              (rung-read c.rung qid (ring.head == ring.tail) c.sqs state there n.sqs.rung can.some_submitted (λ same. eqb-true ring.head ring.tail same)));
           cqs = n.cqs;
         }
 

@@ -1,6 +1,6 @@
 -- Sets of queues, and the queues outside them.
 use Rattle.std.proofs.Common.{◌≡◌, ◌≢◌, ◌∙◌, ℕ, zero, suc, ◌+◌, ◌-◌, ◌/◌, ◌%◌, ◌^◌, ◌<◌, ◌≤◌, ◌==◌, ◌&&◌, not, inl, inr, Bool, true, false, List, length, refl, sym, ap, subst, arith}
-use Rattle.std.specs.Prelude.{nat_le, slice_set}
+use Rattle.std.specs.Prelude.{nat_le, slice_set, if◌then◌else◌}
 use Rattle.std.specs.Int.{bit_at, w64, trailing_zeros}
 use Rattle.std.proofs.lemmas.Bool.{cases_eq, cases_lt, eq-eqb, ne_eqb, eqb-false, lt-ltb, le-ltb, le-leb}
 use Rattle.std.proofs.lemmas.Nat.{shr-shr, shr_below, pow_below}
@@ -94,6 +94,12 @@ readied-kept set q cqs state there holds empty p few out =
     put_cq-states (λ x s. x ≡ p → s.ready.len ≡ 0) cqs q state there
     (λ same. empty (subst (λ x. (cq_at cqs x).ready.len ≡ 0) (sym same) (holds p few out)))
     p (λ other same. holds p few out) refl
+
+-- where an entry of it was read: it leaves the set if that was the last
+pub rung-read : (set q : ℕ) (empty : Bool) (sqs : List SqState) (state : SqState) → q < length sqs → HoldsRung set sqs → (sq_at sqs q).ring.head ≢ (sq_at sqs q).ring.tail
+    → (empty ≡ true → state.ring.head ≡ state.ring.tail) → HoldsRung (if empty then with_queue set q false else set) (slice_set sqs q state)
+rung-read set q true sqs state there holds more drained = rung-put set q false sqs state there holds (λ none. drained refl)
+rung-read set q false sqs state there holds more drained = rung-kept set q sqs state there holds (λ same. absurd (more same))
 
 -- ---- the first above
 -- a bit of what is left of a set from one on

@@ -1,11 +1,10 @@
 // The fetches of a controller. (Base Specification, Command Submission and Completion Mechanism; depths and windows: profile)
 use crate::board_counts::came;
-use crate::queue_set::with_queue;
 use crate::state::Controller;
 use nvme_admin::MAX_REGIONS;
+use nvme_arbiter::HIGHEST_COUNT;
 use nvme_entry::Sqe;
-use nvme_log::window_of;
-use nvme_slots::slot::{Slot, WAITING, put_item, slot_at};
+use nvme_slots::slot::{Slot, put_waiting};
 
 impl Controller {
     ghost use Rattle.std.specs.Prelude.{◌≡◌, ◌≢◌, ℕ, Bool, true, false, List, length, slice_set, Some, None, IfSome};
@@ -51,7 +50,8 @@ impl Controller {
         }
         let waiting = u32::from(sq.window.len.saturating_sub(self.picked_in(qid)));
         waiting + u32::from(sq.unposted) < u32::from(self.depth(qid))
-            && waiting < u32::from(window_of(sq.ring.slots))
+            && waiting < u32::from(HIGHEST_COUNT)
+            && waiting + 1 < u32::from(sq.ring.slots)
     }
 
     /// The slot of the ring of an open submission queue whose entry is to be read next. None where the queue isn't open,
@@ -87,25 +87,13 @@ impl Controller {
         let Some(tag) = self.free.pop(slots) else {
             return false;
         };
-        let generation = slot_at(slots, tag).generation;
-        put_item(
-            slots,
-            tag,
-            Slot {
-                entry: *entry,
-                cookie,
-                sqid: (qid % 256) as u8,
-                state: WAITING,
-                generation,
-                ..Slot::free()
-            },
-        );
+        put_waiting(slots, tag, entry, cookie, (qid % 256) as u8);
         let mut sq = self.sq(qid);
         let held = sq.held == 1;
         sq.ring.read();
         sq.window.push(slots, tag);
-        self.put_fetched(qid, sq.ring, sq.window);
-        self.rung = with_queue(self.rung, qid, sq.ring.head != sq.ring.tail);
+        self.put_fetched(qid, sq.ring.head, sq.window);
+        self.note_fetched(qid, sq.ring.head == sq.ring.tail);
         came(&mut self.board, qid, held);
         true
     }

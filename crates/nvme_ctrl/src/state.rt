@@ -7,6 +7,7 @@ ghost use Rattle.std.specs.Prelude.{◌≡◌, slice_set};
 ghost use Rattle.nvme_ctrl.specs.kept.State.{sq_at, cq_at};
 
 use crate::own::OwnCommands;
+use crate::queue_set::with_queue;
 use nvme_admin::MAX_REGIONS;
 use nvme_arbiter::BoardFields;
 use nvme_placing::PlacedTable;
@@ -125,10 +126,11 @@ impl CqState {
 }
 
 impl Controller {
-    ghost use Rattle.std.specs.Prelude.{◌≡◌, None, slice_set};
+    ghost use Rattle.std.specs.Prelude.{◌≡◌, None, false, if◌then◌else◌, length, nat_lt, slice_set};
     ghost use Rattle.nvme_ctrl.specs.Calls.{depth_of};
     ghost use Rattle.nvme_slots.specs.Pool.{SameItems, pushed, longer, first_of, shorter};
     ghost use Rattle.nvme_ctrl.specs.kept.State.{sq_at, cq_at, picked_in};
+    ghost use Rattle.nvme_ctrl.specs.kept.QueueSets.{with_queue};
 
     /// The state of a submission queue.
     pub(crate) fn sq(&self, qid: u16) -> SqState
@@ -174,16 +176,26 @@ impl Controller {
         }
     }
 
-    /// Puts the ring and the window of a submission queue in their places.
+    /// Puts the head and the window of a submission queue in their places.
     #[inline(always)]
-    pub(crate) fn put_fetched(&mut self, qid: u16, ring: Ring, window: Chain)
-        ensures { self.new ≡ record self.old { sqs = slice_set self.old.sqs qid (record (sq_at self.old.sqs qid) { ring = ring; window = window }) } }
+    pub(crate) fn put_fetched(&mut self, qid: u16, head: u16, window: Chain)
+        ensures { self.new ≡ record self.old { sqs = slice_set self.old.sqs qid (record (sq_at self.old.sqs qid) { ring = record (sq_at self.old.sqs qid).ring { head = head }; window = window }) } }
     {
         let qid = usize::from(qid);
         if qid < MAX_REGIONS {
             let sq = &mut self.sqs[qid];
-            sq.ring = ring;
+            sq.ring.head = head;
             sq.window = window;
+        }
+    }
+
+    /// A submission queue leaves the set of those that may have entries, where all of them are fetched.
+    #[inline(always)]
+    pub(crate) fn note_fetched(&mut self, qid: u16, is_empty: bool)
+        ensures { self.new ≡ record self.old { rung = if is_empty then with_queue self.old.rung qid false else self.old.rung } }
+    {
+        if is_empty {
+            self.rung = with_queue(self.rung, qid, false);
         }
     }
 

@@ -136,6 +136,20 @@ pub fn put_item(slots: &mut [Slot], x: u16, slot: Slot)
     put(slots, x, Slot { next, ..slot });
 }
 
+/// The slot has a command that was fetched from a submission queue and waits.
+pub fn put_waiting(slots: &mut [Slot], x: u16, entry: &Sqe, cookie: u32, sqid: u8)
+    ensures { slots.new ≡ put_item slots.old x (record (slot_at slots.old x) { entry = entry.now; cookie = cookie; sqid = sqid; state = 1 }) }
+{
+    let x = usize::from(x);
+    if x < slots.len() {
+        let slot = &mut slots[x];
+        slot.entry = *entry;
+        slot.cookie = cookie;
+        slot.sqid = sqid;
+        slot.state = WAITING;
+    }
+}
+
 /// The slot is used for something else, and holds what it held.
 pub fn put_state(slots: &mut [Slot], x: u16, state: u8)
     ensures { slots.new ≡ put_item slots.old x (record (slot_at slots.old x) { state = state }) }

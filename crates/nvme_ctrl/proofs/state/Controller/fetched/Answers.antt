@@ -1,4 +1,4 @@
-use Rattle.std.proofs.Common.{◌≡◌, ℕ, ◌+◌, ◌<◌, ◌^◌, ◌%◌, Some, Bool, not, List, [], ◌∷◌, ◌++◌, length, refl, sym, ap, ◌∙◌, subst, arith}
+use Rattle.std.proofs.Common.{◌≡◌, ℕ, ◌+◌, ◌<◌, ◌^◌, ◌%◌, Some, Bool, List, [], ◌∷◌, ◌++◌, length, refl, sym, ap, ◌∙◌, subst, arith}
 use Rattle.std.specs.Prelude.{◌==◌, if◌then◌else◌, slice_set, IsSomeAnd, IfSome}
 use Rattle.nvme_arbiter.specs.Layout.{board_of}
 use Rattle.nvme_arbiter.specs.Limits.{highest_count}
@@ -13,16 +13,16 @@ use Rattle.nvme_slots.specs.Rings.{HasCounts}
 use Rattle.nvme_ctrl.specs.Calls.{HasFetched}
 use Rattle.nvme_ctrl.specs.Standing.{Stands, IsController}
 use Rattle.nvme_slots.specs.declared.chain.Chain.{Chain}
+use Rattle.nvme_slots.specs.declared.ring.Ring.{Ring}
 use Rattle.nvme_slots.specs.declared.slot.Slot.{Slot}
 use Rattle.nvme_ctrl.specs.declared.state.SqState.{SqState}
 use Rattle.nvme_ctrl.specs.declared.state.Controller.{Controller}
-use Rattle.nvme_slots.specs.Pool.{IsNew, IsChain, SameItems, SameLinks}
+use Rattle.nvme_slots.specs.Pool.{slot_at, IsNew, IsChain, SameItems, SameLinks}
 use Rattle.nvme_ctrl.specs.kept.State.{sq_at}
 use Rattle.std.proofs.lemmas.Bool.{false≢true}
-use Rattle.nvme_ctrl.proofs.FetchCalls.{Fetches, has_fetched, may_come, few_queues, told_fetchable}
+use Rattle.nvme_ctrl.proofs.FetchCalls.{Fetches, fetched_state, rung_left, has_fetched, may_come, few_queues, told_fetchable}
 use Rattle.nvme_slots.proofs.Generations.{left_both, put_left, items_left}
 use Rattle.nvme_ctrl.proofs.FetchTold.{is_fetchable, some_popped}
-use Rattle.nvme_ctrl.specs.kept.QueueSets.{with_queue}
 use Rattle.nvme_ctrl.proofs.state.Controller.fetched.Goals as goal
 
 pub returns-in_default-clause-front : goal.returns-in_default-clause-front
@@ -43,7 +43,11 @@ returns-in_default-clause-told c rules late notes s slot m =
 
 -- the command's slot
 abbrev waiting : goal.After-came → Slot
-waiting c = record c.free.result { entry = c.args.entry.now; cookie = c.args.cookie; generation = c.slot_at-generation.result.generation; sqid = c.args.qid % 256; state = 1 }
+waiting c = record (slot_at c.args.slots.now c.in-Some.tag) { entry = c.args.entry.now; cookie = c.args.cookie; sqid = c.args.qid % 256; state = 1 }
+
+-- the board is left so far
+shown : (c : goal.After-came) → c.note_fetched.new.self.board ≡ c.args.self.now.board
+shown c = ap (λ (self : Controller). self.board) c.note_fetched.ensures ∙ ap (λ (self : Controller). self.board) c.put_fetched.ensures
 
 fetches : (c : goal.After-came) (rules : FrontRules) (late : Bool) (notes : Notes) → Stands rules late notes c.args.self.now c.args.slots.now → Fetches c.args.self.now c.args.slots.now c.args.qid c.args.entry.now c.args.cookie c.in-Some.tag (waiting c) c.pop.new.self
     c.push.new.self c.read.new.self c.came.new.board c.push.new.slots
@@ -65,28 +69,33 @@ fetches c rules late notes s =
       has = refl;
       keeps = refl;
       chain = subst (λ (slots : List Slot). (xs : List ℕ) → IsChain slots (sq_at c.args.self.now.sqs c.args.qid).window xs → tag < length slots → IsNew tag xs
-          → length xs + 1 < 2 ^ 16 → IsChain pool c.push.new.self (xs ++ tag ∷ [])) c.put_item.ensures
-          (subst (λ (state : SqState). (xs : List ℕ) → IsChain c.put_item.new.slots state.window xs → tag < length c.put_item.new.slots → IsNew tag xs
+          → length xs + 1 < 2 ^ 16 → IsChain pool c.push.new.self (xs ++ tag ∷ [])) c.put_waiting.ensures
+          (subst (λ (state : SqState). (xs : List ℕ) → IsChain c.put_waiting.new.slots state.window xs → tag < length c.put_waiting.new.slots → IsNew tag xs
           → length xs + 1 < 2 ^ 16 → IsChain pool c.push.new.self (xs ++ tag ∷ [])) c.sq-sq.ensures c.push.ensures.chain);
-      items = subst (λ (slots : List Slot). SameItems slots pool) c.put_item.ensures c.push.ensures.items;
-      links = subst (λ (slots : List Slot). (xs : List ℕ) → IsChain slots (sq_at c.args.self.now.sqs c.args.qid).window xs → SameLinks xs slots pool) c.put_item.ensures
-          (subst (λ (state : SqState). (xs : List ℕ) → IsChain c.put_item.new.slots state.window xs → SameLinks xs c.put_item.new.slots pool) c.sq-sq.ensures c.push.ensures.links);
+      items = subst (λ (slots : List Slot). SameItems slots pool) c.put_waiting.ensures c.push.ensures.items;
+      links = subst (λ (slots : List Slot). (xs : List ℕ) → IsChain slots (sq_at c.args.self.now.sqs c.args.qid).window xs → SameLinks xs slots pool) c.put_waiting.ensures
+          (subst (λ (state : SqState). (xs : List ℕ) → IsChain c.put_waiting.new.slots state.window xs → SameLinks xs c.put_waiting.new.slots pool) c.sq-sq.ensures c.push.ensures.links);
       came = subst (λ (board : BoardFields). IfSome (queue_at (board_of board).queues c.args.qid) (λ (queue : OpenQueue). board_of c.came.new.board ≡ record (board_of board) {
         queues = slice_set (board_of board).queues c.args.qid (Some (record queue { count = if c.sq-sq.result.held == 1 then queue.count else queue.count + 1 }));
-      })) (ap (λ (self : Controller). self.board) c.put_fetched.ensures)
+      })) (shown c)
           (c.came.ensures.came (subst (λ (board : BoardFields). IsSomeAnd (queue_at (board_of board).queues c.args.qid) (λ (queue : OpenQueue). queue.count < highest_count))
-          (sym (ap (λ (self : Controller). self.board) c.put_fetched.ensures))
+          (sym (shown c))
           (may_come rules late notes c.args.self.now c.args.slots.now s c.args.qid it.entry it.can)));
-      arbiter = subst (λ (board : BoardFields). c.came.new.board.arbiter ≡ board.arbiter) (ap (λ (self : Controller). self.board) c.put_fetched.ensures) c.came.ensures.arbiter;
+      arbiter = subst (λ (board : BoardFields). c.came.new.board.arbiter ≡ board.arbiter) (shown c) c.came.ensures.arbiter;
     }
 
 pub returns-clause-stands : goal.returns-clause-stands
 returns-clause-stands c rules late notes s told =
     let self : Controller = c.args.self.now in
     let it = told_fetchable rules late notes self c.args.slots.now s c.args.qid (c.is_fetchable.ensures.yes c.if-not-is_fetchable.false) in
-    let rest : Bool = not (c.read.new.self.head == c.read.new.self.tail) in
-    let rung : c.with_queue-self.result ≡ with_queue self.rung c.args.qid rest = c.with_queue-self.ensures ∙ ap (λ (after : Controller). with_queue after.rung c.args.qid rest) c.put_fetched.ensures in
-    subst (λ (after : Controller). HasFetched rules late notes c.args.qid c.args.entry.now c.args.cookie (record after { board = c.came.new.board }) c.push.new.slots) (sym (λ j. record (c.put_fetched.ensures j) { rung = rung j }))
+    let old : SqState = sq_at self.sqs c.args.qid in
+    let tail : c.read.new.self.tail ≡ old.ring.tail = c.read.ensures.tail ∙ ap (λ (state : SqState). state.ring.tail) c.sq-sq.ensures in
+    let slots : c.read.new.self.slots ≡ old.ring.slots = c.read.ensures.slots ∙ ap (λ (state : SqState). state.ring.slots) c.sq-sq.ensures in
+    let ring : c.read.new.self ≡ record old.ring { head = c.read.new.self.head } = λ j. record c.read.new.self { tail = tail j; slots = slots j } in
+    let put : c.put_fetched.new.self ≡ record self { free = c.pop.new.self; sqs = slice_set self.sqs c.args.qid (fetched_state old c.push.new.self c.read.new.self) } =
+    c.put_fetched.ensures ∙ sym (ap (λ (r : Ring). record self { free = c.pop.new.self; sqs = slice_set self.sqs c.args.qid (fetched_state old c.push.new.self r) }) ring) in
+    subst (λ (after : Controller). HasFetched rules late notes c.args.qid c.args.entry.now c.args.cookie (record after { board = c.came.new.board }) c.push.new.slots)
+    (sym (c.note_fetched.ensures ∙ ap (λ (after : Controller). record after { rung = rung_left after.rung c.args.qid c.read.new.self }) put))
     (has_fetched rules late notes self c.args.slots.now s c.args.qid it.entry it.can c.args.entry.now c.args.cookie c.in-Some.tag (waiting c) c.pop.new.self
     c.push.new.self c.read.new.self c.came.new.board c.push.new.slots (fetches c rules late notes s))
 
@@ -103,6 +112,6 @@ returns-clause-front c front =
 
 pub returns-clause-generations : goal.returns-clause-generations
 returns-clause-generations c =
-    left_both c.args.slots.now c.put_item.new.slots c.push.new.slots
-    (put_left c.args.slots.now c.put_item.new.slots c.in-Some.tag _ c.put_item.ensures (ap (λ (s : Slot). s.generation) c.slot_at-generation.ensures))
-    (items_left c.put_item.new.slots c.push.new.slots c.push.ensures.items)
+    left_both c.args.slots.now c.put_waiting.new.slots c.push.new.slots
+    (put_left c.args.slots.now c.put_waiting.new.slots c.in-Some.tag _ c.put_waiting.ensures refl)
+    (items_left c.put_waiting.new.slots c.push.new.slots c.push.ensures.items)
