@@ -25,7 +25,7 @@ use Rattle.nvme_slots.specs.Pool.{slot_at, item_at, put_item, IsChain, AreApart}
 use Rattle.nvme_ctrl.specs.kept.State.{sq_at, cq_at, picked_in}
 use Rattle.nvme_ctrl.proofs.Passed.{passed_left, passed_later}
 use Rattle.nvme_ctrl.proofs.Cookies.{SameCookies, same_cookies-but, cookie_left, items_left, readies_left}
-use Rattle.nvme_slots.proofs.Pools.{length-put_item, slot_at-put_item_same, item_at-put_item_other, chain-put_item, AreApart-push}
+use Rattle.nvme_slots.proofs.Pools.{linked-head, length-put_item, slot_at-put_item_same, item_at-put_item_other, chain-put_item, AreApart-push}
 use Rattle.nvme_ctrl_content.proofs.OwnStatus.{All-unmap, candidates_wait}
 use Rattle.nvme_ctrl_content.proofs.HandSteps.{hand_done}
 use Rattle.nvme_ctrl_content.proofs.ReadyHand.{All-taken}
@@ -430,6 +430,12 @@ module _ (rules : FrontRules) (late : Bool) (notes : Notes) (c : Controller) (sl
         subst (λ (ws : List Item). IsChain slots (sq_at c.sqs c.picked_qid).window (tags_of ws)) is picked_chain in
         subst (λ (t : ℕ). t < length slots) (sym (same_Some tag it.tag (first it.tag (tags_of rest) linked)))
         (All-head (λ (x : ℕ). x < length slots) it.tag (tags_of rest) linked.inside)
+
+  -- so the pool has the first slot of the window
+  pub take-first_inside : (sq_at c.sqs c.picked_qid).window.first < length slots
+  take-first_inside =
+      let window : Chain = (sq_at c.sqs c.picked_qid).window in
+      take-inside window.first (λ x rest linked. ap (λ (n : ℕ). Some n) (linked-head slots window.first window.last x rest linked.linked))
 
   -- the chain has a first slot
   pub take-first_there : (popped : Option ℕ) → ((x : ℕ) (rest : List ℕ) → IsChain slots (sq_at c.sqs c.picked_qid).window (x ∷ rest) → popped ≡ Some x) → popped ≢ None

@@ -42,6 +42,9 @@ impl Controller {
         if self.picked == 0 {
             return None;
         }
+        if !self.has_first(slots, self.picked_qid) {
+            return None;
+        }
         let tag = self.pop_window(slots, self.picked_qid)?;
         put_out(slots, tag);
         self.picked -= 1;

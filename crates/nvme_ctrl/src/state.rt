@@ -233,6 +233,14 @@ impl Controller {
         }
     }
 
+    /// Whether the pool has the first slot of the window of a submission queue.
+    #[inline(always)]
+    pub(crate) fn has_first(&self, slots: &[Slot], qid: u16) -> bool
+        ensures { result ≡ nat_lt (sq_at self.now.sqs qid).window.first (length slots.now) }
+    {
+        usize::from(self.sq(qid).window.first) < slots.len()
+    }
+
     /// Takes the first slot out of the window of a submission queue.
     pub(crate) fn pop_window(&mut self, slots: &[Slot], qid: u16) -> Option<u16>
         ensures first { result ≡ first_of (sq_at self.old.sqs qid).window }

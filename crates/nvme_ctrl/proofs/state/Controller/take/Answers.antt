@@ -1,13 +1,15 @@
 -- What was popped is the oldest picked command, which is taken then.
 use Rattle.std.proofs.Common.{◌≡◌, ℕ, ◌-◌, List, ◌∷◌, Some, None, refl, sym, subst, ◌∙◌}
+use Rattle.std.proofs.lemmas.Bool.{false≢true, lt-ltb}
 use Rattle.nvme_ctrl_log.specs.Notes.{Taken}
 use Rattle.nvme_ctrl.specs.Calls.{HasTaken}
+use Rattle.nvme_ctrl.specs.Standing.{IsController}
 use Rattle.nvme_slots.specs.declared.chain.Chain.{Chain}
 use Rattle.nvme_slots.specs.declared.slot.Slot.{Slot}
 use Rattle.nvme_ctrl.specs.declared.state.Controller.{Controller}
 use Rattle.nvme_slots.specs.Pool.{slot_at, IsChain, shorter}
 use Rattle.nvme_ctrl.specs.kept.State.{sq_at}
-use Rattle.nvme_ctrl.proofs.TakeCall.{took, took_pool, took_slot, take-stands, take-inside, take-first_there}
+use Rattle.nvme_ctrl.proofs.TakeCall.{took, took_pool, took_slot, take-stands, take-inside, take-first_inside, take-first_there}
 use Rattle.nvme_slots.proofs.Chains.{pop-first, pop-shorter}
 use Rattle.nvme_slots.proofs.Generations.{put_next_generation}
 use Rattle.nvme_ctrl.proofs.state.Controller.take.Goals as goal
@@ -45,3 +47,11 @@ pub returns-in_err-tag-clause-told : goal.returns-in_err-tag-clause-told
 returns-in_err-tag-clause-told c rules late notes s told =
     absurd (take-first_there rules late notes c.args.self.now c.args.slots.now s c.if-self-eq0.false None
     (λ x rest linked. c.in_err-tag.ensures.first ∙ pop-first c.args.slots.now (sq_at c.args.self.now.sqs c.args.self.now.picked_qid).window x rest linked) refl)
+
+pub returns-then-not-has_first-clause-told : goal.returns-then-not-has_first-clause-told
+returns-then-not-has_first-clause-told c rules late notes s told =
+    absurd (false≢true (sym c.if-not-has_first.true ∙ c.has_first.ensures
+    ∙ lt-ltb _ _ (take-first_inside rules late notes c.args.self.now c.args.slots.now s c.if-self-eq0.false)))
+
+pub returns-in_err-tag-clause-front : goal.returns-in_err-tag-clause-front
+returns-in_err-tag-clause-front c front = subst (λ (self : Controller). IsController self c.args.slots.now) (sym (c.in_err-tag.ensures.none refl)) front
