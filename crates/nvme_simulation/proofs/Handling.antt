@@ -1,10 +1,12 @@
 -- What a step leaves, and what comes of an event.
-use Rattle.std.proofs.Common.{◌≡◌, ◌∙◌, ◌<◌, ℕ, ◌+◌, ◌-◌, ◌*◌, ◌&&◌, Bool, true, false, cond, nat_lt, Option, Some, None, option_map, refl, sym, ap, subst, arith}
+use Rattle.std.proofs.Common.{◌≡◌, ◌∙◌, ◌<◌, ℕ, ◌+◌, ◌-◌, ◌*◌, ◌&&◌, ◌==◌, not, Bool, true, false, cond, nat_lt, Option, Some, None, Result, Ok, Err, option_map, refl, sym, ap, subst, arith}
 use Rattle.std.proofs.lemmas.Bool.Decides.{nat_tests}
-use Rattle.nvme_clock.specs.Held.{Held}
+use Rattle.nvme_clock.specs.Held.{Held, pushed}
 use Rattle.nvme_clock.specs.declared.events.Event.{Event as Timed}
 use Rattle.nvme_log.specs.Rules.{FrontRules}
 use Rattle.nvme_ctrl_log.specs.Notes.{Notes}
+use Rattle.std.specs.Prelude.{OnOk}
+use Rattle.nvme_model.specs.declared.device.Pauses.{Pauses}
 use Rattle.nvme_model.specs.declared.model.End.{End}
 use Rattle.nvme_occupancy.specs.Occupancies.{Comes}
 use Rattle.nvme_occupancy.specs.declared.occupancy.Occupancy.{Occupancy}
@@ -15,16 +17,19 @@ use Rattle.nvme_simulation.specs.Fronts.{IsFront}
 use Rattle.nvme_simulation.specs.Handling.{Stays}
 use Rattle.nvme_simulation.specs.Machines.{Goes, Works}
 use Rattle.nvme_simulation.specs.Passing.{OneComesIf}
+use Rattle.nvme_simulation.specs.Pausing.{GoesOn, GoesOnFor, NextPause, at_end, is_over}
 use Rattle.nvme_simulation.specs.Picks.{IsLawful}
 use Rattle.nvme_simulation.specs.Planning.{ArrivalPlans}
-use Rattle.nvme_simulation.specs.Plans.{Follows, IsFirst, cause, picks_behind}
+use Rattle.nvme_simulation.specs.Plans.{Follows, IsFirst, cause, events_of, picks_behind}
 use Rattle.nvme_simulation.specs.Progress.{OneComes}
 use Rattle.nvme_simulation.specs.Simulations.{IsSameModel, IsSimulation, counts_next, hosts_of, may_come_to, time_of}
 use Rattle.nvme_simulation.specs.Steps.{cost_with, steps_left}
 use Rattle.nvme_simulation.specs.Times.{now_of}
 use Rattle.nvme_simulation.specs.declared.agenda.Event.{Event}
+use Rattle.nvme_simulation.specs.declared.agenda.Event.TheVariants.{Pause}
 use Rattle.nvme_simulation.specs.declared.happening.Happening.{Happening}
 use Rattle.nvme_simulation.specs.declared.happening.Happening.TheVariants.{Came, Picked, Settled, Finished, Paused, Resumed, Over}
+use Rattle.nvme_simulation.specs.declared.hosts.Hosts.{Hosts}
 use Rattle.nvme_simulation.specs.declared.machine.Machine.{Machine}
 use Rattle.nvme_simulation.specs.declared.simulation.Simulation.{Simulation}
 use Rattle.nvme_simulation.proofs.Machines.{goes_self, works, works_then, works_time}
@@ -107,6 +112,44 @@ thinks_at told thought b x qid machine rest same last plans =
     let second : PlansIf (closed_in x.hosts qid && may_come_to b (time_of b)) qid (time_of told) x thought.machine =
     subst (λ (y : Bool). PlansIf (closed_in x.hosts qid && y) qid (time_of told) x thought.machine) may first in
     subst (λ (t : ℕ). PlansIf (closed_in x.hosts qid && may_come_to b (time_of b)) qid t x thought.machine) (sym same) second
+
+-- the next pause of a channel
+pub next_none : (pauses : Option Pauses) (over : Bool) (channel now : ℕ) (h : Held Event) → pauses ≡ None → NextPause pauses over channel now h h
+next_none pauses over channel now h none = subst (λ (o : Option Pauses). NextPause o over channel now h h) (sym none) refl
+
+pub next_over : (pauses : Option Pauses) (over : Bool) (channel now : ℕ) (h : Held Event) → over ≡ true → NextPause pauses over channel now h h
+next_over None over channel now h is = refl
+next_over (Some p) over channel now h is = subst (λ (b : Bool). NextPause (Some p) b channel now h h) (sym is) refl
+
+pub next_pause : {E : Type 0} (pauses : Option Pauses) (over : Bool) (p : Pauses) (channel now t : ℕ) (a b : Held Event) (r : Result Unit E) → pauses ≡ Some p
+    → over ≡ false → t ≡ now → OnOk r (b ≡ pushed (t + (p.every - p.length)) (Pause channel) a) → OnOk r (NextPause pauses over channel now a b)
+next_pause pauses over p channel now t a b (Err e) some goes time plans = tt
+next_pause pauses over p channel now t a b (Ok x) some goes time plans =
+    rw (some, goes) (plans ∙ ap (λ (v : ℕ). pushed (v + (p.every - p.length)) (Pause channel) a) time)
+
+-- whether all is over, at a time and of hosts
+abbrev over_at : Simulation → ℕ → Hosts → Bool
+over_at s t hosts = (s.occupancy.came - s.occupancy.left == 0) && not (may_come_to s t && not (at_end hosts))
+
+pub goes_on_for : (old resumed after : Simulation) (channel : ℕ) → Stays resumed after → GoesOn channel old.machine resumed.machine
+    → after ≡ record resumed { machine = after.machine } → after.machine ≡ record resumed.machine { agenda = after.machine.agenda }
+    → NextPause resumed.pauses (is_over resumed) channel (time_of resumed) (events_of resumed.machine.agenda) (events_of after.machine.agenda)
+    → GoesOnFor channel old.machine after
+goes_on_for old resumed after channel stays goes rest agenda next =
+    let hosts : after.machine.hosts ≡ resumed.machine.hosts = ap (λ (m : Machine). m.hosts) agenda in
+    let time : time_of after ≡ time_of resumed = stays_time resumed after stays in
+    let over : is_over after ≡ is_over resumed =
+    ap is_over rest ∙ ap (λ (t : ℕ). over_at resumed t after.machine.hosts) time ∙ ap (over_at resumed (time_of resumed)) hosts in
+    record {
+      resumed = resumed.machine;
+      goes = goes;
+      hosts = hosts;
+      device = ap (λ (m : Machine). m.device) agenda;
+      next = subst (λ (o : Option Pauses). NextPause o (is_over after) channel (time_of after) (events_of resumed.machine.agenda) (events_of after.machine.agenda))
+          (sym (ap (λ (s : Simulation). s.pauses) rest))
+          (subst (λ (t : ℕ). NextPause resumed.pauses (is_over after) channel t (events_of resumed.machine.agenda) (events_of after.machine.agenda)) (sym time)
+          (subst (λ (b : Bool). NextPause resumed.pauses b channel (time_of resumed) (events_of resumed.machine.agenda) (events_of after.machine.agenda)) (sym over) next));
+    }
 
 pub came_if : (end : End) (t u : ℕ) (o p : Occupancy) → u ≡ t → may_come end t o ≡ true → Comes t o p → ComesIf (may_come end u o) u o p
 came_if end t u o p same may comes = rw (same, may) comes

@@ -4,19 +4,21 @@ use Rattle.std.specs.Prelude.{OnSome, slice_get, slice_set}
 use Rattle.std.proofs.lemmas.Bool.{cases_eq}
 use Rattle.std.proofs.lemmas.Option.{slice_get-get_or}
 use Rattle.nvme_simulation.specs.declared.flight.Flight.{Flight}
+use Rattle.nvme_simulation.specs.declared.flight.Stage.{Stage}
 use Rattle.nvme_simulation.specs.declared.host.Host.{Host}
 use Rattle.nvme_simulation.specs.declared.hosts.Hosts.{Hosts}
 use Rattle.nvme_simulation.specs.Following.{DrawsNext, IsNextOf}
+use Rattle.nvme_simulation.specs.Moving.{HostMoves, OneMoves}
 use Rattle.nvme_simulation.specs.Progress.{AllGoOn, Between, BetweenOne, HostComesOne, HostEndsOne, HostGoesOn, OneComes, OneEnds}
 use Rattle.nvme_simulation.proofs.Moves.{set_here, set_there}
 use Rattle.nvme_simulation.proofs.Progress.{host_comes_then, host_ends_after, host_ends_before, host_stays, host_then}
 
-between_stay : (now : ℕ) (o : Option Host) → Between (HostGoesOn now) o o
-between_stay now None = tt
-between_stay now (Some h) = host_stays now h
+pub between_self : (R : Host → Host → Type 0) → ((h : Host) → R h h) → (o : Option Host) → Between R o o
+between_self R same None = tt
+between_self R same (Some h) = same h
 
 -- where two steps make a third of each host, they do so of all
-between_both : (P Q R : Host → Host → Type 0) → ((x y z : Host) → P x y → Q y z → R x z) → (a b c : Option Host) → Between P a b → Between Q b c → Between R a c
+pub between_both : (P Q R : Host → Host → Type 0) → ((x y z : Host) → P x y → Q y z → R x z) → (a b c : Option Host) → Between P a b → Between Q b c → Between R a c
 between_both P Q R f None None None first second = tt
 between_both P Q R f None None (Some z) first second = absurd second
 between_both P Q R f None (Some y) c first second = absurd first
@@ -49,7 +51,7 @@ between_then : (now : ℕ) (a b c : Option Host) → Between (HostGoesOn now) a 
 between_then now a b c first second = between_both (HostGoesOn now) (HostGoesOn now) (HostGoesOn now) (host_then now) a b c first second
 
 pub all_stay : (now : ℕ) (hs : Hosts) → AllGoOn now hs hs
-all_stay now hs = record { each = λ k. between_stay now (slice_get hs.all.items k) }
+all_stay now hs = record { each = λ k. between_self (HostGoesOn now) (host_stays now) (slice_get hs.all.items k) }
 
 pub all_then : (now : ℕ) (a b c : Hosts) → AllGoOn now a b → AllGoOn now b c → AllGoOn now a c
 all_then now a b c first second =
@@ -70,29 +72,49 @@ at_place R xs ys place h w items within at r =
     let is : slice_get ys place ≡ Some w = ap (λ (zs : List Host). slice_get zs place) items ∙ set_here xs place w within in
     subst (λ (o : Option Host). BetweenOne R o (slice_get ys place)) (sym at) (subst (λ (o : Option Host). BetweenOne R (Some h) o) (sym is) r)
 
-beside_place : (now : ℕ) (xs ys : List Host) (place : ℕ) (w : Host) → ys ≡ slice_set xs place w → (k : ℕ) → k ≢ place
-    → Between (HostGoesOn now) (slice_get xs k) (slice_get ys k)
-beside_place now xs ys place w items k other =
-    let is : slice_get ys k ≡ slice_get xs k = ap (λ (zs : List Host). slice_get zs k) items ∙ set_there xs place k w other in
-    subst (λ (o : Option Host). Between (HostGoesOn now) (slice_get xs k) o) (sym is) (between_stay now (slice_get xs k))
+-- and each other one is the same
+others_same : (xs ys : List Host) (place : ℕ) (w : Host) → ys ≡ slice_set xs place w → (k : ℕ) → k ≢ place → slice_get ys k ≡ slice_get xs k
+others_same xs ys place w items k other = ap (λ (zs : List Host). slice_get zs k) items ∙ set_there xs place k w other
+
+beside_place : (R : Host → Host → Type 0) → ((h : Host) → R h h) → (xs ys : List Host) (place : ℕ) (w : Host) → ys ≡ slice_set xs place w → (k : ℕ) → k ≢ place
+    → Between R (slice_get xs k) (slice_get ys k)
+beside_place R same xs ys place w items k other =
+    subst (λ (o : Option Host). Between R (slice_get xs k) o) (sym (others_same xs ys place w items k other)) (between_self R same (slice_get xs k))
+
+pub one_changes : (R : Host → Host → Type 0) → ((h : Host) → R h h) → (before after : Hosts) (place : ℕ) (h w : Host)
+    → after.all.items ≡ slice_set before.all.items place w → place < length before.all.items → slice_get before.all.items place ≡ Some h → R h w
+    → (k : ℕ) → Between R (slice_get before.all.items k) (slice_get after.all.items k)
+one_changes R self before after place h w items within at is k = elim (cases_eq k place) [
+  | inl same ↦
+      subst (λ (j : ℕ). Between R (slice_get before.all.items j) (slice_get after.all.items j)) (sym same)
+      (between_one R (slice_get before.all.items place) (slice_get after.all.items place) (at_place R before.all.items after.all.items place h w items within at is))
+  | inr other ↦ beside_place R self before.all.items after.all.items place w items k other
+]
 
 pub one_goes : (now : ℕ) (before after : Hosts) (place : ℕ) (h w : Host) → after.all.items ≡ slice_set before.all.items place w → place < length before.all.items
     → slice_get before.all.items place ≡ Some h → HostGoesOn now h w → AllGoOn now before after
-one_goes now before after place h w items within at goes = record {
-  each = λ k. elim (cases_eq k place) [
-    | inl same ↦
-        subst (λ (j : ℕ). Between (HostGoesOn now) (slice_get before.all.items j) (slice_get after.all.items j)) (sym same)
-        (between_one (HostGoesOn now) (slice_get before.all.items place) (slice_get after.all.items place)
-        (at_place (HostGoesOn now) before.all.items after.all.items place h w items within at goes))
-    | inr other ↦ beside_place now before.all.items after.all.items place w items k other
-  ];
+one_goes now before after place h w items within at goes =
+    record { each = one_changes (HostGoesOn now) (host_stays now) before after place h w items within at goes }
+
+pub one_moves : (qid number : ℕ) (from : Stage) (now : ℕ) (before after : Hosts) (place : ℕ) (h w : Host) → qid ≡ place + 1
+    → after.all.items ≡ slice_set before.all.items place w → place < length before.all.items → slice_get before.all.items place ≡ Some h
+    → HostMoves number from now h w → OneMoves qid number from now before after
+one_moves qid number from now before after place h w queue items within at moves = record {
+  place = place;
+  queue = queue;
+  moves = at_place (HostMoves number from now) before.all.items after.all.items place h w items within at moves;
+  others = others_same before.all.items after.all.items place w items;
 }
 
 pub one_draws : (qid time : ℕ) (next : Option ℕ) (before after : Hosts) (place : ℕ) (h w : Host) → qid ≡ place + 1
     → after.all.items ≡ slice_set before.all.items place w → place < length before.all.items → slice_get before.all.items place ≡ Some h
     → DrawsNext time next h w → IsNextOf qid time next before after
-one_draws qid time next before after place h w queue items within at draws =
-    record { place = place; queue = queue; draws = at_place (DrawsNext time next) before.all.items after.all.items place h w items within at draws }
+one_draws qid time next before after place h w queue items within at draws = record {
+  place = place;
+  queue = queue;
+  draws = at_place (DrawsNext time next) before.all.items after.all.items place h w items within at draws;
+  others = others_same before.all.items after.all.items place w items;
+}
 
 pub one_ends : (qid number now : ℕ) (flight : Flight) (before after : Hosts) (place : ℕ) (h w : Host) → qid ≡ place + 1
     → after.all.items ≡ slice_set before.all.items place w → place < length before.all.items → slice_get before.all.items place ≡ Some h
@@ -101,7 +123,7 @@ one_ends qid number now flight before after place h w queue items within at ends
   place = place;
   queue = queue;
   ends = at_place (HostEndsOne number now flight) before.all.items after.all.items place h w items within at ends;
-  others = beside_place now before.all.items after.all.items place w items;
+  others = beside_place (HostGoesOn now) (host_stays now) before.all.items after.all.items place w items;
 }
 
 pub one_comes : (qid now : ℕ) (counts : Bool) (before after : Hosts) (place : ℕ) (h w : Host) → qid ≡ place + 1
@@ -111,7 +133,7 @@ one_comes qid now counts before after place h w queue items within at comes = re
   place = place;
   queue = queue;
   comes = at_place (HostComesOne now counts) before.all.items after.all.items place h w items within at comes;
-  others = beside_place now before.all.items after.all.items place w items;
+  others = beside_place (HostGoesOn now) (host_stays now) before.all.items after.all.items place w items;
 }
 
 pub one_after : (qid number now : ℕ) (flight : Flight) (a b c : Hosts) → AllGoOn now a b → OneEnds qid number now flight b c → OneEnds qid number now flight a c

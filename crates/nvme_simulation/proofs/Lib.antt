@@ -7,7 +7,10 @@ mod Moves
 mod Plans
 mod Pools
 mod Progress
+mod Resting
 mod Rooms
 mod Runs
 mod Started
 mod Stepping
+mod Taking
+mod Telling

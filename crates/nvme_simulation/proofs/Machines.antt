@@ -2,17 +2,21 @@
 use Rattle.std.proofs.Common.{◌≡◌, ◌∙◌, ◌≤◌, ◌<◌, ℕ, ◌+◌, ◌-◌, ◌*◌, Bool, true, false, Option, Some, None, Result, Ok, Err, refl, sym, ap, subst, arith}
 use Rattle.std.specs.Prelude.{IfSome, IsErr, OnOk, OnSome, SomeIff}
 use Rattle.nvme_simulation.specs.Devices.{device_in}
-use Rattle.nvme_channels.specs.Steps.{finish_of}
-use Rattle.nvme_clock.specs.Held.{pushed}
+use Rattle.nvme_channels.specs.Steps.{finish_of, pause_of, resume_of}
+use Rattle.nvme_clock.specs.Held.{Held, pushed}
 use Rattle.nvme_simulation.specs.Following.{IsNextOf, PlansIf, PlansNext}
 use Rattle.nvme_simulation.specs.Fronts.{IsFront, StaysFront}
 use Rattle.nvme_simulation.specs.Machines.{EndsAndStarts, Goes, Works}
+use Rattle.nvme_simulation.specs.Moving.{StartsIn}
+use Rattle.nvme_simulation.specs.Pausing.{GoesOn, PausesFor}
 use Rattle.nvme_simulation.specs.Plans.{events_of}
 use Rattle.nvme_simulation.specs.Progress.{AllGoOn, OneComes}
+use Rattle.nvme_simulation.specs.Resting.{AllRest}
 use Rattle.nvme_simulation.specs.Starts.{AnswersAs, PlansEnd}
 use Rattle.nvme_simulation.specs.Steps.{cost_at}
 use Rattle.nvme_simulation.specs.Times.{now_of}
-use Rattle.nvme_simulation.specs.declared.agenda.Event.TheVariants.{Arrival, Pause}
+use Rattle.nvme_simulation.specs.declared.agenda.Event.{Event}
+use Rattle.nvme_simulation.specs.declared.agenda.Event.TheVariants.{Arrival, Pause, Resume}
 use Rattle.nvme_simulation.specs.declared.channels.Started.{Started}
 use Rattle.nvme_simulation.specs.declared.front.Front.{Front}
 use Rattle.nvme_simulation.specs.declared.hosts.Hosts.{Hosts}
@@ -93,13 +97,47 @@ plans_next qid time m n E next (Err e) none plans draws = tt
 plans_next qid time m n E None (Ok x) none plans draws = absurd (cc (none refl))
 plans_next qid time m n E (Some at) (Ok x) none plans draws = record { at = at; next = draws; planned = plans }
 
+-- what is planned for a time later
+pub plans_sum : (P E : Type 0) (at : Option ℕ) (r : Result Unit E) (time : ℕ) (what : Event) (a b : Held Event) → SomeIff at P time → (at ≡ None → IsErr r)
+    → OnOk r (IfSome at (λ t. b ≡ pushed t what a)) → OnOk r (b ≡ pushed time what a)
+plans_sum P E at (Err e) time what a b sum none plans = tt
+plans_sum P E None (Ok x) time what a b sum none plans = absurd (cc (none refl))
+plans_sum P E (Some t) (Ok x) time what a b sum none plans = plans ∙ ap (λ (v : ℕ). pushed v what a) sum.1
+
 -- a command ends at a time that is told, and the next one starts
 pub ends_at : (t channel : ℕ) (m n : Machine) (started : Option Started) → t ≡ now_of m.agenda → AnswersAs (finish_of t channel (device_in m.device)).0 started
-    → device_in n.device ≡ (finish_of t channel (device_in m.device)).1 → PlansEnd started (events_of m.agenda) (events_of n.agenda) → EndsAndStarts channel m n
-ends_at t channel m n started time answers device plans = record {
+    → device_in n.device ≡ (finish_of t channel (device_in m.device)).1 → PlansEnd started (events_of m.agenda) (events_of n.agenda) → (waited : Hosts)
+    → StartsIn started (now_of m.agenda) m.hosts waited → AllRest waited n.hosts → EndsAndStarts channel m n
+ends_at t channel m n started time answers device plans waited starts rests = record {
   started = started;
   answers = subst (λ (v : ℕ). AnswersAs (finish_of v channel (device_in m.device)).0 started) time answers;
   device = device ∙ ap (λ (v : ℕ). (finish_of v channel (device_in m.device)).1) time;
+  plans = plans;
+  waited = waited;
+  starts = starts;
+  rests = rests;
+}
+
+-- a channel pauses at a time that is told
+pub pauses_at : {E : Type 0} (t channel length : ℕ) (m n : Machine) (r : Result Unit E) → t ≡ now_of m.agenda
+    → device_in n.device ≡ (pause_of channel (device_in m.device)).1 → n.hosts ≡ m.hosts
+    → OnOk r (events_of n.agenda ≡ pushed (t + length) (Resume channel) (events_of m.agenda)) → OnOk r (PausesFor channel length m n)
+pauses_at t channel length m n (Err e) time device hosts plans = tt
+pauses_at t channel length m n (Ok x) time device hosts plans = record {
+  device = device;
+  hosts = hosts;
+  plans = plans ∙ ap (λ (v : ℕ). pushed (v + length) (Resume channel) (events_of m.agenda)) time;
+}
+
+-- a channel goes on at a time that is told
+pub goes_on_at : (t channel : ℕ) (m n : Machine) (started : Option Started) → t ≡ now_of m.agenda → AnswersAs (resume_of t channel (device_in m.device)).0 started
+    → device_in n.device ≡ (resume_of t channel (device_in m.device)).1 → StartsIn started (now_of m.agenda) m.hosts n.hosts
+    → PlansEnd started (events_of m.agenda) (events_of n.agenda) → GoesOn channel m n
+goes_on_at t channel m n started time answers device starts plans = record {
+  started = started;
+  answers = subst (λ (v : ℕ). AnswersAs (resume_of v channel (device_in m.device)).0 started) time answers;
+  device = device ∙ ap (λ (v : ℕ). (resume_of v channel (device_in m.device)).1) time;
+  starts = starts;
   plans = plans;
 }
 

@@ -161,7 +161,7 @@ stage_kept f n x is = by (nat_lt n f.first) refl is where
       stage ∙ ap (option_map (λ (y : Flight). y.stage)) it
 
 -- the host of a queue
-host_at : (hosts : Hosts) (k : ℕ) → host_of hosts (k + 1) ≡ slice_get hosts.all.items k
+pub host_at : (hosts : Hosts) (k : ℕ) → host_of hosts (k + 1) ≡ slice_get hosts.all.items k
 host_at hosts k =
     let some : nat_lt 0 (k + 1) ≡ true = grind (arith, nat_tests) in
     let same : k + 1 - 1 ≡ k = omega arith in

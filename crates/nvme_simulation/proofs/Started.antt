@@ -17,3 +17,8 @@ answers r told start is starts = subst (λ (x : Result (Option Start) StepFault)
 pub at_now : (taken : Taken) (request : Request) (t u : ℕ) (d : Device) → t ≡ u
     → (take_of t (number_in taken) request.block request.service d).1 ≡ (take_of u (number_in taken) request.block request.service d).1
 at_now taken request t u d time = ap (λ (v : ℕ). (take_of v (number_in taken) request.block request.service d).1) time
+
+pub answers_now : (taken : Taken) (request : Request) (t u : ℕ) (d : Device) (told : Option Started) → t ≡ u
+    → AnswersAs (take_of t (number_in taken) request.block request.service d).0 told → AnswersAs (take_of u (number_in taken) request.block request.service d).0 told
+answers_now taken request t u d told time is =
+    subst (λ (v : ℕ). AnswersAs (take_of v (number_in taken) request.block request.service d).0 told) time is

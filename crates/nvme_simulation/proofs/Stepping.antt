@@ -9,10 +9,11 @@ use Rattle.nvme_simulation.specs.Machines.{Goes}
 use Rattle.nvme_simulation.specs.Passing.{Passes}
 use Rattle.nvme_simulation.specs.Picks.{IsTimed}
 use Rattle.nvme_simulation.specs.Planning.{PlansFor, StepPlans}
-use Rattle.nvme_simulation.specs.Plans.{Follows, IsFirst, IsOfPicks, events_of, is_pick, picks_behind}
+use Rattle.nvme_simulation.specs.Plans.{Follows, IsFirst, IsOfPicks, cause, events_of, is_pick, picks_behind}
 use Rattle.nvme_simulation.specs.Simulations.{counts_next, may_come_to}
 use Rattle.nvme_simulation.specs.Stepping.{HasStepped}
 use Rattle.nvme_simulation.specs.Steps.{cost, cost_in, cost_with, picked_in}
+use Rattle.nvme_simulation.specs.Taking.{PicksAsTold}
 use Rattle.nvme_simulation.specs.Times.{now_of}
 use Rattle.nvme_simulation.specs.declared.agenda.Agenda.{Agenda}
 use Rattle.nvme_simulation.specs.declared.agenda.Event.{Event}
@@ -32,43 +33,45 @@ picked a m h = record a { machine = m; picks = is_pick h }
 
 pub pick_steps : (a : Simulation) (m : Machine) (h : Happening) → a.picks ≡ true → Goes a.machine m → cost_with m + picked_in h ≤ cost_with a.machine → IsOfPicks h
     → IsTimed (now_of m.agenda) h → Counts a.end (now_of m.agenda) a.occupancy a.occupancy h
-    → Passes (may_come_to a (now_of m.agenda)) (counts_next a) (now_of m.agenda) a.machine.hosts m.hosts h → HasStepped a (picked a m h) h
-pick_steps a m (Picked p) picks goes costs is timed counts passes = record {
+    → Passes (may_come_to a (now_of m.agenda)) (counts_next a) (now_of m.agenda) a.machine.hosts m.hosts h → PicksAsTold a.machine m h
+    → HasStepped a (picked a m h) h
+pick_steps a m (Picked p) picks goes costs is timed counts passes plans = record {
   next = rw picks (is, goes.events);
   picks = refl;
   timed = timed;
   counts = counts;
   passes = passes;
-  plans = tt;
+  plans = plans;
   falls = inr (let was : ◌≡◌ {A = ℕ} (cond a.picks 1 0) 1 = ap (λ (b : Bool). cond b 1 0) picks in omega (arith, costs, was));
 }
-pick_steps a m Settled picks goes costs is timed counts passes = record {
+pick_steps a m Settled picks goes costs is timed counts passes plans = record {
   next = rw picks (is, goes.events);
   picks = refl;
   timed = timed;
   counts = counts;
   passes = passes;
-  plans = tt;
+  plans = plans;
   falls = inr (let was : ◌≡◌ {A = ℕ} (cond a.picks 1 0) 1 = ap (λ (b : Bool). cond b 1 0) picks in omega (arith, costs, was));
 }
-pick_steps a m (Came queue) picks goes costs is timed counts passes = absurd is
-pick_steps a m (Finished command counting) picks goes costs is timed counts passes = absurd is
-pick_steps a m (Paused channel) picks goes costs is timed counts passes = absurd is
-pick_steps a m (Resumed channel) picks goes costs is timed counts passes = absurd is
-pick_steps a m Over picks goes costs is timed counts passes = absurd is
+pick_steps a m (Came queue) picks goes costs is timed counts passes plans = absurd is
+pick_steps a m (Finished command counting) picks goes costs is timed counts passes plans = absurd is
+pick_steps a m (Paused channel) picks goes costs is timed counts passes plans = absurd is
+pick_steps a m (Resumed channel) picks goes costs is timed counts passes plans = absurd is
+pick_steps a m Over picks goes costs is timed counts passes plans = absurd is
 
 -- the simulation whose first event comes
 abbrev pub reached : Simulation → Agenda → Simulation
 reached a g = record a { machine = record a.machine { agenda = g }; picks = true }
 
-step_plans : (a b : Simulation) (g : Agenda) (h : Happening) → events_of g ≡ (popped (events_of a.machine.agenda)).1 → PlansFor h (reached a g) b → StepPlans h a b
-step_plans a b g (Came queue) rest plans = record { rest = g; is = rest; plans = plans }
-step_plans a b g (Finished command counts) rest plans = record { rest = g; is = rest; plans = plans }
-step_plans a b g (Picked p) rest plans = tt
-step_plans a b g Settled rest plans = tt
-step_plans a b g (Paused channel) rest plans = tt
-step_plans a b g (Resumed channel) rest plans = tt
-step_plans a b g Over rest plans = tt
+step_plans : (a b : Simulation) (g : Agenda) (event : Event) (h : Happening) → cause h ≡ Some event → events_of g ≡ (popped (events_of a.machine.agenda)).1 → PlansFor h (reached a g) b → StepPlans h a b
+step_plans a b g event (Came queue) tells rest plans = record { rest = g; is = rest; plans = plans }
+step_plans a b g event (Finished command counts) tells rest plans = record { rest = g; is = rest; plans = plans }
+step_plans a b g event (Picked p) tells rest plans = absurd (cc tells)
+step_plans a b g event Settled tells rest plans = absurd (cc tells)
+step_plans a b g event (Paused channel) tells rest plans =
+    record { rest = g; is = rest; plans = record { pauses = plans.pauses; are = plans.are; does = plans.does } }
+step_plans a b g event (Resumed channel) tells rest plans = record { rest = g; is = rest; plans = plans }
+step_plans a b g event Over tells rest plans = tt
 
 pub event_steps : (a b : Simulation) (g : Agenda) (event : Event) (h : Happening) → a.picks ≡ false
     → option_map (λ (e : Timed Event). e.what) (popped (events_of a.machine.agenda)).0 ≡ Some event → events_of g ≡ (popped (events_of a.machine.agenda)).1
@@ -80,7 +83,7 @@ event_steps a b g event h picks what rest costs stays handles = record {
   timed = handles.timed;
   counts = handles.counts;
   passes = handles.passes;
-  plans = step_plans a b g h rest handles.plans;
+  plans = step_plans a b g event h handles.tells rest handles.plans;
   falls = inr (let was : ◌≡◌ {A = ℕ} (cond a.picks 1 0) 0 = ap (λ (b : Bool). cond b 1 0) picks in omega (arith, handles.cost, costs, was));
 }
 

@@ -54,7 +54,7 @@ fn taken_of(number: u64) -> Taken
 impl Runs {
     ghost use Rattle.std.specs.Prelude.{◌≤◌, ◌+◌, IfOk, OnOk};
     ghost use Rattle.nvme_channels.specs.Devices.{new_device};
-    ghost use Rattle.nvme_channels.specs.Steps.{finish_of, resume_of, take_of};
+    ghost use Rattle.nvme_channels.specs.Steps.{finish_of, pause_of, resume_of, take_of};
     ghost use Rattle.nvme_simulation.specs.Devices.{IsBehind, device_in, room_in};
     ghost use Rattle.nvme_simulation.specs.Starts.{AnswersAs, StartsAs};
 
@@ -148,6 +148,7 @@ impl Runs {
     pub(crate) fn pause(&mut self, channel: usize) -> Result<(), SimulationFault>
         ensures behind { IsBehind (device_in self.old) (device_in self.new) }
         ensures room { room_in self.new ≤ room_in self.old }
+        ensures pauses { device_in self.new ≡ (pause_of channel (device_in self.old)).1 }
     {
         match self.channels.pause(channel) {
             Ok(()) => Ok(()),

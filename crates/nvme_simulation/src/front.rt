@@ -45,6 +45,7 @@ impl Front {
     ghost use Rattle.nvme_ctrl_log.specs.Observation.{seen_in};
     ghost use Rattle.nvme_ctrl_log.specs.Steps.{IsNextPick, IsNextWithin};
     ghost use Rattle.nvme_ctrl.specs.declared.picks.Step.TheVariants as step;
+    ghost use Rattle.nvme_simulation.specs.Reading.{HasRead};
     ghost use Rattle.nvme_simulation.specs.Fronts.{HasDepths, IsFront, IsFrontOf, StandsBy, StaysFront};
 
     // A controller with its admin queues alone.
@@ -87,7 +88,9 @@ impl Front {
     }
 
     // The slot of a ring that is read next.
-    pub(crate) fn next_slot(&self, qid: u16) -> Option<u16> {
+    pub(crate) fn next_slot(&self, qid: u16) -> Option<u16>
+        ensures { result ≡ None → HasRead qid self.now }
+    {
         self.controller.fetch(qid)
     }
 

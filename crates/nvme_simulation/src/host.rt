@@ -60,7 +60,7 @@ pub(crate) struct Host {
 }
 
 impl Host {
-    ghost use Rattle.std.specs.Prelude.{ℕ, None, IfOk, IfSome, OnOk, nat_lt, true};
+    ghost use Rattle.std.specs.Prelude.{ℕ, None, IfOk, IfSome, OnOk, OnSome, nat_lt, true};
     ghost use Rattle.nvme_clock.specs.Streams.{stream_state};
     ghost use Rattle.nvme_clock.specs.declared.streams.Purpose.TheVariants as purpose;
     ghost use Rattle.nvme_load.specs.Arrivals.{at_start, ends_at, next_after, request_at};
@@ -68,7 +68,10 @@ impl Host {
     ghost use Rattle.nvme_simulation.specs.Beginnings.{HasStreams, IsUnused};
     ghost use Rattle.nvme_simulation.specs.Loads.{load_in, load_of};
     ghost use Rattle.nvme_simulation.specs.Progress.{HasAsked, HostComesOne, HostEndsOne, HostGoesOn};
+    ghost use Rattle.nvme_simulation.specs.Moving.{HostMoves};
+    ghost use Rattle.nvme_simulation.specs.Resting.{HostRests};
     ghost use Rattle.nvme_simulation.specs.Stages.{AllDone, next_in};
+    ghost use Rattle.nvme_simulation.specs.declared.flight.Stage.TheVariants as stage;
 
     // The host of a queue, which begins at time 0.
     pub(crate) fn new(
@@ -154,6 +157,7 @@ impl Host {
         ensures value { (result, words self.new.streams.arrivals) ≡ next_after self.old.arrivals (next_in self.old.flights) time (words self.old.streams.arrivals) }
         ensures flights { self.new.flights ≡ self.old.flights }
         ensures asking { asking_of self.new ≡ asking_of self.old }
+        ensures rest { self.new ≡ record self.old { streams = record self.old.streams { arrivals = self.new.streams.arrivals } } }
     {
         let number = self.flights.came();
         self.arrivals
@@ -167,6 +171,7 @@ impl Host {
         ensures operations { self.new.streams.operations ≡ self.old.streams.operations }
         ensures services { self.new.streams.services ≡ self.old.streams.services }
         ensures flights { self.new.flights ≡ self.old.flights }
+        ensures times { self.new.streams.arrivals ≡ self.old.streams.arrivals }
     {
         if operation == Operation::Flush {
             return (0, 0);
@@ -181,6 +186,7 @@ impl Host {
         ensures same { SameAsking (asking_of self.old) (asking_of self.new) }
         ensures services { self.new.streams.services ≡ self.old.streams.services }
         ensures flights { self.new.flights ≡ self.old.flights }
+        ensures times { self.new.streams.arrivals ≡ self.old.streams.arrivals }
     {
         if let Some(listed) = self.arrivals.request(self.flights.came()) {
             return Asked {
@@ -203,6 +209,7 @@ impl Host {
         ensures draws { IfSome result (Draws (next_in self.old.flights) (asking_of self.old) (asking_of self.new)) }
         ensures counts { IfSome result (λ request. request.counts ≡ counts) }
         ensures flights { self.new.flights ≡ self.old.flights }
+        ensures times { self.new.streams.arrivals ≡ self.old.streams.arrivals }
     {
         let Asked {
             operation,
@@ -224,6 +231,7 @@ impl Host {
     // A command comes, and waits for a slot of the ring.
     pub(crate) fn come(&mut self, now: u64, counts: bool) -> Result<(), SimulationFault>
         ensures comes { OnOk result (HostComesOne now counts self.old self.new) }
+        ensures rests { OnOk result (HostRests self.old self.new) }
     {
         let Some(request) = self.draw(counts) else {
             return Err(SimulationFault::TooLong);
@@ -237,6 +245,7 @@ impl Host {
     // Puts the next command that waits into the ring, where the host knows a free slot. Whether it did.
     fn submit_one(&mut self, now: u64) -> bool
         ensures goes { HostGoesOn now self.old self.new }
+        ensures rests { HostRests self.old self.new }
     {
         let next = slot_behind(self.tail, self.slots);
         let tail = usize::from(self.tail);
@@ -252,9 +261,10 @@ impl Host {
     }
 
     // Puts all commands that wait into the ring, as far as it has free slots. The answer is the new tail, if it moved.
-    #[tactic(auto, using(crate::proofs::Progress::host_stays, crate::proofs::Progress::host_then))]
+    #[tactic(auto, using(crate::proofs::Progress::host_stays, crate::proofs::Progress::host_then, crate::proofs::Resting::host_rests, crate::proofs::Resting::rests_then))]
     pub(crate) fn submit(&mut self, now: u64) -> Option<u16>
         ensures goes { HostGoesOn now self.old self.new }
+        ensures rests { HostRests self.old self.new }
     {
         let mut rings = false;
         for _turn in 0..self.ring.len() {
@@ -269,6 +279,7 @@ impl Host {
     // The controller reads the command in a slot of the ring: its number and its entry.
     pub(crate) fn fetch(&mut self, slot: u16) -> Result<(u32, Sqe), SimulationFault>
         ensures goes { (now : ℕ) → HostGoesOn now self.old self.new }
+        ensures rests { HostRests self.old self.new }
     {
         let Some(number) = self.ring.get(usize::from(slot)).copied() else {
             return Err(SimulationFault::Broken(Broken::Slot));
@@ -283,6 +294,7 @@ impl Host {
     pub(crate) fn pick(&mut self, now: u64, number: u32) -> Option<Request>
         ensures goes { HostGoesOn now self.old self.new }
         ensures asks { IfSome result (HasAsked number self.old.flights) }
+        ensures moves { OnSome result (HostMoves number stage.Fetched now self.old self.new) }
     {
         self.flights.pick(now, u64::from(number))
     }
@@ -290,6 +302,7 @@ impl Host {
     // A command starts on a channel. False where it isn't picked, or runs.
     pub(crate) fn start(&mut self, now: u64, number: u32) -> bool
         ensures goes { HostGoesOn now self.old self.new }
+        ensures moves { result ≡ true → HostMoves number stage.Picked now self.old self.new }
     {
         self.flights.start(now, u64::from(number))
     }
@@ -298,6 +311,7 @@ impl Host {
     pub(crate) fn finish(&mut self, number: u32) -> Option<Flight>
         ensures ends { (now : ℕ) → IfSome result (λ flight. HostEndsOne number now flight self.old self.new) }
         ensures none { result ≡ None → (now : ℕ) → HostGoesOn now self.old self.new }
+        ensures rests { HostRests self.old self.new }
     {
         self.flights.finish(u64::from(number))
     }
@@ -310,6 +324,7 @@ impl Host {
     // A completion comes, which tells how far the controller has read. The answer is the new head of its ring.
     pub(crate) fn completed(&mut self, sqhd: u16) -> u16
         ensures goes { (now : ℕ) → HostGoesOn now self.old self.new }
+        ensures rests { HostRests self.old self.new }
     {
         self.head = sqhd;
         self.read = slot_behind(self.read, self.slots);

@@ -24,7 +24,11 @@ impl Hosts {
     ghost use Rattle.nvme_simulation.specs.Beginnings.{AreHostsOf, DrawTheirStreams, Shows, ShowsAll, StayUnused, qid_at};
     ghost use Rattle.nvme_simulation.specs.First.{starting};
     ghost use Rattle.nvme_simulation.specs.Following.{IsNextOf, closed_in, goes_on, host_of};
+    ghost use Rattle.nvme_simulation.specs.Moving.{OneMoves};
+    ghost use Rattle.nvme_simulation.specs.Pausing.{at_end};
     ghost use Rattle.nvme_simulation.specs.Progress.{AllGoOn, AreDone, AsksFor, OneComes, OneEnds};
+    ghost use Rattle.nvme_simulation.specs.Resting.{AllRest};
+    ghost use Rattle.nvme_simulation.specs.declared.flight.Stage.TheVariants as stage;
 
     // The hosts of queues, of the identifiers 1, 2 and so on, which are created.
     pub(crate) fn new(
@@ -121,7 +125,9 @@ impl Hosts {
     }
 
     // Whether no command comes any more, whatever is done: all are those of lists, which have ended.
-    pub(crate) fn are_at_end(&self) -> bool {
+    pub(crate) fn are_at_end(&self) -> bool
+        ensures { result ≡ at_end self.now }
+    {
         self.all.iter().all(|host| host.is_at_end())
     }
 
@@ -168,6 +174,7 @@ impl Hosts {
     // A command of a queue comes.
     pub(crate) fn come(&mut self, now: u64, qid: u16, counts: bool) -> Result<(), SimulationFault>
         ensures comes { OnOk result (OneComes qid now counts self.old self.new) }
+        ensures rests { OnOk result (AllRest self.old self.new) }
     {
         let Some(place) = self.place(qid) else {
             return Err(NO_COMMAND);
@@ -178,6 +185,7 @@ impl Hosts {
     // The host of a queue submits what its ring has room for. The answer is the new tail, if it moved.
     pub(crate) fn submit(&mut self, now: u64, qid: u16) -> Option<u16>
         ensures goes { AllGoOn now self.old self.new }
+        ensures rests { AllRest self.old self.new }
     {
         let place = self.place(qid)?;
         self.all[place].submit(now)
@@ -186,6 +194,7 @@ impl Hosts {
     // The controller reads the command in a slot of the ring of a queue: its number and its entry.
     pub(crate) fn fetch(&mut self, qid: u16, slot: u16) -> Result<(u32, Sqe), SimulationFault>
         ensures goes { (now : ℕ) → AllGoOn now self.old self.new }
+        ensures rests { AllRest self.old self.new }
     {
         let Some(place) = self.place(qid) else {
             return Err(NO_COMMAND);
@@ -202,6 +211,7 @@ impl Hosts {
     ) -> Result<Request, SimulationFault>
         ensures goes { AllGoOn now self.old self.new }
         ensures asks { IfOk result (AsksFor qid number self.old) }
+        ensures moves { OnOk result (OneMoves qid number stage.Fetched now self.old self.new) }
     {
         let Some(place) = self.place(qid) else {
             return Err(NO_COMMAND);
@@ -215,6 +225,7 @@ impl Hosts {
     // A command starts.
     pub(crate) fn start(&mut self, now: u64, qid: u16, number: u32) -> Result<(), SimulationFault>
         ensures goes { AllGoOn now self.old self.new }
+        ensures moves { OnOk result (OneMoves qid number stage.Picked now self.old self.new) }
     {
         let Some(place) = self.place(qid) else {
             return Err(NO_COMMAND);
@@ -229,6 +240,7 @@ impl Hosts {
     // A command is done.
     pub(crate) fn finish(&mut self, qid: u16, number: u32) -> Result<Flight, SimulationFault>
         ensures ends { (now : ℕ) → IfOk result (λ flight. OneEnds qid number now flight self.old self.new) }
+        ensures rests { OnOk result (AllRest self.old self.new) }
     {
         let Some(place) = self.place(qid) else {
             return Err(NO_COMMAND);
@@ -242,6 +254,7 @@ impl Hosts {
     // A completion of a queue comes, which tells how far the controller has read. The answer is the new head of its ring.
     pub(crate) fn completed(&mut self, qid: u16, sqhd: u16) -> Option<u16>
         ensures goes { (now : ℕ) → AllGoOn now self.old self.new }
+        ensures rests { AllRest self.old self.new }
     {
         let place = self.place(qid)?;
         Some(self.all[place].completed(sqhd))

@@ -1,12 +1,18 @@
 //! Laws over the definitions alone. Each function does nothing: its contract is the law.
 ghost use Rattle.nvme_simulation.specs.Examples.{FirstEventsArePlanned, StagesAreTimed};
 ghost use Rattle.nvme_simulation.specs.Runs.{TimesAreOfSteps};
+ghost use Rattle.nvme_simulation.specs.Telling.{PicksAreTold};
 ghost use Rattle.nvme_simulation.specs.declared.flight.Request.{Request};
 
 /// The times that are told of a command are those of the steps of its run at which it came, was submitted, was picked, started and
 /// was done. So the parts of its latency are the times that it spent between them.
 pub fn times_are_those_of_steps()
     ensures { TimesAreOfSteps }
+{}
+
+/// A command is picked only in a step that tells a pick of its queue. So the time at which it was picked is that of such a step.
+pub fn picks_are_told()
+    ensures { PicksAreTold }
 {}
 
 /// The worked times of a command's stages.

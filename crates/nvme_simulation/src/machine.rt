@@ -22,7 +22,7 @@ pub(crate) struct Machine {
 const NO_COMMAND: SimulationFault = SimulationFault::Broken(Broken::Command);
 
 impl Machine {
-    ghost use Rattle.std.specs.Prelude.{◌≡◌, ◌≤◌, ◌<◌, ◌+◌, ◌-◌, ◌*◌, ◌&&◌, ℕ, Bool, true, IfOk, OnOk};
+    ghost use Rattle.std.specs.Prelude.{◌≡◌, ◌≤◌, ◌<◌, ◌+◌, ◌-◌, ◌*◌, ◌&&◌, ℕ, Bool, true, false, IfOk, OnOk};
     ghost use Rattle.nvme_log.specs.Rules.{FrontRules};
     ghost use Rattle.nvme_ctrl_log.specs.Notes.{Notes};
     ghost use Rattle.nvme_simulation.specs.Picks.{IsLawful, IsTimed};
@@ -34,29 +34,41 @@ impl Machine {
     ghost use Rattle.nvme_simulation.specs.Fronts.{IsCompletionOf, IsFront, StandsBy};
     ghost use Rattle.nvme_simulation.specs.Machines.{EndsAndStarts, Goes, TakesPicked, Works};
     ghost use Rattle.nvme_simulation.specs.Passing.{Passes};
+    ghost use Rattle.nvme_simulation.specs.Moving.{StartsIn};
+    ghost use Rattle.nvme_simulation.specs.Pausing.{GoesOn, PausesFor};
     ghost use Rattle.nvme_simulation.specs.Plans.{IsOfPicks, events_of};
     ghost use Rattle.nvme_simulation.specs.Progress.{OneComes, OneEnds};
+    ghost use Rattle.nvme_simulation.specs.Reading.{HasRead};
+    ghost use Rattle.nvme_simulation.specs.Resting.{AllRest};
     ghost use Rattle.nvme_simulation.specs.Starts.{PlansEnd};
     ghost use Rattle.nvme_simulation.specs.Steps.{cost_with, picked_in};
+    ghost use Rattle.nvme_simulation.specs.Taking.{PicksAsTold, TakesAll};
     ghost use Rattle.nvme_simulation.specs.Times.{now_of};
 
     // A host submits all commands that its ring has room for, and the controller reads what it may.
+    #[tactic(auto, using(crate::proofs::Resting::all_rest, crate::proofs::Resting::all_rest_then))]
     pub(crate) fn submit(&mut self, qid: u16) -> Result<(), SimulationFault>
         requires front { IsFront self.old.front }
         ensures goes { Goes self.old self.new }
         ensures cost { cost_with self.new ≡ cost_with self.old }
         ensures agenda { self.new.agenda ≡ self.old.agenda }
+        ensures device { self.new.device ≡ self.old.device }
+        ensures rests { AllRest self.old.hosts self.new.hosts }
+        ensures all { OnOk result (HasRead qid self.new.front) }
     {
         self.ring(qid)?;
         self.fetch(qid)
     }
 
     // A host puts all commands into its ring that it has room for, and rings the doorbell where it did.
+    #[tactic(auto, using(crate::proofs::Resting::all_rest, crate::proofs::Resting::all_rest_then))]
     fn ring(&mut self, qid: u16) -> Result<(), SimulationFault>
         requires front { IsFront self.old.front }
         ensures goes { Goes self.old self.new }
         ensures cost { cost_with self.new ≡ cost_with self.old }
         ensures agenda { self.new.agenda ≡ self.old.agenda }
+        ensures device { self.new.device ≡ self.old.device }
+        ensures rests { AllRest self.old.hosts self.new.hosts }
     {
         let Some(tail) = self.hosts.submit(self.agenda.now(), qid) else {
             return Ok(());
@@ -69,11 +81,15 @@ impl Machine {
     }
 
     // The controller reads a command of a queue, if it may. Whether it did.
+    #[tactic(auto, using(crate::proofs::Resting::all_rest, crate::proofs::Resting::all_rest_then))]
     fn fetch_one(&mut self, qid: u16) -> Result<bool, SimulationFault>
         requires front { IsFront self.old.front }
         ensures goes { Goes self.old self.new }
         ensures cost { cost_with self.new ≡ cost_with self.old }
         ensures agenda { self.new.agenda ≡ self.old.agenda }
+        ensures device { self.new.device ≡ self.old.device }
+        ensures rests { AllRest self.old.hosts self.new.hosts }
+        ensures all { IfOk result (λ more. more ≡ false → HasRead qid self.new.front) }
     {
         let Some(slot) = self.front.next_slot(qid) else {
             return Ok(false);
@@ -87,11 +103,15 @@ impl Machine {
     }
 
     // The controller reads all commands of a queue that it may.
+    #[tactic(auto, using(crate::proofs::Resting::all_rest, crate::proofs::Resting::all_rest_then))]
     fn fetch(&mut self, qid: u16) -> Result<(), SimulationFault>
         requires front { IsFront self.old.front }
         ensures goes { Goes self.old self.new }
         ensures cost { cost_with self.new ≡ cost_with self.old }
         ensures agenda { self.new.agenda ≡ self.old.agenda }
+        ensures device { self.new.device ≡ self.old.device }
+        ensures rests { AllRest self.old.hosts self.new.hosts }
+        ensures all { OnOk result (HasRead qid self.new.front) }
     {
         for _turn in 0..u16::MAX {
             if !self.fetch_one(qid)? {
@@ -107,6 +127,7 @@ impl Machine {
         ensures goes { Goes self.old self.new }
         ensures device { self.new.device ≡ self.old.device }
         ensures plans { OnOk result (PlansEnd started (events_of self.old.agenda) (events_of self.new.agenda)) }
+        ensures starts { OnOk result (StartsIn started (now_of self.old.agenda) self.old.hosts self.new.hosts) }
         ensures cost { cost_with self.new ≤ cost_with self.old + 2 }
     {
         let Some(started) = started else {
@@ -142,6 +163,7 @@ impl Machine {
         requires front { IsFront self.old.front }
         ensures goes { Goes self.old self.new }
         ensures cost { OnOk result (cost_with self.new + pick.now.n ≤ cost_with self.old) }
+        ensures takes { OnOk result (TakesAll pick.now.n pick.now.qid self.old self.new) }
     {
         for _turn in 0..pick.n {
             self.take(pick.qid)?;
@@ -160,6 +182,7 @@ impl Machine {
         ensures counts { (end : End) (now : ℕ) (occupancy : Occupancy) → IfOk result (Counts end now occupancy occupancy) }
         ensures lawful { (rules : FrontRules) (late : Bool) (notes : Notes) → StandsBy rules late notes self.old.front → IfOk result (IsLawful rules notes (room_in self.old.device)) }
         ensures passes { (may counts : Bool) → IfOk result (Passes may counts (now_of self.old.agenda) self.old.hosts self.new.hosts) }
+        ensures picks { IfOk result (PicksAsTold self.old self.new) }
     {
         let room = self.device.room();
         if room == 0 {
@@ -193,12 +216,14 @@ impl Machine {
     }
 
     // The device answers a command, and its completion comes to its host, which reads it.
+    #[tactic(auto, using(crate::proofs::Resting::all_rest, crate::proofs::Resting::all_rest_then))]
     fn collect(&mut self, taken: Taken) -> Result<(), SimulationFault>
         requires front { IsFront self.old.front }
         ensures goes { Goes self.old self.new }
         ensures agenda { self.new.agenda ≡ self.old.agenda }
         ensures device { self.new.device ≡ self.old.device }
         ensures cost { cost_with self.new ≡ cost_with self.old }
+        ensures rests { AllRest self.old.hosts self.new.hosts }
     {
         if !self.front.complete(taken.tag) {
             return Err(NO_COMMAND);
@@ -251,6 +276,7 @@ impl Machine {
         ensures goes { Goes self.old self.new }
         ensures below { now_of self.old.agenda < 0x1_0000_0000_0000_0000 }
         ensures cost { OnOk result (cost_with self.new ≤ cost_with self.old + 4 * (0x1_0000_0000_0000_0000 - (now_of self.old.agenda + length))) }
+        ensures pauses { OnOk result (PausesFor channel length self.old self.new) }
     {
         let end = self.agenda.now().checked_add(length);
         self.device.pause(channel)?;
@@ -263,6 +289,7 @@ impl Machine {
         ensures goes { Goes self.old self.new }
         ensures below { now_of self.old.agenda < 0x1_0000_0000_0000_0000 }
         ensures cost { cost_with self.new ≤ cost_with self.old + 2 }
+        ensures resumes { OnOk result (GoesOn channel self.old self.new) }
     {
         let started = self.device.resume(self.agenda.now(), channel)?;
         self.start(started)
@@ -274,6 +301,7 @@ impl Machine {
         ensures goes { Goes self.old self.new }
         ensures cost { cost_with self.new ≤ cost_with self.old + 2 }
         ensures plans { OnOk result (PlansNext qid time self.old self.new) }
+        ensures device { self.new.device ≡ self.old.device }
     {
         let next = self.hosts.next_after(qid, time);
         self.agenda.plan(next, Event::Arrival(qid))

@@ -39,7 +39,9 @@ impl Simulation {
     ghost use Rattle.nvme_simulation.specs.Handling.{Handles, IsOver, Stays};
     ghost use Rattle.nvme_simulation.specs.Machines.{Goes};
     ghost use Rattle.nvme_simulation.specs.Marks.{IsToldOf};
+    ghost use Rattle.nvme_simulation.specs.Pausing.{NextPause, is_over};
     ghost use Rattle.nvme_simulation.specs.Picks.{IsLawful};
+    ghost use Rattle.nvme_simulation.specs.Plans.{events_of};
     ghost use Rattle.nvme_simulation.specs.Simulations.{IsSameModel, IsSimulation, StandsAt, channels_of, may_come_to, occupancy_of, picks_of, room_at, time_of};
     ghost use Rattle.nvme_simulation.specs.Stepping.{HasStepped};
     ghost use Rattle.nvme_simulation.specs.Steps.{cost_with};
@@ -194,6 +196,7 @@ impl Simulation {
         ensures goes { Goes self.old.machine self.new.machine }
         ensures rest { self.new ≡ record self.old { machine = self.new.machine } }
         ensures cost { cost_with self.new.machine ≤ cost_with self.old.machine + 2 }
+        ensures device { self.new.machine.device ≡ self.old.machine.device }
         ensures plans { OnOk result (PlansIf (closed_in self.old.machine.hosts qid && may_come_to self.old (time_of self.old)) qid (time_of self.old) self.old.machine self.new.machine) }
     {
         if !self.thinks(qid) {
@@ -221,7 +224,9 @@ impl Simulation {
     }
 
     // Whether all commands came and are done.
-    fn is_over(&self) -> bool {
+    fn is_over(&self) -> bool
+        ensures { result ≡ is_over self.now }
+    {
         let more = self.may_come() && !self.machine.hosts.are_at_end();
         self.occupancy.count() == 0 && !more
     }
@@ -245,6 +250,8 @@ impl Simulation {
         ensures goes { Goes self.old.machine self.new.machine }
         ensures rest { self.new ≡ record self.old { machine = self.new.machine } }
         ensures cost { OnOk result (cost_with self.new.machine ≤ cost_with self.old.machine + 4 * (0x1_0000_0000_0000_0000 - (time_of self.old + 1))) }
+        ensures agenda { self.new.machine ≡ record self.old.machine { agenda = self.new.machine.agenda } }
+        ensures plans { OnOk result (NextPause self.old.pauses (is_over self.old) channel (time_of self.old) (events_of self.old.machine.agenda) (events_of self.new.machine.agenda)) }
     {
         let Some(pauses) = self.pauses else {
             return Ok(());

@@ -1,7 +1,9 @@
 use Rattle.std.proofs.Common.{subst}
 use Rattle.nvme_simulation.specs.Progress.{ComesOne}
 use Rattle.nvme_simulation.specs.declared.flight.Flights.{Flights}
+use Rattle.nvme_simulation.specs.Stages.{HasCome}
 use Rattle.nvme_simulation.proofs.Progress.{come}
+use Rattle.nvme_simulation.proofs.Resting.{rests_come}
 use Rattle.nvme_simulation.proofs.host.Host.come.Goals as goal
 
 pub returns-in-Ok : goal.returns-in-Ok
@@ -12,4 +14,6 @@ returns-in-Ok c = record {
     draws = c.in-Some.ensures.draws;
     counted = c.in-Some.ensures.counts;
   };
+  rests = rests_come c.args.now c.in-Some.request _ _ c.draw.ensures.times
+      (subst (λ (f : Flights). HasCome c.args.now c.in-Some.request f c.come.new.self) c.draw.ensures.flights c.in-Ok.ensures.ok);
 }

@@ -29,4 +29,4 @@ returns-clause-next c =
     let at = held hosts.items c.in_ok-place.place c.index_mut.result.now within c.index_mut.ensures.value in
     on_some c.next_after.result
     (one_draws _ _ _ c.args.self.now _ c.in_ok-place.place c.index_mut.result.now c.next_after.new.self c.in_ok-place.ensures.behind refl within at
-    c.next_after.ensures.value)
+    (record { value = c.next_after.ensures.value; rest = c.next_after.ensures.rest }))

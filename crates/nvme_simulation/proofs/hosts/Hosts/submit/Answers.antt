@@ -1,13 +1,14 @@
 use Rattle.std.proofs.Common.{◌<◌, length, refl, arith}
 use Rattle.nvme_simulation.proofs.Hosted.{all_stay, held, one_goes}
+use Rattle.nvme_simulation.proofs.Resting.{all_rest, one_rests}
 use Rattle.nvme_simulation.proofs.hosts.Hosts.submit.Goals as goal
 
 pub returns-in_err-place : goal.returns-in_err-place
-returns-in_err-place c = record { goes = all_stay _ _ }
+returns-in_err-place c = record { goes = all_stay _ _; rests = all_rest _ }
 
 pub returns : goal.returns
 returns c =
     let hosts = c.args.self.now.all in
     let within : c.in_ok-place.place < length hosts.items = omega (arith, c.in_ok-place.ensures.within, hosts.ok.0) in
     let at = held hosts.items c.in_ok-place.place c.index_mut.result.now within c.index_mut.ensures.value in
-    record { goes = one_goes _ c.args.self.now _ c.in_ok-place.place c.index_mut.result.now c.submit.new.self refl within at c.submit.ensures.goes }
+    record { goes = one_goes _ c.args.self.now _ c.in_ok-place.place c.index_mut.result.now c.submit.new.self refl within at c.submit.ensures.goes; rests = one_rests c.args.self.now _ c.in_ok-place.place c.index_mut.result.now c.submit.new.self refl within at c.submit.ensures.rests }

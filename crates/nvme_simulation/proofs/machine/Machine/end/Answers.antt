@@ -44,3 +44,4 @@ pub returns-clause-plans : goal.returns-clause-plans
 returns-clause-plans c = ends_at c.now.result _ c.args.self.now _ c.in_ok-taken.started c.now.ensures.value c.in_ok-taken.ensures.starts
     (ap device_in (c.collect.ensures.device ∙ c.start.ensures.device) ∙ c.in_ok-taken.ensures.ends)
     (subst (λ (a : Agenda). PlansEnd c.in_ok-taken.started (events_of c.args.self.now.agenda) (events_of a)) (sym c.collect.ensures.agenda) c.in_ok-start.ensures.plans)
+    c.start.new.self.hosts c.in_ok-start.ensures.starts c.collect.ensures.rests

@@ -1,5 +1,6 @@
 use Rattle.nvme_simulation.proofs.Hosted.{one_after}
 use Rattle.nvme_simulation.proofs.Machines.{works}
+use Rattle.nvme_simulation.proofs.Resting.{all_rest_then}
 use Rattle.nvme_simulation.proofs.machine.Machine.finish.Goals as goal
 
 pub returns-in_err-taken-clause-works : goal.returns-in_err-taken-clause-works
@@ -18,4 +19,13 @@ returns-clause-ends c = one_after _ _ _ _ _ _ _ c.end.ensures.goes.hosts (c.in_o
 
 pub returns-clause-plans : goal.returns-clause-plans
 returns-clause-plans c =
-    let ends = c.in_ok-taken.ensures.plans in record { started = ends.started; answers = ends.answers; device = ends.device; plans = ends.plans }
+    let ends = c.in_ok-taken.ensures.plans in
+    record {
+      started = ends.started;
+      answers = ends.answers;
+      device = ends.device;
+      plans = ends.plans;
+      waited = ends.waited;
+      starts = ends.starts;
+      rests = all_rest_then _ _ _ ends.rests c.in_ok-flight.ensures.rests;
+    }

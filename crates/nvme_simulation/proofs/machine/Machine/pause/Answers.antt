@@ -1,4 +1,5 @@
-use Rattle.nvme_simulation.proofs.Machines.{front_stays}
+use Rattle.std.proofs.Common.{refl}
+use Rattle.nvme_simulation.proofs.Machines.{front_stays, pauses_at, plans_sum}
 use Rattle.nvme_simulation.proofs.Hosted.{all_stay}
 use Rattle.nvme_simulation.proofs.Plans.{follows_self}
 use Rattle.nvme_simulation.proofs.machine.Machine.pause.Goals as goal
@@ -18,3 +19,8 @@ returns-clause-goes c = record {
   events = c.plan.ensures.follows;
   device = c.pause.ensures.behind;
 }
+
+pub returns-clause-pauses : goal.returns-clause-pauses
+returns-clause-pauses c =
+    pauses_at c.now.result c.args.channel c.args.length c.args.self.now _ c.plan.result c.now.ensures.value c.pause.ensures.pauses refl
+    (plans_sum _ _ c.checked_add-end.result c.plan.result _ _ _ _ c.checked_add-end.ensures c.plan.ensures.some c.plan.ensures.plans)

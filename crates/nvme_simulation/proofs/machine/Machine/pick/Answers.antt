@@ -50,4 +50,14 @@ returns-in_default-2 c = record {
   counts = λ end now occupancy. tt;
   lawful = λ rules late notes s. tt;
   passes = λ may counts. tt;
+  picks = tt;
+}
+
+pub returns-in_ok-fetch-in-Picked-clause-picks : goal.returns-in_ok-fetch-in-Picked-clause-picks
+returns-in_ok-fetch-in-Picked-clause-picks c = record {
+  front = c.pick.new.self;
+  taken = c.take_all.new.self;
+  takes = c.in_ok-take_all-in-Picked.ensures.takes;
+  reads = record { goes = c.fetch.ensures.goes.hosts; rests = c.fetch.ensures.rests; device = c.fetch.ensures.device; agenda = c.fetch.ensures.agenda };
+  all = c.in_ok-fetch-in-Picked.ensures.all;
 }

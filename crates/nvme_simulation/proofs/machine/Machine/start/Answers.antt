@@ -1,6 +1,7 @@
 use Rattle.std.proofs.Common.{refl}
-use Rattle.nvme_simulation.proofs.Machines.{all_at, front_stays, goes_front, goes_self}
+use Rattle.nvme_simulation.proofs.Machines.{all_at, front_stays, goes_front, goes_self, on_ok}
 use Rattle.nvme_simulation.proofs.Rooms.{behind_none}
+use Rattle.nvme_simulation.proofs.Taking.{moves_at, starts_some}
 use Rattle.nvme_simulation.proofs.machine.Machine.start.Goals as goal
 
 pub returns-in_default-clause-goes : goal.returns-in_default-clause-goes
@@ -16,3 +17,7 @@ returns-clause-goes c = record {
   events = c.plan.ensures.follows;
   device = behind_none _;
 }
+
+pub returns-clause-starts : goal.returns-clause-starts
+returns-clause-starts c =
+    on_ok c.plan.result (starts_some c.in-Some.started _ c.args.started _ _ c.in-Some.is (moves_at _ _ _ _ _ _ _ c.now-now.ensures.value c.in_ok-start.ensures.moves))

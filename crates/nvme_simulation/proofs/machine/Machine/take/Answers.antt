@@ -1,9 +1,10 @@
 use Rattle.std.proofs.Common.{◌∙◌, ap, refl, arith}
 use Rattle.nvme_simulation.proofs.Machines.{all_at, goes_front, goes_then, on_ok}
-use Rattle.nvme_simulation.proofs.Started.{at_now}
+use Rattle.nvme_simulation.proofs.Started.{answers_now, at_now}
 use Rattle.nvme_simulation.specs.Devices.{device_in}
 use Rattle.nvme_simulation.proofs.Hosted.{all_stay}
 use Rattle.nvme_simulation.proofs.Plans.{follows_self}
+use Rattle.nvme_simulation.proofs.Taking.{moves_at, on_ok_both}
 use Rattle.nvme_simulation.proofs.machine.Machine.take.Goals as goal
 
 pub returns-in_default-clause-goes : goal.returns-in_default-clause-goes
@@ -30,13 +31,19 @@ returns-clause-goes c = goes_then _ _ _ (record {
 
 pub returns-clause-takes : goal.returns-clause-takes
 returns-clause-takes c =
-    on_ok c.start.result (record {
+    on_ok_both c.start.result (λ starts plans. record {
       taken = c.in-Some.taken;
       queue = c.in-Some.ensures.queue;
       request = c.in_ok-request.request;
       asks = c.in_ok-request.ensures.asks;
       takes = ap device_in c.start.ensures.device ∙ c.take-2.ensures.takes ∙ at_now c.in-Some.taken c.in_ok-request.request _ _ (device_in c.args.self.now.device) c.now-now.ensures.value;
-    })
+      picked = c.pick.new.self;
+      picks = moves_at _ _ _ _ _ _ _ c.now-now.ensures.value c.in_ok-request.ensures.moves;
+      started = c.in_ok-started.started;
+      answers = answers_now c.in-Some.taken c.in_ok-request.request _ _ (device_in c.args.self.now.device) _ c.now-now.ensures.value c.in_ok-started.ensures.starts;
+      starts = starts;
+      plans = plans;
+    }) c.start.ensures.starts c.start.ensures.plans
 
 pub returns-clause-cost : goal.returns-clause-cost
 returns-clause-cost c =

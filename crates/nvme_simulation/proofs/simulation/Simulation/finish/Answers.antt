@@ -114,6 +114,9 @@ returns-clause-handles c =
             ends = c.in_ok-taken.ensures.plans;
             thought = thought.machine;
             thinks = thinks_at told thought after c.finish.new.self taken.qid machine c.think.ensures.rest same refl c.in_ok-think.ensures.plans;
+            rests = c.submit.ensures.rests;
+            reads = c.in_ok-submit.ensures.all;
+            device = c.submit.ensures.device ∙ c.think.ensures.device ∙ ap (λ (m : Machine). m.device) machine;
             events = ap events_of c.submit.ensures.agenda;
           } in
           subst (λ (k : ℕ). EndPlans k c.in_ok-command.command.queue c.in_ok-command.command.number old.machine after) (sym c.in_ok-command.ensures.channel)

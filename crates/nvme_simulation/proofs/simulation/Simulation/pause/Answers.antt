@@ -22,7 +22,7 @@ returns-clause-handles c =
       timed = tt;
       counts = refl;
       passes = all_at _ _ _ _ (sym (stays_time old after stays)) c.pause.ensures.goes.hosts;
-      plans = tt;
+      plans = record { pauses = c.in-Some.pauses; are = c.in-Some.is; does = c.in_ok-pause.ensures.pauses };
       cost =
           let costs = c.in_ok-pause.ensures.cost in
           let some = c.in-Some.pauses.some in

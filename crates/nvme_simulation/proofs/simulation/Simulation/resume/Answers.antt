@@ -4,7 +4,7 @@ use Rattle.nvme_simulation.specs.Handling.{Stays}
 use Rattle.nvme_simulation.specs.Simulations.{time_of}
 use Rattle.nvme_simulation.specs.declared.simulation.Simulation.{Simulation}
 use Rattle.nvme_simulation.proofs.Hosted.{all_then}
-use Rattle.nvme_simulation.proofs.Handling.{left_behind, stays_goes, stays_machine, stays_then, stays_time}
+use Rattle.nvme_simulation.proofs.Handling.{goes_on_for, left_behind, stays_goes, stays_machine, stays_then, stays_time}
 use Rattle.nvme_simulation.proofs.Machines.{all_at, works, works_time}
 use Rattle.nvme_simulation.proofs.simulation.Simulation.resume.Goals as goal
 
@@ -35,7 +35,8 @@ returns-clause-handles c =
       passes =
           let same : time_of resumed ≡ time_of old = works_time old.machine c.resume.new.self (works _ _ c.resume.ensures.goes) in
           all_at _ _ _ _ (sym (stays_time old after stays)) (all_then _ _ _ _ c.resume.ensures.goes.hosts (all_at _ _ _ _ same c.plan_pause.ensures.goes.hosts));
-      plans = tt;
+      plans = goes_on_for old resumed after c.args.channel second c.in_ok-resume.ensures.resumes c.plan_pause.ensures.rest c.plan_pause.ensures.agenda
+          c.in_ok-plan_pause.ensures.plans;
       cost =
           let first = c.resume.ensures.cost in
           let planned = c.in_ok-plan_pause.ensures.cost in
