@@ -11,6 +11,8 @@ pub mod Answers
 pub mod Lawful
 pub mod Standing
 pub mod Laws
+pub mod Coverage
 pub mod Examples
 pub mod StatusExamples
+pub mod CoverageExamples
 pub mod inside

@@ -77,7 +77,8 @@ fn is_foreign(command: AdminCommand, status: Status) -> bool
     status.sct() == 1 && status.sc() < 0xc0 && !has_specific(command, status.sc())
 }
 
-fn is_specific(status: Status, sc: u8) -> bool
+/// Whether a status is the command specific one with this code.
+pub fn is_specific(status: Status, sc: u8) -> bool
     ensures { result ≡ is_specific status sc }
 {
     status.sct() == 1 && status.sc() == sc
@@ -89,8 +90,8 @@ fn is_within(last: u32, qid: u16) -> bool
     0 < qid && u64::from(qid) <= u64::from(last) + 1
 }
 
-// Whether an identifier of a submission queue is within the number that was told.
-fn is_sq_within(numbers: Option<u32>, qid: u16) -> bool
+/// Whether an identifier of a submission queue is within the number that was told.
+pub fn is_sq_within(numbers: Option<u32>, qid: u16) -> bool
     ensures { result ≡ is_sq_within numbers qid }
 {
     match numbers {
@@ -99,8 +100,8 @@ fn is_sq_within(numbers: Option<u32>, qid: u16) -> bool
     }
 }
 
-// Whether one of a completion queue is.
-fn is_cq_within(numbers: Option<u32>, qid: u16) -> bool
+/// Whether one of a completion queue is.
+pub fn is_cq_within(numbers: Option<u32>, qid: u16) -> bool
     ensures { result ≡ is_cq_within numbers qid }
 {
     match numbers {

@@ -11,6 +11,7 @@ use crate::facts::{Admin, Command, Cq, Ring, Sq, Start};
 use crate::rules::{
     advanced_where_open, fetch_verdict, head_verdict, post_verdict, qsize_in, tail_verdict,
 };
+use crate::scene::{FetchScene, PostScene, Scene};
 use crate::verdict::{Rule, Verdict};
 use nvme_entry::{AdminCommand, Status};
 use std::alloc::Global;
@@ -43,6 +44,8 @@ impl Judge {
     ghost use Rattle.nvme_audit.specs.Lawful.{verdict, is_broken, log_after, IsLawfulRun, IsFirstBroken};
     ghost use Rattle.nvme_audit.specs.Standing.{sq_at, cq_at, command_at, StandsAt};
     ghost use Rattle.nvme_audit.specs.Facts.{outstanding};
+    ghost use Rattle.nvme_audit.specs.Coverage.{scene_of};
+    ghost use Rattle.nvme_audit.specs.declared.scene.Scene.TheVariants.{Posted};
     ghost use Rattle.nvme_audit.specs.Answers.{command_in};
     ghost use Rattle.nvme_audit.specs.declared.event.Event.TheVariants.{Post};
     ghost use Rattle.nvme_audit.specs.inside.Steps.{verdict_at, mark_at, PutsSq, PutsCq, sq_told, cq_released, KeepsFetch, AsksSq, AsksCq, Asks, KeepsPost, AnswersSq, Answers, told_at, Owes, sq_begun, cq_begun, cq_joined, cq_parted, BeginsSq, TurnsSq, Turns, Notes};
@@ -85,6 +88,45 @@ impl Judge {
         ensures { (start : Start) (past : Past) → StandsAt start past self.now → result ≡ outstanding past sq cid }
     {
         self.commands.get(sq, cid)
+    }
+
+    /// What the rules for the controller read at the next event.
+    pub fn scene(&self, event: &Event) -> Scene
+        ensures { (start : Start) (past : Past) → StandsAt start past self.now → result ≡ scene_of start past event.now }
+    {
+        let tells = self.start.tells;
+        match *event {
+            Event::Tail { .. } | Event::Head { .. } => Scene::Doorbell,
+            Event::Fetch { sq, slot, .. } => Scene::Fetched(FetchScene {
+                tells,
+                sq: self.sq(sq),
+                slot,
+            }),
+            Event::Post {
+                cq,
+                slot,
+                completion,
+            } => Scene::Posted(self.post_scene(cq, slot, completion)),
+        }
+    }
+
+    // What they read at a completion.
+    fn post_scene(&self, q: u16, slot: Option<u16>, completion: Completion) -> PostScene
+        ensures { (start : Start) (past : Past) → StandsAt start past self.now → Posted result ≡ scene_of start past (Post q slot completion) }
+    {
+        let command = self.commands.get(completion.sq, completion.cid);
+        let asked = answered(command, &completion);
+        PostScene {
+            tells: self.start.tells,
+            cq: self.cq(q),
+            own_cq: self.cq(cq_named(asked)),
+            sq: self.sq(completion.sq),
+            own_sq: self.sq(sq_named(asked)),
+            admin: self.admin,
+            command,
+            slot,
+            completion,
+        }
     }
 
     fn put_sq(&mut self, q: u16, sq: Sq) -> Result<(), AuditError>
@@ -453,8 +495,8 @@ impl Judge {
     }
 }
 
-// The next count.
-fn next(count: u64) -> Result<u64, AuditError>
+/// The next count.
+pub(crate) fn next(count: u64) -> Result<u64, AuditError>
     ensures { IfOk result (λ n. n ≡ count + 1) }
 {
     match count.checked_add(1) {

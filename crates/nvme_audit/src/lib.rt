@@ -9,10 +9,12 @@ mod facts;
 mod judge;
 mod laws;
 mod rules;
+mod scene;
 mod verdict;
 
 pub use event::{Completion, Event};
-pub use facts::{Command, Cq, Ring, Sq, Start, Tells};
+pub use facts::{Admin, Command, Cq, Ring, Sq, Start, Tells};
 pub use judge::{AuditError, Judge};
-pub use laws::{answered_once, heads_are_counts, worked_statuses, worked_verdicts};
+pub use laws::{answered_once, heads_are_counts, worked_coverage, worked_statuses, worked_verdicts};
+pub use scene::{Count, FetchScene, PostScene, Scene, count_asked};
 pub use verdict::{Breach, Rule, Verdict};

@@ -20,7 +20,7 @@ use Rattle.nvme_audit_text.specs.declared.head.Head.{Head}
 use Rattle.nvme_audit_text.specs.declared.audit.Finding.{Finding}
 use Rattle.nvme_audit_text.specs.declared.audit.Audit.{Audit}
 use Rattle.nvme_audit_text.specs.declared.audit.Auditor.{Auditor}
-use Rattle.nvme_audit_text.specs.Audits.{added, host_at, IsLawfulText, IsBrokenText, IsAudit, IsFault, IsFound}
+use Rattle.nvme_audit_text.specs.Audits.{added, host_at, asked_in, IsLawfulText, IsBrokenText, IsAudit, IsFault, IsFound}
 use Rattle.nvme_audit_text.specs.inside.Steps.{IsTaken, IsOther, AuditsAt, IsFinding, IsHeadFault, IsEventFault, AuditedUpTo}
 
 -- ---- one event
@@ -55,23 +55,25 @@ reverse_more line lines rest = sym (append_assoc (reverse lines) (line ∷ []) r
 
 -- after the head
 pub audited_head : (view : View) (text : List ℕ) (n : ℕ) (new : Option (List ℕ)) (head : Head) (auditor : Auditor) → TakesTold (λ line. head_of_line view line ≡ Ok head) 0 (Some text) n new
-    → AuditsAt head.start [] [] auditor → AuditedUpTo view text new n head auditor
-audited_head view text n None head auditor t at = t
-audited_head view text n (Some rest) head auditor (line, split, is, count) at = record {
+    → AuditsAt head.start [] [] auditor → auditor.asked ≡ asked_in head.start [] → AuditedUpTo view text new n head auditor
+audited_head view text n None head auditor t at none = t
+audited_head view text n (Some rest) head auditor (line, split, is, count) at none = record {
   past = [];
   found = [];
   in_all = omega (arith, count);
   before = record { first = (n, line); lines = []; split = split; head_is = is; tells = (refl, refl); lawful = tt };
   audits = at;
+  counted = none;
 }
 
 -- after one line more
 pub audited_more : (view : View) (text : List ℕ) (m : ℕ) (old : Option (List ℕ)) (n : ℕ) (new : Option (List ℕ)) (head : Head) (auditor next : Auditor) (said : Option Event)
     → AuditedUpTo view text old m head auditor → TakesTold (λ line. event_of_line view head line ≡ Ok said) m old n new
-    → ((past : Past) (found : List Finding) → AuditsAt head.start past found auditor → AuditsAt head.start (added said past) (found ++ host_at head.start past n said) next) → AuditedUpTo view text new n head next
-audited_more view text m None n new head auditor next said j t f = absurd j
-audited_more view text m (Some xs) n None head auditor next said j t f = absurd t
-audited_more view text m (Some xs) n (Some ys) head auditor next said j (line, split, is, count) f =
+    → ((past : Past) (found : List Finding) → AuditsAt head.start past found auditor → AuditsAt head.start (added said past) (found ++ host_at head.start past n said) next)
+    → ((past : Past) → StandsAt head.start past auditor.judge → auditor.asked ≡ asked_in head.start past → next.asked ≡ asked_in head.start (added said past)) → AuditedUpTo view text new n head next
+audited_more view text m None n new head auditor next said j t f g = absurd j
+audited_more view text m (Some xs) n None head auditor next said j t f g = absurd t
+audited_more view text m (Some xs) n (Some ys) head auditor next said j (line, split, is, count) f g =
     let at : AuditsAt head.start (added said j.past) (j.found ++ host_at head.start j.past n said) next = f j.past j.found j.audits in record {
       past = added said j.past;
       found = j.found ++ host_at head.start j.past n said;
@@ -85,13 +87,14 @@ audited_more view text m (Some xs) n (Some ys) head auditor next said j (line, s
         lawful = at.lawful;
       };
       audits = at;
+      counted = g j.past j.audits.stands j.counted;
     }
 
 -- after the last line
 pub audited_all : (view : View) (text : List ℕ) (old : Option (List ℕ)) (number : ℕ) (head : Head) (auditor : Auditor) (audit : Audit) → AuditedUpTo view text old number head auditor → HasNoTold number old → AreInAll number old audit.lines
-    → audit.broken ≡ None → audit.host_breaches ≡ auditor.host_breaches → audit.host.items ≡ auditor.host.items → IsAudit view text audit
-audited_all view text None number head auditor audit j n all none host told = absurd j
-audited_all view text (Some xs) number head auditor audit j n all none host told =
+    → audit.broken ≡ None → audit.host_breaches ≡ auditor.host_breaches → audit.host.items ≡ auditor.host.items → audit.asked ≡ auditor.asked → IsAudit view text audit
+audited_all view text None number head auditor audit j n all none host told asked = absurd j
+audited_all view text (Some xs) number head auditor audit j n all none host told asked =
     let whole : IsLawfulText view text audit = record {
       head = head;
       past = j.past;
@@ -107,16 +110,18 @@ audited_all view text (Some xs) number head auditor audit j n all none host told
       lines_are = all ∙ sym j.in_all;
       host_is = host ∙ j.audits.host;
       told_are = told ∙ j.audits.told;
+      asked_are = asked ∙ j.counted;
     } in subst (IsFound view text audit) (sym none) whole
 
 -- at a line at which the controller breaks a rule
 pub audited_finding : (view : View) (text : List ℕ) (m : ℕ) (old : Option (List ℕ)) (n : ℕ) (new : Option (List ℕ)) (head : Head) (auditor next : Auditor) (said : Option Event) (finding : Finding) (audit : Audit)
     → AuditedUpTo view text old m head auditor → TakesTold (λ line. event_of_line view head line ≡ Ok said) m old n new
     → ((past : Past) (found : List Finding) → AuditsAt head.start past found auditor → IsFinding head.start past n said finding × AuditsAt head.start past found next)
-    → audit.lines ≡ n → audit.broken ≡ Some finding → audit.host_breaches ≡ next.host_breaches → audit.host.items ≡ next.host.items → IsAudit view text audit
-audited_finding view text m None n new head auditor next said finding audit j t f lines broken host told = absurd j
-audited_finding view text m (Some xs) n None head auditor next said finding audit j t f lines broken host told = absurd t
-audited_finding view text m (Some xs) n (Some ys) head auditor next said finding audit j (line, split, is, count) f lines broken host told =
+    → ((past : Past) → StandsAt head.start past auditor.judge → auditor.asked ≡ asked_in head.start past → next.asked ≡ asked_in head.start (added said past))
+    → audit.lines ≡ n → audit.broken ≡ Some finding → audit.host_breaches ≡ next.host_breaches → audit.host.items ≡ next.host.items → audit.asked ≡ next.asked → IsAudit view text audit
+audited_finding view text m None n new head auditor next said finding audit j t f g lines broken host told asked = absurd j
+audited_finding view text m (Some xs) n None head auditor next said finding audit j t f g lines broken host told asked = absurd t
+audited_finding view text m (Some xs) n (Some ys) head auditor next said finding audit j (line, split, is, count) f g lines broken host told asked =
     let (of, at) = f j.past j.found j.audits in
     let first : IsBrokenText view text audit finding = record {
       head = head;
@@ -136,6 +141,7 @@ audited_finding view text m (Some xs) n (Some ys) head auditor next said finding
       lines_are = lines ∙ sym of.line_is;
       host_is = host ∙ at.host;
       told_are = told ∙ at.told;
+      asked_are = asked ∙ g j.past j.audits.stands j.counted ∙ ap (λ (o : Option Event). asked_in head.start (added o j.past)) of.event_is;
       says = is ∙ ap (λ (o : Option Event). Ok o) of.event_is;
       said_is = of.said_is;
       facts_are = of.facts_are;

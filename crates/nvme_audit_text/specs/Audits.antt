@@ -1,5 +1,5 @@
 -- Logs as texts, and what an audit of one answers. (profile)
-use Rattle.std.specs.Prelude.{◌≡◌, ◌⊎◌, ℕ, ◌+◌, Bool, true, false, if◌then◌else◌, List, [], ◌∷◌, ◌++◌, reverse, length, take, Option, Some, None, Ok, Err}
+use Rattle.std.specs.Prelude.{◌≡◌, ◌⊎◌, ℕ, ◌+◌, Bool, true, false, if◌then◌else◌, List, [], ◌∷◌, ◌++◌, reverse, length, map, take, Option, Some, None, Ok, Err}
 use Rattle.nvme_lines.specs.Lines.{lines_of, told_lines}
 use Rattle.nvme_audit.specs.declared.event.Event.{Event}
 use Rattle.nvme_audit.specs.declared.event.Event.TheVariants.{Tail, Head as HeadBell, Fetch, Post}
@@ -9,6 +9,8 @@ use Rattle.nvme_audit.specs.declared.verdict.Verdict.TheVariants.{Kept, Host, Br
 use Rattle.nvme_audit.specs.Lives.{Past}
 use Rattle.nvme_audit.specs.Facts.{sq_after, cq_after, outstanding}
 use Rattle.nvme_audit.specs.Lawful.{verdict, is_broken, IsLawfulLog}
+use Rattle.nvme_audit.specs.declared.scene.Count.{Count}
+use Rattle.nvme_audit.specs.Coverage.{times}
 use Rattle.nvme_audit_text.specs.declared.fault.LineFault.{LineFault}
 use Rattle.nvme_audit_text.specs.declared.fault.LineFault.TheVariants.{NoHead}
 use Rattle.nvme_audit_text.specs.declared.fault.LogError.{LogError}
@@ -19,6 +21,7 @@ use Rattle.nvme_audit_text.specs.declared.facts.Facts.{Facts}
 use Rattle.nvme_audit_text.specs.declared.audit.Finding.{Finding}
 use Rattle.nvme_audit_text.specs.declared.audit.Audit.{Audit}
 use Rattle.nvme_audit_text.specs.Format.{head_of_line, event_of_line}
+use Rattle.nvme_audit_text.specs.Names.{all_rules}
 
 -- ---- what is told of an event
 -- what stood before it: the facts of its queues and of the outstanding command of its name
@@ -52,6 +55,11 @@ host_at start past line (Some event) = if is_host (verdict start past event) the
 abbrev pub most_told : ℕ
 most_told = 10
 
+-- ---- coverage
+-- of each rule, of how many events of a log it asks something
+unfoldable pub asked_in : Start → Past → List Count
+asked_in start past = map (λ rule. record { rule = rule; times = times start past rule }) all_rules
+
 -- ---- the events of some lines
 abbrev pub added : Option Event → Past → Past
 added None past = past
@@ -83,6 +91,7 @@ pub record IsLawfulText (view : View) (text : List ℕ) (audit : Audit) : Type 0
   pub lines_are : audit.lines ≡ length (lines_of text)
   pub host_is : audit.host_breaches ≡ host_breaches head.start past
   pub told_are : audit.host.items ≡ take most_told found
+  pub asked_are : audit.asked ≡ asked_in head.start past
 
 -- at the line of this number the controller breaks a rule, and at none before
 pub record IsBrokenText (view : View) (text : List ℕ) (audit : Audit) (finding : Finding) : Type 0 where
@@ -95,6 +104,7 @@ pub record IsBrokenText (view : View) (text : List ℕ) (audit : Audit) (finding
   pub lines_are : audit.lines ≡ finding.line
   pub host_is : audit.host_breaches ≡ host_breaches head.start past
   pub told_are : audit.host.items ≡ take most_told found
+  pub asked_are : audit.asked ≡ asked_in head.start (finding.event ∷ past)
   pub says : event_of_line view head line ≡ Ok (Some finding.event)
   pub said_is : finding.said ≡ verdict head.start past finding.event
   pub facts_are : finding.facts ≡ facts_of head.start past finding.event

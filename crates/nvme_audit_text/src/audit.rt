@@ -9,16 +9,17 @@ ghost use Rattle.nvme_audit_text.specs.declared.head.Head.{Head};
 ghost use Rattle.nvme_audit_text.specs.declared.audit.Finding.{Finding};
 ghost use Rattle.nvme_audit_text.specs.Format.{head_of_line, event_of_line};
 ghost use Rattle.nvme_audit_text.specs.Readings.{Fails};
-ghost use Rattle.nvme_audit_text.specs.Audits.{added, host_at, most_told, IsAudit, IsFault};
+ghost use Rattle.nvme_audit_text.specs.Audits.{added, host_at, most_told, asked_in, IsAudit, IsFault};
 ghost use Rattle.nvme_audit_text.specs.inside.Steps.{IsTaken, IsOther, AuditsAt, IsFinding, IsLineFault, IsStopped, IsHeadFault, IsEventFault};
 
 use crate::events::{event_of_line, head_of_line};
 use crate::facts::Facts;
 use crate::fault::{LineFault, LogError};
 use crate::head::Head;
+use crate::names::{RULE_COUNT, none_asked};
 use crate::notes::{event_note, head_note};
 use crate::views::View;
-use nvme_audit::{AuditError, Event, Judge, Start, Verdict};
+use nvme_audit::{AuditError, Count, Event, Judge, Start, Verdict, count_asked};
 use nvme_lines::{NextError, NumberedLines};
 use std::alloc::Global;
 use std::io::Read;
@@ -50,6 +51,8 @@ pub struct Audit {
     pub host_breaches: u64,
     /// Where the controller breaks a rule first.
     pub broken: Option<Finding>,
+    /// Of each rule for the controller, how often it asked something.
+    pub asked: [Count; RULE_COUNT],
 }
 
 // A judge, and what it told of the host so far.
@@ -58,6 +61,33 @@ struct Auditor {
     judge: Judge,
     host: Vec<Finding>,
     host_breaches: u64,
+    asked: [Count; RULE_COUNT],
+}
+
+// The fault of a judge.
+fn fault_of(error: AuditError) -> LogError
+    ensures { IsOther result }
+{
+    match error {
+        AuditError::NoMemory => LogError::NoMemory,
+        AuditError::TooLong => LogError::TooLong,
+    }
+}
+
+// Counts what the rules ask of the next event.
+#[tactic(auto, using(crate::proofs::CountLemmas::one_event_more))]
+fn counted(
+    asked: &mut [Count; RULE_COUNT],
+    judge: &Judge,
+    event: &Event,
+) -> Result<(), LogError>
+    ensures counted { (start : Start) (past : Past) → StandsAt start past judge.now → asked.old ≡ asked_in start past → OnOk result (asked.new ≡ asked_in start (event.now ∷ past)) }
+    ensures other { IfErr result IsOther }
+{
+    match count_asked(asked, &judge.scene(event)) {
+        Ok(()) => Ok(()),
+        Err(error) => Err(fault_of(error)),
+    }
 }
 
 // Judges an event.
@@ -67,8 +97,7 @@ fn judged(judge: &mut Judge, event: &Event) -> Result<Verdict, LogError>
 {
     match judge.judge(event) {
         Ok(verdict) => Ok(verdict),
-        Err(AuditError::NoMemory) => Err(LogError::NoMemory),
-        Err(AuditError::TooLong) => Err(LogError::TooLong),
+        Err(error) => Err(fault_of(error)),
     }
 }
 
@@ -109,21 +138,26 @@ fn keep_first(
 impl Auditor {
     // Nothing was read yet but the head.
     fn new(alloc: Global, start: Start) -> Auditor
-        ensures { AuditsAt start [] [] result }
+        ensures stands { AuditsAt start [] [] result }
+        ensures asked { result.asked ≡ asked_in start [] }
     {
+        let asked = none_asked();
         Auditor {
             judge: Judge::new(alloc, start),
             host: Vec::new(alloc),
             host_breaches: 0,
+            asked,
         }
     }
 
     // Takes an event, which the line of this number tells. The answer is a breach of the controller.
     fn take(&mut self, line: u64, event: Event) -> Result<Option<Finding>, LogError>
         ensures taken { (start : Start) (past : Past) (found : List Finding) → AuditsAt start past found self.old → IfOk result (λ o. MatchOption o (AuditsAt start (event ∷ past) (found ++ host_at start past line (Some event)) self.new) (λ finding. IsFinding start past line (Some event) finding × AuditsAt start past found self.new)) }
+        ensures counted { (start : Start) (past : Past) → StandsAt start past self.old.judge → self.old.asked ≡ asked_in start past → OnOk result (self.new.asked ≡ asked_in start (event ∷ past)) }
         ensures other { IfErr result IsOther }
     {
         let facts = Facts::of(&self.judge, &event);
+        counted(&mut self.asked, &self.judge, &event)?;
         let said = judged(&mut self.judge, &event)?;
         match said {
             Verdict::Kept => Ok(None),
@@ -144,6 +178,7 @@ impl Auditor {
     // Takes what the line of this number tells.
     fn note(&mut self, line: u64, said: Option<Event>) -> Result<Option<Finding>, LogError>
         ensures taken { (start : Start) (past : Past) (found : List Finding) → AuditsAt start past found self.old → IfOk result (λ o. MatchOption o (AuditsAt start (added said past) (found ++ host_at start past line said) self.new) (λ finding. IsFinding start past line said finding × AuditsAt start past found self.new)) }
+        ensures counted { (start : Start) (past : Past) → StandsAt start past self.old.judge → self.old.asked ≡ asked_in start past → OnOk result (self.new.asked ≡ asked_in start (added said past)) }
         ensures other { IfErr result IsOther }
     {
         match said {
@@ -158,12 +193,15 @@ impl Auditor {
         ensures broken { result.broken ≡ broken }
         ensures host { result.host_breaches ≡ self.host_breaches }
         ensures told { result.host.items ≡ self.host.items }
+        ensures asked { result.asked ≡ self.asked }
     {
+        let asked = self.asked;
         Audit {
             lines,
             host: self.host,
             host_breaches: self.host_breaches,
             broken,
+            asked,
         }
     }
 }

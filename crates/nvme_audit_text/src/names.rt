@@ -1,9 +1,14 @@
 // The names of rules, and the sections of the Base Specification that they come from.
-ghost use Rattle.std.specs.Prelude.{◌≡◌, ◌≢◌, None, IfSome};
+ghost use Rattle.std.specs.Prelude.{◌≡◌, ◌≢◌, None, IfSome, []};
 ghost use Rattle.std.specs.List.{All};
+ghost use Rattle.nvme_audit.specs.declared.facts.Start.{Start};
 ghost use Rattle.nvme_audit_text.specs.Names.{rule_text, all_rules, breach_text};
+ghost use Rattle.nvme_audit_text.specs.Audits.{asked_in};
 
-use nvme_audit::{Breach, Rule};
+use nvme_audit::{Breach, Count, Rule};
+
+// How many rules for the controller there are.
+pub(crate) const RULE_COUNT: usize = 17;
 
 // The rules for the controller, in the order in which they are told.
 const RULES: &[Rule] = &[
@@ -69,6 +74,38 @@ pub fn rules() -> &'static [Rule]
     ensures { result.now ≡ all_rules }
 {
     RULES
+}
+
+// The count of a rule before the first event.
+fn none(rule: Rule) -> Count
+    ensures { result ≡ record { rule = rule; times = 0 } }
+{
+    Count { rule, times: 0 }
+}
+
+/// The counts of the rules before the first event.
+pub(crate) fn none_asked() -> [Count; RULE_COUNT]
+    ensures { (start : Start) → result ≡ asked_in start [] }
+{
+    [
+        none(Rule::FetchClosed),
+        none(Rule::FetchBeyondTail),
+        none(Rule::FetchSlot),
+        none(Rule::PostClosed),
+        none(Rule::Slot),
+        none(Rule::Phase),
+        none(Rule::CqFull),
+        none(Rule::CqWrong),
+        none(Rule::Life),
+        none(Rule::Sqhd),
+        none(Rule::SqdelUnasked),
+        none(Rule::AbortUnasked),
+        none(Rule::AbortUntrue),
+        none(Rule::StatusForeign),
+        none(Rule::StatusCreate),
+        none(Rule::StatusDelete),
+        none(Rule::Features),
+    ]
 }
 
 /// The section of a rule for the controller.

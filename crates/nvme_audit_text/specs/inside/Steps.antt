@@ -19,7 +19,7 @@ use Rattle.nvme_audit_text.specs.declared.head.Head.{Head}
 use Rattle.nvme_audit_text.specs.declared.audit.Finding.{Finding}
 use Rattle.nvme_audit_text.specs.declared.audit.Auditor.{Auditor}
 use Rattle.nvme_audit_text.specs.Format.{head_of_line, event_of_line}
-use Rattle.nvme_audit_text.specs.Audits.{IsLawfulBefore, facts_of, host_breaches, most_told}
+use Rattle.nvme_audit_text.specs.Audits.{IsLawfulBefore, facts_of, host_breaches, most_told, asked_in}
 
 -- a judge takes an event
 pub record IsTaken (start : Start) (past : Past) (event : Event) (said : Verdict) (old new : Judge) : Type 0 where
@@ -87,6 +87,7 @@ pub record IsAuditedUpTo (view : View) (text rest : List ℕ) (number : ℕ) (he
   pub in_all : length (lines_of text) ≡ number + length (lines_of rest)
   pub before : IsLawfulBefore view text (numbered number (lines_of rest)) head past found
   pub audits : AuditsAt head.start past found auditor
+  pub counted : auditor.asked ≡ asked_in head.start past
 
 abbrev pub AuditedUpTo : View → List ℕ → Option (List ℕ) → ℕ → Head → Auditor → Type 0
 AuditedUpTo view text None number head auditor = ⊥
