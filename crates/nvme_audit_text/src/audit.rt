@@ -76,11 +76,7 @@ fn fault_of(error: AuditError) -> LogError
 
 // Counts what the rules ask of the next event.
 #[tactic(auto, using(crate::proofs::CountLemmas::one_event_more))]
-fn counted(
-    asked: &mut [Count; RULE_COUNT],
-    judge: &Judge,
-    event: &Event,
-) -> Result<(), LogError>
+fn counted(asked: &mut [Count; RULE_COUNT], judge: &Judge, event: &Event) -> Result<(), LogError>
     ensures counted { (start : Start) (past : Past) → StandsAt start past judge.now → asked.old ≡ asked_in start past → OnOk result (asked.new ≡ asked_in start (event.now ∷ past)) }
     ensures other { IfErr result IsOther }
 {

@@ -159,9 +159,9 @@ module _ (past : Past) (notes : Notes) (k : Content) (candidate : Candidate) (c 
       (subst (Readied (Logged (event.Closing qid queue.region) ∷ notes) _ c) (sym (places_are (k.sq queue.region).window))
       (aborts-ready (map (λ (x : Candidate). x.index) (k.sq queue.region).window) (Logged (event.Closing qid queue.region) ∷ notes) queue.region c goes))
       (put-grows k.cq c (map (aborted qid queue.region) (k.sq queue.region).window)) h) where
-    places_are : (ws : List Candidate) → ready_places (map (aborted qid queue.region) ws) ≡ map (place_at queue.region) (map (λ (x : Candidate). x.index) ws)
-    places_are [] = refl
-    places_are (x ∷ ws) = ap (λ (ps : List Place). place_at queue.region x.index ∷ ps) (places_are ws)
+        places_are : (ws : List Candidate) → ready_places (map (aborted qid queue.region) ws) ≡ map (place_at queue.region) (map (λ (x : Candidate). x.index) ws)
+        places_are [] = refl
+        places_are (x ∷ ws) = ap (λ (ps : List Place). place_at queue.region x.index ∷ ps) (places_are ws)
 
 -- ---- a completion is posted
 -- as many places as completions

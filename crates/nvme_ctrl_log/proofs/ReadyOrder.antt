@@ -51,11 +51,11 @@ nth_posted rules (Logged (Post x r i cqe) ∷ notes) h c n lt = by (nth_posted r
   by was false e below = earlier (was below)
   by was true e below = elim (cases_eq n (length (posted_to (logged notes) c))) [
     | inl last ↦ record {
-        place = place_at r i;
-        at = subst (λ (m : ℕ). slice_get (ready_in notes c) m ≡ Some (place_at r i)) (sym last)
-            (subst (λ (z : ℕ). slice_get (ready_in notes z) (length (posted_to (logged notes) z)) ≡ Some (place_at r i)) (eqb-true x c e) h.0.posts_in_order);
-        posted = rw (eq-eqb r r refl, eq-eqb i i refl) refl;
-      }
+      place = place_at r i;
+      at = subst (λ (m : ℕ). slice_get (ready_in notes c) m ≡ Some (place_at r i)) (sym last)
+          (subst (λ (z : ℕ). slice_get (ready_in notes z) (length (posted_to (logged notes) z)) ≡ Some (place_at r i)) (eqb-true x c e) h.0.posts_in_order);
+      posted = rw (eq-eqb r r refl, eq-eqb i i refl) refl;
+    }
     | inr other ↦ (let long = length-append (posted_to (logged notes) c) (cqe ∷ []) in earlier (was (omega (arith, below, other, long))))
   ]
 nth_posted rules (note ∷ notes) h c n lt =

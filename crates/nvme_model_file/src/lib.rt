@@ -2,8 +2,8 @@
 #![tactic(auto)]
 
 mod fault;
-mod file;
 mod faults;
+mod file;
 
 pub use fault::{Flaw, ModelFault, Told};
 pub use file::{model_in, simulation_in, sources_in};

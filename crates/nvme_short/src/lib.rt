@@ -10,9 +10,9 @@ mod looking;
 mod names;
 mod near;
 mod scan;
+mod short_fault;
 mod spot;
 mod texts;
-mod short_fault;
 
 pub use expansion::{ExpandError, Standing, expand, read_short, short_in, stood_for};
 pub use faults::{MOST_TOLD, ShortFaults};
@@ -20,5 +20,5 @@ pub use names::Names;
 pub use near::nearest;
 pub use nvme_short_form::{Fault, Flaw, Form, Item, Key, Place, Queue, Run, ShortError, Step};
 pub use scan::{Step as PathStep, offset_of};
-pub use spot::{Spot, spot_behind};
 pub use short_fault::{Note, ShortDetails, ShortFault, fault_in, found_in, is_short_key, start_of};
+pub use spot::{Spot, spot_behind};

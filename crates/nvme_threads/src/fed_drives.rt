@@ -10,7 +10,7 @@ ghost use Rattle.nvme_threads.specs.declared.drives.DriveError.TheVariants as dr
 ghost use Rattle.nvme_threads.specs.Hosts.{feeder_seen, drainer_seen};
 ghost use Rattle.nvme_threads.specs.Runs.{AllRan};
 
-use crate::drives::{DriveError, Driven, in_threads, put_together, driven_of};
+use crate::drives::{DriveError, Driven, driven_of, in_threads, put_together};
 use crate::hosts::Hosts;
 use nvme_front::{Parts, drop_beside};
 use nvme_lane::Mode;

@@ -55,14 +55,20 @@ impl Watch {
         match event {
             Event::Fetch { region, .. } => {
                 let fetched = count_one(&mut self.fetched, *region);
-                flags.bells().feeder(usize::from(*region)).wake_if_due(fetched);
+                flags
+                    .bells()
+                    .feeder(usize::from(*region))
+                    .wake_if_due(fetched);
             }
             Event::Pick { pick, .. } if pick.qid != 0 => {
                 self.picked = self.picked.saturating_add(u64::from(pick.n));
             }
             Event::Post { cq_region, .. } => {
                 let posted = count_one(&mut self.posted, *cq_region);
-                flags.bells().drainer(usize::from(*cq_region)).wake_if_due(posted);
+                flags
+                    .bells()
+                    .drainer(usize::from(*cq_region))
+                    .wake_if_due(posted);
             }
             _ => {}
         }

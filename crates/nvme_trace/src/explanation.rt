@@ -1,8 +1,8 @@
 // Writes the text of a check's answer.
-use crate::verdicts::{Checked, Refusal};
 use crate::judge::Finding;
 use crate::judges::{Breach, Reason};
 use crate::survey::{Counts, Difference, Survey};
+use crate::verdicts::{Checked, Refusal};
 use nvme_arbiter::specified::Rule;
 use nvme_arbiter::{Class, Kept, Mechanism, Pick, Settings};
 use std::fmt;

@@ -2,7 +2,6 @@
 #![tactic(auto)]
 
 mod basis;
-mod verdicts;
 mod explanation;
 mod fault;
 mod follower;
@@ -18,9 +17,9 @@ mod state;
 mod survey;
 mod taken;
 mod trace;
+mod verdicts;
 
 pub use basis::Basis;
-pub use verdicts::{Checked, Refusal, check, check_by};
 pub use explanation::SettingsInWords;
 pub use fault::{Field, LineFault, TraceError};
 pub use judge::{Finding, Judge};
@@ -35,3 +34,4 @@ pub use nvme_arbiter::specified::Rule;
 pub use records::{Head, TraceEvent};
 pub use survey::{Counts, Difference, Kind, Survey, check_all};
 pub use trace::Trace;
+pub use verdicts::{Checked, Refusal, check, check_by};

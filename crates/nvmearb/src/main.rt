@@ -14,8 +14,8 @@
 ghost use Rattle.std.specs.Prelude.{◌≡◌, ◌≤◌, IfSome};
 
 mod auditing;
-mod file_verdicts;
 mod demo;
+mod file_verdicts;
 mod files;
 mod kept;
 mod linting;
