@@ -1,9 +1,9 @@
 /* SPDX-License-Identifier: MIT */
 /*
- * nvmearb.h: the queues of an NVMe controller, for firmware, emulators and simulators with a loop of their own. Terms
- * are of the NVM Express Base Specification 2.0 and the NVM Command Set Specification 1.0. A status is written as
- * its type and its code in hexadecimal: 0/08. With a device, take the controller. With queues of your own, take what
- * you want of the other sections.
+ * nvmearb.h: the queues of an NVMe controller, for firmware, emulators and simulators with their own loop. Terms are
+ * those of the NVM Express Base Specification 2.0 and the NVM Command Set Specification 1.0. A status is written as
+ * its type and code in hexadecimal: 0/08. With a device, take the controller. With queues of your own, take what you
+ * want of the other sections.
  *
  * The order of calls, with a controller (docs/IN_C.md has the loop):
  *   1. nvmearb_is_of_this_header.
@@ -30,15 +30,15 @@
  * arguments, states and slots have. The caller sees to this:
  *   - Each pointer, also to an array of length 0, isn't null, is aligned, and points to as many objects as its comment
  *     says, which outlive the call.
- *   - Nothing else writes during the call what a pointer points to: hand in a copy of an entry that a guest may write.
+ *   - Nothing else writes during the call what a pointer points to: hand in a copy of an entry that others may write.
  *     Nothing else reads what a pointer that isn't const points to, and no other argument's object overlaps it.
  *   - Calls on one state run one after another, also those of a signal or interrupt handler; those on different objects
  *     may run at the same time on any threads.
  *
  * Numbers are in the machine's byte order, bytes of entries in the specification's. Of a proved library, making a
  * controller takes at most 34 KB of stack, every other call 1 KB. Link with -lnvmearb; the only other symbols are
- * memcpy and memset. docs/IN_C.md tells processors, what a kernel has to see to, which depths weights need, how a full
- * device picks admin commands, and which calls take longer with more.
+ * memcpy and memset. docs/IN_C.md tells processors, what a kernel sees to, which depths weights need, how a full device
+ * picks admin commands, and which calls take longer with more.
  */
 #ifndef NVMEARB_H
 #define NVMEARB_H
@@ -82,10 +82,10 @@ uint32_t nvmearb_size(uint32_t state);
 
 /*
  * The results. A call returns NVMEARB_OK except where its comment, or that of its section or state, says otherwise.
- * Then it has written nothing, but for a 0 into `n` where that is said.
+ * Then it has written nothing, but a 0 into `n` where that is said.
  * NVMEARB_ESTATE comes before all other results: a state that the call doesn't initialise isn't valid. NVMEARB_EARG
- * comes next: an argument, or a field in it, is outside what comments and constants allow. The others come in the order
- * told. But a doorbell of a queue that isn't open is NVMEARB_NONE, whatever its value.
+ * comes next: an argument, or a field in it, is outside what comments allow, and no other result is told for that. The
+ * others come in the order told. But a doorbell of a queue that isn't open is NVMEARB_NONE, whatever its value.
  * States are arbiters, boards, queue tables and controllers; their fields are the library's. All but arbiters are valid
  * if `mark` is what their initialisation writes. It has the major and minor version: no other takes them. An arbiter,
  * board or table may be copied, and if valid acts as its fields say, whoever wrote them.
@@ -93,7 +93,7 @@ uint32_t nvmearb_size(uint32_t state);
 #define NVMEARB_OK 0u     /* done */
 #define NVMEARB_NONE 1u   /* nothing to do, no such queue or command */
 #define NVMEARB_EARG 2u   /* an argument isn't valid */
-#define NVMEARB_ESTATE 3u /* the state isn't: not initialised, overwritten, or of another version */
+#define NVMEARB_ESTATE 3u /* the state isn't valid: not initialised, overwritten, or of another version */
 #define NVMEARB_EUSED 4u  /* another region has this address */
 #define NVMEARB_EMANY 5u  /* there are NVMEARB_MAX_REGIONS regions of this kind, or queues may lie anywhere */
 #define NVMEARB_ESIZE 6u  /* a region has 2 to 4096 slots */
@@ -593,7 +593,7 @@ typedef struct nvmearb_post {
     /* Byte 15 has Do Not Retry in bit 7, More in bit 6: nvmearb_cqe_decode takes no entry with a flag. */
     uint8_t bytes[NVMEARB_CQE_BYTES];
     uint32_t cookie; /* that of its command */
-    /* that of its command; of one that the device never took, one that is used up, and that others may have too */
+    /* that of its command; of one never taken, the last of its slot: it is used up, and others may have it too */
     uint32_t tag;
     uint16_t slot; /* of the ring */
 } nvmearb_post;
