@@ -89,12 +89,10 @@ impl Controller {
         };
         put_waiting(slots, tag, entry, cookie, (qid % 256) as u8);
         let mut sq = self.sq(qid);
-        let held = sq.held == 1;
         sq.ring.read();
-        sq.window.push(slots, tag);
-        self.put_fetched(qid, sq.ring.head, sq.window);
+        self.push_fetched(slots, qid, sq.ring.head, tag);
         self.note_fetched(qid, sq.ring.head == sq.ring.tail);
-        came(&mut self.board, qid, held);
+        came(&mut self.board, qid, sq.held == 1);
         true
     }
 }

@@ -176,16 +176,18 @@ impl Controller {
         }
     }
 
-    /// Puts the head and the window of a submission queue in their places.
+    /// Puts the head of a submission queue in its place, and a slot behind those of its window.
     #[inline(always)]
-    pub(crate) fn put_fetched(&mut self, qid: u16, head: u16, window: Chain)
-        ensures { self.new ≡ record self.old { sqs = slice_set self.old.sqs qid (record (sq_at self.old.sqs qid) { ring = record (sq_at self.old.sqs qid).ring { head = head }; window = window }) } }
+    pub(crate) fn push_fetched(&mut self, slots: &mut [Slot], qid: u16, head: u16, tag: u16)
+        ensures put { self.new ≡ record self.old { sqs = slice_set self.old.sqs qid (record (sq_at self.old.sqs qid) { ring = record (sq_at self.old.sqs qid).ring { head = head }; window = longer (sq_at self.old.sqs qid).window tag }) } }
+        ensures slots { slots.new ≡ pushed slots.old (sq_at self.old.sqs qid).window tag }
+        ensures items { SameItems slots.old slots.new }
     {
         let qid = usize::from(qid);
         if qid < MAX_REGIONS {
             let sq = &mut self.sqs[qid];
             sq.ring.head = head;
-            sq.window = window;
+            sq.window.push(slots, tag);
         }
     }
 

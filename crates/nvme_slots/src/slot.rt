@@ -137,6 +137,7 @@ pub fn put_item(slots: &mut [Slot], x: u16, slot: Slot)
 }
 
 /// The slot has a command that was fetched from a submission queue and waits.
+#[inline(always)]
 pub fn put_waiting(slots: &mut [Slot], x: u16, entry: &Sqe, cookie: u32, sqid: u8)
     ensures { slots.new ≡ put_item slots.old x (record (slot_at slots.old x) { entry = entry.now; cookie = cookie; sqid = sqid; state = 1 }) }
 {

@@ -1,4 +1,4 @@
-use Rattle.std.proofs.Common.{◌≡◌, ℕ, ◌+◌, ◌<◌, ◌^◌, ◌%◌, Some, Bool, List, [], ◌∷◌, ◌++◌, length, refl, sym, ap, ◌∙◌, subst, arith}
+use Rattle.std.proofs.Common.{◌≡◌, ℕ, ◌+◌, ◌<◌, ◌%◌, Some, Bool, List, ◌∷◌, length, refl, sym, ap, ◌∙◌, subst, arith}
 use Rattle.std.specs.Prelude.{◌==◌, if◌then◌else◌, slice_set, IsSomeAnd, IfSome}
 use Rattle.nvme_arbiter.specs.Layout.{board_of}
 use Rattle.nvme_arbiter.specs.Limits.{highest_count}
@@ -17,7 +17,8 @@ use Rattle.nvme_slots.specs.declared.ring.Ring.{Ring}
 use Rattle.nvme_slots.specs.declared.slot.Slot.{Slot}
 use Rattle.nvme_ctrl.specs.declared.state.SqState.{SqState}
 use Rattle.nvme_ctrl.specs.declared.state.Controller.{Controller}
-use Rattle.nvme_slots.specs.Pool.{slot_at, IsNew, IsChain, SameItems, SameLinks}
+use Rattle.nvme_slots.specs.Pool.{slot_at, put_item, longer}
+use Rattle.nvme_slots.proofs.Chains.{IsPushed, is_pushed}
 use Rattle.nvme_ctrl.specs.kept.State.{sq_at}
 use Rattle.std.proofs.lemmas.Bool.{false≢true}
 use Rattle.nvme_ctrl.proofs.FetchCalls.{Fetches, fetched_state, rung_left, has_fetched, may_come, few_queues, told_fetchable}
@@ -47,15 +48,22 @@ waiting c = record (slot_at c.args.slots.now c.in-Some.tag) { entry = c.args.ent
 
 -- the board is left so far
 shown : (c : goal.After-came) → c.note_fetched.new.self.board ≡ c.args.self.now.board
-shown c = ap (λ (self : Controller). self.board) c.note_fetched.ensures ∙ ap (λ (self : Controller). self.board) c.put_fetched.ensures
+shown c = ap (λ (self : Controller). self.board) c.note_fetched.ensures ∙ ap (λ (self : Controller). self.board) c.push_fetched.ensures.put
+
+-- the window's chain has that slot behind the others
+abbrev window : goal.After-came → Chain
+window c = longer (sq_at c.args.self.now.sqs c.args.qid).window c.in-Some.tag
+
+its_chain : (c : goal.After-came) → IsPushed (put_item c.args.slots.now c.in-Some.tag (waiting c)) (sq_at c.args.self.now.sqs c.args.qid).window c.in-Some.tag c.push_fetched.new.slots (window c)
+its_chain c =
+    subst (λ (slots : List Slot). IsPushed slots (sq_at c.args.self.now.sqs c.args.qid).window c.in-Some.tag c.push_fetched.new.slots (window c)) c.put_waiting.ensures
+    (is_pushed c.put_waiting.new.slots c.push_fetched.new.slots (sq_at c.args.self.now.sqs c.args.qid).window c.in-Some.tag c.push_fetched.ensures.slots c.push_fetched.ensures.items)
 
 fetches : (c : goal.After-came) (rules : FrontRules) (late : Bool) (notes : Notes) → Stands rules late notes c.args.self.now c.args.slots.now → Fetches c.args.self.now c.args.slots.now c.args.qid c.args.entry.now c.args.cookie c.in-Some.tag (waiting c) c.pop.new.self
-    c.push.new.self c.read.new.self c.came.new.board c.push.new.slots
+    (window c) c.read.new.self c.came.new.board c.push_fetched.new.slots
 fetches c rules late notes s =
     let it = told_fetchable rules late notes c.args.self.now c.args.slots.now s c.args.qid (c.is_fetchable.ensures.yes c.if-not-is_fetchable.false) in
     let few : c.args.qid < 65 = few_queues rules late notes c.args.self.now c.args.slots.now s c.args.qid it.entry it.can in
-    let pool : List Slot = c.push.new.slots in
-    let tag : ℕ = c.in-Some.tag in
     record {
       held = c.sq-sq.result.held == 1;
       held_is = ap (λ (state : SqState). state.held == 1) c.sq-sq.ensures;
@@ -68,13 +76,9 @@ fetches c rules late notes s =
       queue = (let low = few in omega (arith, low));
       has = refl;
       keeps = refl;
-      chain = subst (λ (slots : List Slot). (xs : List ℕ) → IsChain slots (sq_at c.args.self.now.sqs c.args.qid).window xs → tag < length slots → IsNew tag xs
-          → length xs + 1 < 2 ^ 16 → IsChain pool c.push.new.self (xs ++ tag ∷ [])) c.put_waiting.ensures
-          (subst (λ (state : SqState). (xs : List ℕ) → IsChain c.put_waiting.new.slots state.window xs → tag < length c.put_waiting.new.slots → IsNew tag xs
-          → length xs + 1 < 2 ^ 16 → IsChain pool c.push.new.self (xs ++ tag ∷ [])) c.sq-sq.ensures c.push.ensures.chain);
-      items = subst (λ (slots : List Slot). SameItems slots pool) c.put_waiting.ensures c.push.ensures.items;
-      links = subst (λ (slots : List Slot). (xs : List ℕ) → IsChain slots (sq_at c.args.self.now.sqs c.args.qid).window xs → SameLinks xs slots pool) c.put_waiting.ensures
-          (subst (λ (state : SqState). (xs : List ℕ) → IsChain c.put_waiting.new.slots state.window xs → SameLinks xs c.put_waiting.new.slots pool) c.sq-sq.ensures c.push.ensures.links);
+      chain = (its_chain c).chain;
+      items = (its_chain c).items;
+      links = (its_chain c).links;
       came = subst (λ (board : BoardFields). IfSome (queue_at (board_of board).queues c.args.qid) (λ (queue : OpenQueue). board_of c.came.new.board ≡ record (board_of board) {
         queues = slice_set (board_of board).queues c.args.qid (Some (record queue { count = if c.sq-sq.result.held == 1 then queue.count else queue.count + 1 }));
       })) (shown c)
@@ -92,12 +96,12 @@ returns-clause-stands c rules late notes s told =
     let tail : c.read.new.self.tail ≡ old.ring.tail = c.read.ensures.tail ∙ ap (λ (state : SqState). state.ring.tail) c.sq-sq.ensures in
     let slots : c.read.new.self.slots ≡ old.ring.slots = c.read.ensures.slots ∙ ap (λ (state : SqState). state.ring.slots) c.sq-sq.ensures in
     let ring : c.read.new.self ≡ record old.ring { head = c.read.new.self.head } = λ j. record c.read.new.self { tail = tail j; slots = slots j } in
-    let put : c.put_fetched.new.self ≡ record self { free = c.pop.new.self; sqs = slice_set self.sqs c.args.qid (fetched_state old c.push.new.self c.read.new.self) } =
-    c.put_fetched.ensures ∙ sym (ap (λ (r : Ring). record self { free = c.pop.new.self; sqs = slice_set self.sqs c.args.qid (fetched_state old c.push.new.self r) }) ring) in
-    subst (λ (after : Controller). HasFetched rules late notes c.args.qid c.args.entry.now c.args.cookie (record after { board = c.came.new.board }) c.push.new.slots)
+    let put : c.push_fetched.new.self ≡ record self { free = c.pop.new.self; sqs = slice_set self.sqs c.args.qid (fetched_state old (window c) c.read.new.self) } =
+    c.push_fetched.ensures.put ∙ sym (ap (λ (r : Ring). record self { free = c.pop.new.self; sqs = slice_set self.sqs c.args.qid (fetched_state old (window c) r) }) ring) in
+    subst (λ (after : Controller). HasFetched rules late notes c.args.qid c.args.entry.now c.args.cookie (record after { board = c.came.new.board }) c.push_fetched.new.slots)
     (sym (c.note_fetched.ensures ∙ ap (λ (after : Controller). record after { rung = rung_left after.rung c.args.qid c.read.new.self }) put))
     (has_fetched rules late notes self c.args.slots.now s c.args.qid it.entry it.can c.args.entry.now c.args.cookie c.in-Some.tag (waiting c) c.pop.new.self
-    c.push.new.self c.read.new.self c.came.new.board c.push.new.slots (fetches c rules late notes s))
+    (window c) c.read.new.self c.came.new.board c.push_fetched.new.slots (fetches c rules late notes s))
 
 pub returns-clause-front : goal.returns-clause-front
 returns-clause-front c front =
@@ -112,6 +116,6 @@ returns-clause-front c front =
 
 pub returns-clause-generations : goal.returns-clause-generations
 returns-clause-generations c =
-    left_both c.args.slots.now c.put_waiting.new.slots c.push.new.slots
+    left_both c.args.slots.now c.put_waiting.new.slots c.push_fetched.new.slots
     (put_left c.args.slots.now c.put_waiting.new.slots c.in-Some.tag _ c.put_waiting.ensures refl)
-    (items_left c.put_waiting.new.slots c.push.new.slots c.push.ensures.items)
+    (items_left c.put_waiting.new.slots c.push_fetched.new.slots c.push_fetched.ensures.items)
