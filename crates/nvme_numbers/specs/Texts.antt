@@ -18,7 +18,11 @@ abbrev pub cells_of : List (List ℕ) → List ℕ
 cells_of [] = []
 cells_of (cell ∷ cells) = cell ++ cells_behind cells
 
--- the line of a command in the log
+-- the line of the names in the log
+abbrev pub log_head : List ℕ
+log_head = codes "queue,number,operation,block,blocks,channel,came_ps,submitted_ps,picked_ps,started_ps,done_ps\n"
+
+-- the line of a command there
 abbrev pub log_text : Finished → List ℕ
 log_text f =
     cells_of (decimal f.queue ∷ decimal f.number ∷ operation_text f.operation ∷ decimal f.block ∷ decimal f.blocks ∷ decimal f.channel

@@ -1,5 +1,5 @@
 // The log of the commands that are done, as comma-separated values.
-ghost use Rattle.nvme_numbers.specs.Texts.{log_text};
+ghost use Rattle.nvme_numbers.specs.Texts.{log_head, log_text};
 ghost use Rattle.nvme_output.specs.Written.{Writes};
 
 use crate::names::operation_name;
@@ -12,7 +12,9 @@ const NAMES: &str =
     "queue,number,operation,block,blocks,channel,came_ps,submitted_ps,picked_ps,started_ps,done_ps";
 
 /// Writes the line of the names. `WriteFault` where a write failed.
-pub fn log_header<W: Write>(writer: &mut W) -> Result<(), WriteFault> {
+pub fn log_header<W: Write>(writer: &mut W) -> Result<(), WriteFault>
+    ensures { Writes (W.contents writer.old) (W.contents writer.new) result log_head }
+{
     put_line(&[Piece::Words(NAMES)], writer)
 }
 

@@ -20,7 +20,7 @@ pub record HasStepped (before after : Simulation) (h : Happening) : Type 0 where
   pub counts : Counts (end_of before) (time_of after) (occupancy_of before) (occupancy_of after) h
   -- how far each command is, the times at which it comes to its stages, and what it asks for
   pub passes : Passes (may_come_to before (time_of after)) (counts_next before) (time_of after) (hosts_of before) (hosts_of after) h
-  -- the events that are planned where a command comes or is done
+  -- the events that are planned, which commands are picked and start, and what the controller reads
   pub plans : StepPlans h before after
   -- fewer steps are left
   pub falls : IsStepLess before after h
