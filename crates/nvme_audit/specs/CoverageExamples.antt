@@ -1,9 +1,9 @@
 -- Worked: of which events a rule asks something.
-use Rattle.std.specs.Prelude.{◌≡◌, ℕ, Bool, true, false, List, [], ◌∷◌, map, Some, None}
+use Rattle.std.specs.Prelude.{◌≡◌, Bool, true, false, List, [], ◌∷◌, map, Some, None}
 use Rattle.nvme_entry.specs.Status.{success, code}
-use Rattle.nvme_entry.specs.declared.admin.AdminCommand.TheVariants.{DeleteSq, CreateSq, DeleteCq, CreateCq, Abort, SetFeatures, GetFeatures}
+use Rattle.nvme_entry.specs.declared.admin.AdminCommand.TheVariants.{DeleteSq, DeleteCq, Abort, SetFeatures, GetFeatures}
 use Rattle.nvme_audit.specs.declared.event.Event.{Event}
-use Rattle.nvme_audit.specs.declared.event.Event.TheVariants.{Tail, Head, Fetch, Post}
+use Rattle.nvme_audit.specs.declared.event.Event.TheVariants.{Tail, Head}
 use Rattle.nvme_audit.specs.declared.facts.Start.{Start}
 use Rattle.nvme_audit.specs.declared.verdict.Rule.{Rule}
 use Rattle.nvme_audit.specs.declared.verdict.Rule.TheVariants as rule

@@ -14,5 +14,6 @@ pub mod Laws
 pub mod Coverage
 pub mod Examples
 pub mod StatusExamples
+pub mod CoverageLaws
 pub mod CoverageExamples
 pub mod inside

@@ -2,6 +2,7 @@
 ghost use Rattle.nvme_audit.specs.Laws.{AnsweredOnce, HeadsAreCounts};
 ghost use Rattle.nvme_audit.specs.Examples.{AreJudged, on_the_bus, as_read, doorbells, fetches, completions, late_reads};
 ghost use Rattle.nvme_audit.specs.StatusExamples.{by_name, as_read_by_name, creates, deletes, meetings, foreign, deletions, unasked_aborts, untrue_aborts, features, excused, late_statuses};
+ghost use Rattle.nvme_audit.specs.CoverageLaws.{BrokenIsAsked};
 ghost use Rattle.nvme_audit.specs.CoverageExamples.{AreAsked, on_rings, of_names, of_statuses, of_queues, of_late_reads};
 
 /// In a log without faults each fetched command is answered once, but for the outstanding ones.
@@ -34,6 +35,11 @@ pub fn worked_statuses()
     ensures features { AreJudged by_name features }
     ensures excused { AreJudged by_name excused }
     ensures late_statuses { AreJudged as_read_by_name late_statuses }
+{}
+
+/// A rule that is broken asked something of the event. So a rule that never asked is kept by every event.
+pub fn broken_is_asked()
+    ensures { BrokenIsAsked }
 {}
 
 /// Worked: of which events a rule asks something.

@@ -16,7 +16,8 @@ pub use event::{Completion, Event};
 pub use facts::{Admin, Command, Cq, Ring, Sq, Start, Tells};
 pub use judge::{AuditError, Judge};
 pub use laws::{
-    answered_once, heads_are_counts, worked_coverage, worked_statuses, worked_verdicts,
+    answered_once, broken_is_asked, heads_are_counts, worked_coverage, worked_statuses,
+    worked_verdicts,
 };
 pub use scene::{Count, FetchScene, PostScene, Scene, count_asked};
 pub use verdict::{Breach, Rule, Verdict};

@@ -1,4 +1,4 @@
-use Rattle.std.proofs.Common.{◌≡◌, length, slice_index_or, arith, rules, ◌∙◌}
+use Rattle.std.proofs.Common.{◌≡◌, slice_index_or, arith, rules, ◌∙◌}
 use Rattle.nvme_audit.specs.declared.scene.Count.{Count}
 use Rattle.nvme_audit.specs.declared.verdict.Rule.TheVariants.{FetchClosed}
 use Rattle.nvme_audit.specs.Coverage.{counted}
