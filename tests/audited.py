@@ -1,5 +1,6 @@
 # SPDX-License-Identifier: MIT
 """A second reading of the definitions of `nvme_audit`, which looks back over the whole log at each event."""
+import collections
 import functools
 import struct
 
@@ -166,7 +167,7 @@ class Log:
 
     def of_name(self, n, cq, rest):
         sq, cid, head = rest[:3]
-        if self.is_excused(n, "sq", sq) or "post" not in self.tells and self.was_deleted(n, sq):
+        if not self.is_by_name(n, sq):
             return None
         _, slots, wanted = self.since(n, "sq", sq)
         if not slots:
@@ -215,26 +216,39 @@ class Log:
         status, dw0 = self.events[n][3][4:]
         return status == SUCCESS and dw0 is not None and dw0 % 2 == 0 and not self.has_stirred(fetched, n, command[1] & 0xFFFF)
 
+    def aborts(self, n):
+        """The Aborts that were fetched before event n."""
+        return [it for it in self.commands if it[0] < n and it[2][0] == ABORT]
+
+    def is_owed(self, n, queue, cid, own):
+        """Whether an Abort says that the command with this name, fetched by event `own`, was aborted."""
+        named = (it for it in self.aborts(n) if it[2][1] == cid << 16 | queue)
+        return any(own < it[1] < n and self.says_aborted(it[1], it[0], it[2]) for it in named)
+
+    def is_by_name(self, n, sq):
+        """Whether completions of a submission queue are judged by their names."""
+        return not self.is_excused(n, "sq", sq) and ("post" in self.tells or not self.was_deleted(n, sq))
+
+    def target(self, n, queue, own):
+        """The name of the command that completion n of an Abort, fetched by event `own`, says it aborted, where that is judged."""
+        command = self.events[own][3][1:]
+        if queue != 0 or command[0] != ABORT or not self.says_aborted(n, own, command):
+            return None
+        sq, cid = command[1] & 0xFFFF, command[1] >> 16
+        return (sq, cid) if self.is_by_name(n, sq) else None
+
     def of_abort(self, n, queue, cid, status):
         """The rule on Aborts that the status of completion n breaks, of the command with this name."""
         own = self.outstanding(n, queue, cid)
         if own is None:
             return None
-        aborts = [it for it in self.commands if it[0] < n and it[2][0] == ABORT]
-        mine = [it for it in aborts if it[2][1] == cid << 16 | queue and it[0] >= own]
-        if status == ABORTED and not mine and not any(fetched < own < answered for fetched, answered, _ in aborts):
+        mine = [it for it in self.aborts(n) if it[2][1] == cid << 16 | queue and it[0] >= own]
+        if status == ABORTED and not mine and not any(fetched < own < answered for fetched, answered, _ in self.aborts(n)):
             return "abort-unasked"
-        owed = any(own < it[1] < n and it[2][1] == cid << 16 | queue and self.says_aborted(it[1], it[0], it[2]) for it in aborts)
-        if owed and status != ABORTED:
+        if self.is_owed(n, queue, cid, own) and status != ABORTED:
             return "abort-untrue"
-        command = self.events[own][3][1:]
-        if queue != 0 or command[0] != ABORT or not self.says_aborted(n, own, command):
-            return None
-        sq, cid = command[1] & 0xFFFF, command[1] >> 16
-        is_judged = self.outstanding(n, sq, cid) is None and not self.is_excused(n, "sq", sq) and (
-            "post" in self.tells or not self.was_deleted(n, sq)
-        )
-        return "abort-untrue" if is_judged else None
+        target = self.target(n, queue, own)
+        return "abort-untrue" if target and self.outstanding(n, *target) is None else None
 
     def is_open(self, n, side, queue):
         return self.since(n, side, queue)[1] > 0
@@ -252,7 +266,7 @@ class Log:
     def of_status(self, n, rest):
         """The rule that the status of completion n breaks."""
         sq, cid, _, _, status, dw0 = rest
-        if self.is_excused(n, "sq", sq) or "post" not in self.tells and self.was_deleted(n, sq):
+        if not self.is_by_name(n, sq):
             return None
         if status == ABORTED_BY_DELETION and not self.during(-1, n, lambda it: (it[0], it[1] & 0xFFFF) == (0, sq)):
             return "sqdel-unasked"
@@ -295,6 +309,68 @@ class Log:
             return True
         told = self.numbers(n)
         return dw0 is not None and (0xFFFF in (dw0 & 0xFFFF, dw0 >> 16) if told is None else dw0 != told)
+
+    def asks(self, n):
+        """The rules that ask something of event n, each by itself."""
+        kind, queue, slot, rest = self.events[n]
+        side = "sq" if kind in ("tail", "fetch") else "cq"
+        if kind in ("tail", "head") or self.is_excused(n, side, queue):
+            return set()
+        if kind == "fetch":
+            told = {"fetch-beyond-tail": "tail" in self.tells, "fetch-slot": slot is not None}
+            return {"fetch-closed"} | {rule for rule in told if told[rule] and self.is_open(n, side, queue)}
+        told = {"slot": slot is not None, "phase": rest[3] is not None, "cq-full": "head" in self.tells}
+        place = {"post-closed"} | {rule for rule in told if told[rule] and self.is_open(n, side, queue)}
+        return place | self.asks_of_name(n, rest) | self.asks_of_status(n, rest) if self.is_by_name(n, rest[0]) else place
+
+    def asks_of_name(self, n, rest):
+        sq, cid, head = rest[:3]
+        if not self.is_open(n, "sq", sq):
+            return set() if self.was_deleted(n, sq) else {"life"}
+        has_head = head is not None and self.outstanding(n, sq, cid) is not None
+        return {"cq-wrong", "life", "sqhd"} if has_head else {"cq-wrong", "life"}
+
+    def asks_of_status(self, n, rest):
+        sq, cid, _, _, status, _ = rest
+        own = self.outstanding(n, sq, cid)
+        found = {"sqdel-unasked"} if status == ABORTED_BY_DELETION else set()
+        if own is None:
+            return found
+        if status == ABORTED:
+            found.add("abort-unasked")
+        if self.is_owed(n, sq, cid, own) or self.target(n, sq, own):
+            found.add("abort-untrue")
+        return found | self.asks_of_admin(n, own, self.events[own][3][1:], status) if sq == 0 else found
+
+    def asks_of_admin(self, n, own, command, status):
+        found = set()
+        if command[0] in SPECIFIC and status >> 8 == 1 and status & 0xFF < VENDOR:
+            found.add("status-foreign")
+        if command[0] in TURNS and not self.have_met(n) and self.may_be_untrue(n, own, command, status):
+            found.add("status-create" if command[0] in CREATES else "status-delete")
+        if status == SUCCESS and command[0] == SET_FEATURES and command[1] & 0xFF == NUMBER_OF_QUEUES:
+            found.add("features")
+        return found
+
+    def may_be_untrue(self, n, own, command, status):
+        """Whether something is asked of this status of a Create or a Delete, which is fetched by event `own`."""
+        (side, queue), high = of_queue(command), command[2] >> 16
+        if status == BAD_IDENTIFIER and command[0] in CREATES:
+            return self.is_within(n, side, queue) and (side == "cq" or self.is_within(n, "cq", high))
+        if status == BAD_CQ and command[0] == 1:
+            return high != 0 and not self.during(own, n, lambda it: of_queue(it) == ("cq", high))
+        if status == BAD_DELETION and command[0] == 4:
+            return queue != 0 and not self.during(own, n, lambda it: TURNS.get(it[0]) == "sq")
+        return status == SUCCESS or status == BAD_IDENTIFIER and queue != 0
+
+    def coverage(self):
+        """Of each rule, how many events it asks something of, up to the one at which the controller breaks a rule first."""
+        counts = collections.Counter()
+        for n in range(len(self.events)):
+            counts.update(self.asks(n))
+            if (self.verdict(n) or ("host",))[0] == "controller":
+                break
+        return dict(counts)
 
     def breaches(self):
         """The lines of what is broken, up to the controller's first."""

@@ -134,10 +134,17 @@ chart = with_rule (with_rule (ranged (codes "chart")) no_admin) output
 abbrev pub stats : Names → App
 stats names = with_rule (with_rule (with_rule (ranged (codes "stats")) backlogged) window) (format names)
 
+-- how often each rule asked something is told
+abbrev pub coverage : Rule
+coverage = record (new_rule (codes "coverage")) { long = Some (codes "coverage"); action = Some SetTrue }
+
 -- the subcommand that audits a log: through whose eyes, by which rules
+abbrev pub viewed : App
+viewed = with_rule (with_rule (with_rule (trace (codes "audit")) (text_option (codes "observer"))) (text_option (codes "only"))) (text_option (codes "without"))
+
+-- and what is told
 abbrev pub audit : App
-audit =
-    with_rule (with_rule (with_rule (with_rule (with_rule (trace (codes "audit")) (text_option (codes "observer"))) (text_option (codes "only"))) (text_option (codes "without"))) quiet) (text_option (codes "format"))
+audit = with_rule (with_rule (with_rule viewed coverage) quiet) (text_option (codes "format"))
 
 -- a dword, in place of a file
 abbrev pub dword : Rule

@@ -15,6 +15,8 @@ pub struct AuditWords<'a> {
     pub only: Option<&'a str>,
     /// The rules to leave out, as they stand there.
     pub without: Option<&'a str>,
+    /// Whether it is told how often each rule asked something.
+    pub coverage: bool,
 }
 
 /// What a line of `audit` says. `None` where the words, of which the first is the program's name, are another line,
@@ -33,6 +35,7 @@ pub fn audit_asked<'a>(
                 observer: asked.get_str("observer"),
                 only: asked.get_str("only"),
                 without: asked.get_str("without"),
+                coverage: asked.get_flag("coverage"),
             })),
             _ => Ok(None),
         },

@@ -1,7 +1,7 @@
 // The command line of the program, by `clap`.
 ghost use Rattle.std.specs.Prelude.{◌≡◌, IfOk, codes};
 ghost use Rattle.clap.specs.Words.{App, app_of};
-ghost use Rattle.nvme_words.specs.CommandLine.{OnCommandLine, all, audit, backlogged, blocks, bounded, bounds, chart, check, dword, expand, file, first, format, jobs, last, lint, mode, no_admin, no_head, number, once, points, option, ranged, reported, run, output, quiet, settings, simulate, stats, text_option, trace, traced, window, with_file, with_input, with_run, with_trace, workers, seeds, sweep, swept};
+ghost use Rattle.nvme_words.specs.CommandLine.{OnCommandLine, all, audit, backlogged, blocks, bounded, bounds, chart, check, coverage, dword, expand, file, first, format, jobs, last, lint, mode, no_admin, no_head, number, once, points, option, ranged, reported, run, output, quiet, settings, simulate, stats, text_option, trace, traced, window, with_file, with_input, with_run, with_trace, workers, seeds, sweep, swept, viewed};
 ghost use Rattle.nvme_words.specs.inside.Built.{AddsIfMade, HasApp, HasRule};
 
 use clap::builder::ValueParser;
@@ -385,9 +385,19 @@ fn chart_command<'a>(alloc: Global) -> Result<Command<'a>, AllocError>
         .arg(output_arg(alloc))
 }
 
-// The subcommand that audits a log.
-fn audit_command<'a>(alloc: Global) -> Result<Command<'a>, AllocError>
-    ensures { IfOk result (HasApp audit) }
+// Whether it is told how often each rule asked something.
+fn coverage_arg<'a>(alloc: Global) -> Arg<'a>
+    ensures { HasRule coverage result }
+{
+    Arg::new(alloc, "coverage")
+        .long("coverage")
+        .help("Tell of each rule of how many events it asked something, too")
+        .action(ArgAction::SetTrue)
+}
+
+// The subcommand that audits a log, with the options that say what is looked at.
+fn viewed_command<'a>(alloc: Global) -> Result<Command<'a>, AllocError>
+    ensures { IfOk result (HasApp viewed) }
 {
     let observer = "Judge as if only that were told: bus or host";
     let only = "Judge by these rules, and by those on which all others rest, alone";
@@ -399,7 +409,16 @@ fn audit_command<'a>(alloc: Global) -> Result<Command<'a>, AllocError>
         .arg(file_arg(alloc, FILES, help))?
         .arg(text_arg(alloc, "observer", "OBSERVER", observer))?
         .arg(text_arg(alloc, "only", "RULE,..", only))?
-        .arg(text_arg(alloc, "without", "RULE,..", without))?
+        .arg(text_arg(alloc, "without", "RULE,..", without))
+}
+
+// The subcommand that audits a log.
+fn audit_command<'a>(alloc: Global) -> Result<Command<'a>, AllocError>
+    ensures { IfOk result (HasApp audit) }
+{
+    let format = "How the answer is written: text, json or junit; without it text";
+    viewed_command(alloc)?
+        .arg(coverage_arg(alloc))?
         .arg(quiet_arg(alloc))?
         .arg(text_arg(alloc, "format", "FORMAT", VERDICT_FORMAT))
 }

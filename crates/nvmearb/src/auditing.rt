@@ -4,12 +4,12 @@ ghost use Rattle.std.specs.Prelude.{◌≤◌, IfErr};
 use crate::noted::{Noted, Notes};
 use crate::telling::{failed, no_memory, unwritten};
 use nvme_audit_text::{
-    Audit, LogError, Observer, Rule, View, audit_log, rule_name, rule_named, rules,
+    Audit, Count, LogError, Observer, Rule, View, audit_log, rule_name, rule_named, rules,
 };
 use nvme_program::AuditWords;
 use std::alloc::Global;
 use std::fs;
-use std::io::{Read, Write};
+use std::io::{self, Read, Write};
 use std::rt::Files;
 
 // The exit statuses of a rule that the controller breaks, or of a faulty log, of a fault of the command line, of one at
@@ -119,11 +119,36 @@ fn view_of<E: Write>(line: &AuditWords, errors: &mut E) -> Result<View, u8>
     Ok(view)
 }
 
+// Writes how often a rule asked something.
+fn put_count<W: Write>(count: &Count, output: &mut W) -> io::Result<()> {
+    let (name, times) = (rule_name(count.rule), count.times);
+    match times {
+        0 => writeln!(output, "coverage: {name}: never"),
+        _ => writeln!(output, "coverage: {name}: {times}"),
+    }
+}
+
+// Writes what was found, and how often each rule asked something where that is wanted.
+fn put_answer<W: Write>(audit: &Audit, coverage: bool, output: &mut W) -> io::Result<()> {
+    writeln!(output, "{audit}")?;
+    if coverage {
+        for count in &audit.asked {
+            put_count(count, output)?;
+        }
+    }
+    Ok(())
+}
+
 // Writes the answer. The answer is the exit status.
-fn put_audit<W: Write, E: Write>(audit: &Audit, output: &mut W, errors: &mut E) -> u8
+fn put_audit<W: Write, E: Write>(
+    audit: &Audit,
+    coverage: bool,
+    output: &mut W,
+    errors: &mut E,
+) -> u8
     ensures { result ≤ 4 }
 {
-    if writeln!(output, "{audit}").is_err() {
+    if put_answer(audit, coverage, output).is_err() {
         return unwritten(errors);
     }
     match &audit.broken {
@@ -148,6 +173,7 @@ fn put_fault<E: Write>(error: &LogError, errors: &mut E) -> u8
 fn audited_from<R: Read + Drop, W: Write, E: Write>(
     alloc: Global,
     view: &View,
+    coverage: bool,
     input: R,
     output: &mut W,
     errors: &mut E,
@@ -155,7 +181,7 @@ fn audited_from<R: Read + Drop, W: Write, E: Write>(
     ensures { result ≤ 4 }
 {
     match audit_log(alloc, view, input) {
-        Ok(answer) => put_audit(&answer, output, errors),
+        Ok(answer) => put_audit(&answer, coverage, output, errors),
         Err(LogError::NoMemory) => no_memory(errors),
         Err(error) => put_fault(&error, errors),
     }
@@ -176,12 +202,18 @@ pub(crate) fn audited<R: AllocGlobal + Files + Input, W: Write, E: Write>(
         Ok(view) => view,
         Err(status) => return status,
     };
-    let alloc = rt.alloc();
+    let (alloc, coverage) = (rt.alloc(), line.coverage);
     match line.file {
         Some(name) => match fs::open(rt, name) {
-            Ok(file) => audited_from(alloc, &view, Noted::new(file, notes), output, errors),
+            Ok(file) => {
+                let input = Noted::new(file, notes);
+                audited_from(alloc, &view, coverage, input, output, errors)
+            }
             Err(error) => failed("open", name, &error, errors),
         },
-        None => audited_from(alloc, &view, Noted::new(rt.reader(), notes), output, errors),
+        None => {
+            let input = Noted::new(rt.reader(), notes);
+            audited_from(alloc, &view, coverage, input, output, errors)
+        }
     }
 }
