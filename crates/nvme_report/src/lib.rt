@@ -7,3 +7,4 @@ mod reports;
 pub use nvme_lane::Mode;
 pub use nvme_output::WriteFault;
 pub use reports::report;
+pub use reports::rows::{CommandRow, CompletionRow, PickRow, Rows, SubmissionRow, rows_of};

@@ -9,6 +9,7 @@ mod counts;
 mod hints;
 mod line;
 mod lines;
+pub mod rows;
 
 use completions::put_completions;
 use counts::{counts_of, put_submissions};

@@ -44,8 +44,8 @@ pub fn first_posted(events: &[Event], region: usize, index: usize) -> Option<Fou
     None
 }
 
-// The completion that a log posts for a place. The search begins at the event `from`, and goes on from the first event.
-fn completion_of(log: &[Event], region: usize, index: usize, from: usize) -> Option<Found>
+/// The completion that a log posts for a place. The search begins at the event `from`, and goes on from the first event.
+pub fn completion_of(log: &[Event], region: usize, index: usize, from: usize) -> Option<Found>
     requires from { from ≤ length log.now }
     requires once { length (completions_of log.now region index) ≤ 1 }
     ensures { MatchOption result (completions_of log.now region index ≡ []) (λ found. completions_of log.now region index ≡ found.cqe ∷ []) }
