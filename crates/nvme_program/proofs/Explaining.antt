@@ -1,6 +1,6 @@
 -- What holds of an answer holds of it with its fault explained.
 use Rattle.std.proofs.Common.{◌≡◌, ◌⊎◌, ◌∙◌, Result, Ok, Err, inl, inr, sym, ap}
-use Rattle.std.specs.Prelude.{IfErr, OnOk}
+use Rattle.std.specs.Prelude.{IfErr, IfOk, OnOk}
 use Rattle.nvme_runs.specs.declared.runs.RunError.TheVariants as run
 use Rattle.nvme_program.specs.Statuses.{status_of}
 use Rattle.nvme_program.specs.declared.faults.Fault.{Fault}
@@ -18,6 +18,12 @@ done_stays (Ok a) (Ok b) P same h = h
 done_stays (Ok a) (Err f) P same h = tt
 done_stays (Err f) (Ok b) P same h = absurd same
 done_stays (Err f) (Err g) P same h = tt
+
+pub value_stays : {T : Type 0} (was is : Result T Fault) (P : T → Type 0) → IsExplained was is → IfOk was P → IfOk is P
+value_stays (Ok a) (Ok b) P same h = rw same h
+value_stays (Ok a) (Err f) P same h = tt
+value_stays (Err f) (Ok b) P same h = absurd same
+value_stays (Err f) (Err g) P same h = tt
 
 pub input_stays : {T : Type 0} (was is : Result T Fault) (P : Type 0) → IsExplained was is → IfErr was (λ e. status_of e ≡ 1 → P)
     → IfErr is (λ e. status_of e ≡ 1 → P)

@@ -325,6 +325,11 @@ pub ok_of_file : {T : Type 0} (result : Result T Fault) (input : Option (List �
 ok_of_file (Ok x) input text P stands h = of_file input text P stands h
 ok_of_file (Err e) input text P stands h = tt
 
+pub value_of_file : {T : Type 0} (result : Result T Fault) (input : Option (List ℕ)) (text : List ℕ) (P : List ℕ → T → Type 0) → IfSome input (λ bytes. StandsFor bytes text)
+    → IfOk result (P text) → IfOk result (λ x. IfSome input (OfFile (λ t. P t x)))
+value_of_file (Ok x) input text P stands h = of_file input text (λ t. P t x) stands h
+value_of_file (Err e) input text P stands h = tt
+
 pub err_of_file : {T : Type 0} (result : Result T Fault) (input : Option (List ℕ)) (text : List ℕ) → IfSome input (λ bytes. StandsFor bytes text)
     → IfErr result (λ e. status_of e ≡ 1 → IsBadWorkload text) → IfErr result (λ e. status_of e ≡ 1 → IfSome input IsBadFile)
 err_of_file (Ok x) input text stands h = tt

@@ -1,7 +1,8 @@
-ghost use Rattle.std.specs.Prelude.{◌≡◌, ◌≤◌, ◌⊎◌, true, Ok, IfErr, IfSome, codes};
+ghost use Rattle.std.specs.Prelude.{◌≡◌, ◌≢◌, ◌≤◌, ◌⊎◌, true, Ok, IfErr, IfOk, IfSome, codes};
 ghost use Rattle.nvme_program.specs.Answers.{Asked, Does, FailsToWrite};
-ghost use Rattle.nvme_program.specs.Files.{OfFile};
+ghost use Rattle.nvme_program.specs.Files.{IsBadFile, OfFile};
 ghost use Rattle.nvme_program.specs.Inputs.{HasWarnings, IsBadInput, IsRefusedCheck, IsToldLawful};
+ghost use Rattle.nvme_program.specs.RunAnswers.{IsRunAnswer};
 ghost use Rattle.nvme_words.specs.Requests.{IsAskedBy};
 ghost use Rattle.nvme_program.specs.Statuses.{status_of};
 ghost use Rattle.nvme_words.specs.Words.{asks, asks_alone};
@@ -21,10 +22,12 @@ mod stats;
 mod trace;
 
 use crate::faults::Fault;
+use crate::run_answers::RunAnswer;
 use chart::charted;
 use check::{checked, surveyed};
 use entry::answered;
-use file::{expanded, linted_file, ran_file, traced_file};
+use file::{expanded, linted_file, ran_file, told_file, traced_file};
+use nvme_lane::Mode;
 use nvme_trace::Basis;
 use nvme_words::{Request, asked_of};
 use run::ran;
@@ -161,6 +164,32 @@ pub fn command<R: Read + Drop, W: Write, E: Write, T: Threads + Wait + Sync>(
         Err(fault) => {
             let _ = fault.tell(alloc, words, errors);
             fault.status()
+        }
+    }
+}
+
+/// Runs the workload of a file, which the words name, as `command` does for words that ask for its report, and answers
+/// what the report tells, with this digest of the file. A fault is told on `errors` as `command` tells it, and the error
+/// is the exit status. It may wait for another thread.
+pub fn run_answer<'a, R: Read + Drop, E: Write, T: Threads + Wait + Sync>(
+    rt: &T,
+    alloc: Global,
+    words: &[String],
+    mode: Mode,
+    workers: u8,
+    input: R,
+    digest: &'a str,
+    errors: &mut E,
+) -> Result<RunAnswer<'a>, u8>
+    ensures told { IfOk result (λ answer. IfSome (R.remaining input) (OfFile (λ text. IsRunAnswer mode digest.now text answer))) }
+    ensures status { IfErr result (λ status. (status ≢ 0) × (status ≤ 3)) }
+    ensures input { IfErr result (λ status. status ≡ 1 → IfSome (R.remaining input) IsBadFile) }
+{
+    match told_file(rt, alloc, mode, workers, input, digest) {
+        Ok(answer) => Ok(answer),
+        Err(fault) => {
+            let _ = fault.tell(alloc, words, errors);
+            Err(fault.status())
         }
     }
 }

@@ -103,7 +103,7 @@ impl Fault {
     /// The program's exit status: 1 for a fault of the input, 2 for one of the command line, 3 for one at run time.
     pub(crate) fn status(&self) -> u8
         ensures table { result ≡ status_of self.now }
-        ensures range { result ≤ 3 }
+        ensures range { (result ≢ 0) × (result ≤ 3) }
         ensures write { (self.now ≡ fault.Write) ⊎ (self.now ≡ fault.Run run_fault.Write) → result ≡ 3 }
     {
         match self {

@@ -11,7 +11,7 @@ mod pipes;
 mod run_answers;
 mod second_line;
 
-pub use commands::command;
+pub use commands::{command, run_answer};
 pub use nvme_report::{Mode, WriteFault, report};
 pub use nvme_runs::{Ran, RunError, run, run_with, settled_run};
 pub use nvme_words::{
@@ -21,4 +21,4 @@ pub use nvme_words::{
 };
 pub use output::flushed;
 pub use pipes::{Errors, Output};
-pub use run_answers::{RunTold, put_run_json, put_summary};
+pub use run_answers::RunAnswer;

@@ -1,169 +1,158 @@
-// The report of a run in other forms: its summary, and as an object of JSON.
-use nvme_arbiter::Mechanism;
+// A run as values, and its forms beside the report: a summary, and an object of JSON.
+ghost use Rattle.std.specs.Prelude.{◌≡◌, sum_by, IfOk};
+ghost use Rattle.nvme_program.specs.RunAnswers.{code_of, mode_word, share_of, shares_of, taken_by, tallies_of, tally_of};
+
+use nvme_arbiter::QUEUE_LIMIT;
+use nvme_lane::Mode;
 use nvme_lint::status_name;
-use nvme_short::stood_for;
+use nvme_report::{CommandRow, PickRow, Rows};
 use nvme_trace::SettingsInWords;
 use nvme_words::VERSION;
-use nvme_workload::read;
+use serde::Serialize;
 use std::alloc::{AllocError, Global};
 use std::io::{self, Write};
 
-// The version of the form of the JSON answer.
-const JSON_FORM: u8 = 1;
+/// The version of the form of the JSON answer.
+pub(crate) const JSON_FORM: u8 = 1;
 
-/// A run that succeeded.
-#[derive(Clone, Copy)]
-pub struct RunTold<'a> {
-    /// The bytes of the file of its workload.
-    pub file: &'a [u8],
-    /// Their SHA-256 digest, in hexadecimal.
+// One more than the highest status code type, and the number of status codes of a type.
+const TYPES: u16 = 8;
+
+const CODES: u16 = 256;
+
+/// What a run of a workload file answers. Its object of JSON has these members, those of the rows in their place, but
+/// not the last.
+#[derive(Debug, Drop, Serialize)]
+pub struct RunAnswer<'a> {
+    /// The version of the form of the object.
+    pub form: u8,
+    /// That of the program.
+    pub version: &'static str,
+    /// The SHA-256 digest of the file, in hexadecimal.
     pub digest: &'a str,
-    /// Its report.
-    pub report: &'a str,
+    /// How the commands were submitted, `loaded` or `live`.
+    pub mode: &'static str,
+    /// The name of the mechanism.
+    pub mechanism: &'static str,
+    /// The settings before any Set Features, as Command Dword 11.
+    pub cdw11: u32,
+    /// What the lines of the report tell.
+    #[serde(flatten)]
+    pub rows: Rows,
+    /// The mechanism and the settings again.
+    #[serde(skip)]
+    pub settings: SettingsInWords,
 }
 
-// What a queue got.
-#[derive(Clone, Copy)]
-struct Share<'a> {
-    // Its identifier behind `q`.
-    queue: &'a str,
-    picks: u64,
-    commands: u64,
+/// What a queue got.
+#[derive(Clone, Copy, Debug, PartialEq, Eq)]
+pub(crate) struct Share {
+    queue: u16,
+    picks: usize,
+    commands: u128,
 }
 
-// How many commands were answered with a status.
-#[derive(Clone, Copy)]
-struct Tally<'a> {
-    // As `0/00`.
-    status: &'a str,
-    commands: u64,
+/// How many commands were answered with a status.
+#[derive(Clone, Copy, Debug, PartialEq, Eq)]
+pub(crate) struct Tally {
+    sct: u8,
+    sc: u8,
+    commands: usize,
 }
 
-// The first word of a line.
-fn first_word(line: &str) -> &str {
-    line.split(' ').next().unwrap_or("")
-}
-
-// The word of a line with this index.
-fn word_at(line: &str, index: usize) -> &str {
-    line.split(' ').nth(index).unwrap_or("")
-}
-
-// Counts the commands of a pick.
-fn count_pick<'a>(shares: &mut Vec<Share<'a>>, line: &'a str) -> Result<(), AllocError> {
-    let queue = word_at(line, 1);
-    let commands = word_at(line, 2).parse::<u64>().unwrap_or(0);
-    for share in shares.iter_mut() {
-        if share.queue == queue {
-            share.picks = share.picks.saturating_add(1);
-            share.commands = share.commands.saturating_add(commands);
-            return Ok(());
-        }
+/// The word of a mode.
+pub(crate) fn mode_word(mode: Mode) -> &'static str
+    ensures { result.now ≡ mode_word mode }
+{
+    match mode {
+        Mode::Loaded => "loaded",
+        Mode::Live => "live",
     }
-    shares.push(Share {
+}
+
+// How many commands a queue got by a pick.
+fn taken_by(pick: &PickRow, queue: u16) -> u16
+    ensures { result ≡ taken_by queue pick.now }
+{
+    if pick.queue == queue { pick.n } else { 0 }
+}
+
+// How many commands a queue got.
+fn commands_of(picks: &[PickRow], queue: u16) -> u128
+    ensures { result ≡ sum_by (taken_by queue) picks.now }
+{
+    let mut commands = 0u128;
+    for pick in picks {
+        commands += u128::from(taken_by(pick, queue));
+    }
+    commands
+}
+
+// What a queue got, where it was picked.
+fn share_of(picks: &[PickRow], queue: u16) -> Option<Share>
+    ensures { result ≡ share_of picks.now queue }
+{
+    let number = picks.iter().filter(|pick| pick.queue == queue).count();
+    if number == 0 {
+        return None;
+    }
+    Some(Share {
         queue,
-        picks: 1,
+        picks: number,
+        commands: commands_of(picks, queue),
+    })
+}
+
+// What each queue got that was picked, by ascending identifier.
+fn shares_of(alloc: Global, picks: &[PickRow]) -> Result<Vec<Share>, AllocError>
+    ensures { IfOk result (λ shares. shares.items ≡ shares_of picks.now) }
+{
+    let queues = 0..QUEUE_LIMIT as u16;
+    queues
+        .filter_map(|queue| share_of(picks, queue))
+        .collect(alloc)
+}
+
+// A status as one number.
+fn code_of(row: &CommandRow) -> u16
+    ensures { result ≡ code_of row.now }
+{
+    u16::from(row.status.sct()) * CODES + u16::from(row.status.sc())
+}
+
+// How many commands were answered with a status, where some were.
+fn tally_of(codes: &[u16], code: u16) -> Option<Tally>
+    ensures { result ≡ tally_of codes.now code }
+{
+    let commands = codes.iter().filter(|it| **it == code).count();
+    if commands == 0 {
+        return None;
+    }
+    Some(Tally {
+        sct: (code / CODES) as u8,
+        sc: (code % CODES) as u8,
         commands,
-    })?;
-    Ok(())
-}
-
-// Counts the completion of a command.
-fn count_completion<'a>(tallies: &mut Vec<Tally<'a>>, line: &'a str) -> Result<(), AllocError> {
-    let status = word_at(line, 2);
-    for tally in tallies.iter_mut() {
-        if tally.status == status {
-            tally.commands = tally.commands.saturating_add(1);
-            return Ok(());
-        }
-    }
-    tallies.push(Tally {
-        status,
-        commands: 1,
-    })?;
-    Ok(())
-}
-
-// The number of the queue of a share.
-fn number_of(share: &Share) -> u16 {
-    let digits = share.queue.strip_prefix("q").unwrap_or("");
-    digits.parse::<u16>().unwrap_or(0)
-}
-
-// What each queue got, by ascending identifier.
-fn shares_of(alloc: Global, report: &str) -> Result<Vec<Share<'_>>, AllocError> {
-    let mut shares = Vec::new(alloc);
-    for line in report.split('\n') {
-        if first_word(line) == "pick" {
-            count_pick(&mut shares, line)?;
-        }
-    }
-    shares.sort_by_key(number_of)?;
-    Ok(shares)
+    })
 }
 
 // How many commands were answered with each status, by ascending codes.
-fn tallies_of(alloc: Global, report: &str) -> Result<Vec<Tally<'_>>, AllocError> {
-    let mut tallies = Vec::new(alloc);
-    for line in report.split('\n') {
-        if first_word(line) == "cmd" {
-            count_completion(&mut tallies, line)?;
-        }
-    }
-    tallies.sort_by_key(|tally| codes_of(tally.status))?;
-    Ok(tallies)
-}
-
-// The status code type and the status code of a text such as `0/0b`.
-fn codes_of(status: &str) -> (u8, u8) {
-    let Some((sct, sc)) = status.split_once('/') else {
-        return (0, 0);
-    };
-    let sct = sct.parse::<u8>().unwrap_or(0);
-    (sct, u8::from_str_radix(sc, 16).unwrap_or(0))
-}
-
-// The mechanism and the settings of the workload of a file.
-fn settings_of(alloc: Global, file: &[u8]) -> Result<SettingsInWords, AllocError> {
-    let mut bytes = Vec::new(alloc);
-    bytes.extend_from_slice(file)?;
-    let Ok(standing) = stood_for(alloc, bytes) else {
-        return Err(AllocError);
-    };
-    match read(alloc, standing.text.as_slice()) {
-        Ok(workload) => Ok(SettingsInWords {
-            mechanism: workload.mechanism,
-            settings: workload.settings,
-        }),
-        Err(_) => Err(AllocError),
-    }
-}
-
-// The name of a mechanism.
-fn name_of(mechanism: Mechanism) -> &'static str {
-    match mechanism {
-        Mechanism::RoundRobin => "round-robin",
-        Mechanism::Weighted => "weighted",
-    }
-}
-
-// The commands of all queues.
-fn all_of(shares: &[Share]) -> u64 {
-    let mut all = 0u64;
-    for share in shares {
-        all = all.saturating_add(share.commands);
-    }
-    all
+fn tallies_of(alloc: Global, commands: &[CommandRow]) -> Result<Vec<Tally>, AllocError>
+    ensures { IfOk result (λ tallies. tallies.items ≡ tallies_of commands.now) }
+{
+    let codes: Vec<u16> = commands.iter().map(code_of).collect(alloc)?;
+    let codes = codes.as_slice();
+    (0..TYPES * CODES)
+        .filter_map(|code| tally_of(codes, code))
+        .collect(alloc)
 }
 
 // The part of all commands in ten thousandths of a percent, rounded.
-fn part_of(commands: u64, all: u64) -> u64 {
-    let scaled = u128::from(commands) * 1_000_000 + u128::from(all / 2);
-    u64::try_from(scaled / u128::from(all.max(1))).unwrap_or(u64::MAX)
+fn part_of(commands: u128, all: u128) -> u128 {
+    commands.saturating_mul(1_000_000).saturating_add(all / 2) / all.max(1)
 }
 
 // Writes the row of a queue.
-fn put_share<W: Write>(share: &Share, all: u64, output: &mut W) -> io::Result<()> {
+fn put_share<W: Write>(share: &Share, all: u128, output: &mut W) -> io::Result<()> {
     let Share {
         queue,
         picks,
@@ -173,115 +162,47 @@ fn put_share<W: Write>(share: &Share, all: u64, output: &mut W) -> io::Result<()
     let (whole, rest) = (part / 10_000, part % 10_000);
     writeln!(
         output,
-        "{queue:<6}{picks:>10}{commands:>10}{whole:>4}.{rest:04}%"
+        "q{queue:<5}{picks:>10}{commands:>10}{whole:>4}.{rest:04}%"
     )
 }
 
 // Writes the row of a status.
 fn put_tally<W: Write>(tally: &Tally, output: &mut W) -> io::Result<()> {
-    let Tally { status, commands } = *tally;
-    let (sct, sc) = codes_of(status);
+    let Tally { sct, sc, commands } = *tally;
     let name = status_name(sct, sc).unwrap_or("");
-    writeln!(output, "{status:<6}{commands:>10}  {name}")
+    writeln!(output, "{sct}/{sc:02x}  {commands:>10}  {name}")
 }
 
-/// Writes a run in short: the program and the workload, the settings, what each queue got, and how many commands were
-/// answered with each status.
-pub fn put_summary<W: Write>(alloc: Global, run: &RunTold, output: &mut W) -> io::Result<()> {
-    let settings = settings_of(alloc, run.file)?;
-    let (shares, tallies) = (
-        shares_of(alloc, run.report)?,
-        tallies_of(alloc, run.report)?,
-    );
-    let (digest, mechanism) = (run.digest, name_of(settings.mechanism));
-    let mode = first_word(run.report.split('\n').next().unwrap_or(""));
-    writeln!(output, "nvmearb {VERSION}, digest {digest}")?;
-    writeln!(output, "{mode}, {mechanism}: {settings}")?;
-    writeln!(output, "queue      picks  commands     share")?;
-    let all = all_of(&shares);
-    for share in &shares {
-        put_share(share, all, output)?;
-    }
-    writeln!(output, "status  commands")?;
-    for tally in &tallies {
-        put_tally(tally, output)?;
-    }
-    Ok(())
-}
-
-// Writes the object of a pick.
-fn put_pick<W: Write>(line: &str, output: &mut W) -> io::Result<()> {
-    let queue = word_at(line, 1).strip_prefix("q").unwrap_or("0");
-    let (n, is_fresh) = (word_at(line, 2), word_at(line, 3) == "fresh");
-    write!(
-        output,
-        "{{\"queue\":{queue},\"n\":{n},\"fresh\":{is_fresh}}}"
-    )
-}
-
-// Writes the object of a region, whose numbers stand behind their names.
-fn put_region<W: Write>(line: &str, output: &mut W) -> io::Result<()> {
-    let (region, mut is_name) = (word_at(line, 1), true);
-    write!(output, "{{\"region\":{region}")?;
-    for word in line.split(' ').skip(2) {
-        if is_name {
-            write!(output, ",\"{word}\":")?;
-        } else {
-            write!(output, "{word}")?;
+impl RunAnswer<'_> {
+    /// Writes the run in short: the program and the workload, the settings, what each queue got, and how many commands
+    /// were answered with each status.
+    pub fn put_summary<W: Write>(&self, alloc: Global, output: &mut W) -> io::Result<()> {
+        let shares = shares_of(alloc, self.rows.picks.as_slice())?;
+        let tallies = tallies_of(alloc, self.rows.commands.as_slice())?;
+        let (version, digest) = (self.version, self.digest);
+        let (mode, mechanism, settings) = (self.mode, self.mechanism, self.settings);
+        writeln!(output, "nvmearb {version}, digest {digest}")?;
+        writeln!(output, "{mode}, {mechanism}: {settings}")?;
+        writeln!(output, "queue      picks  commands     share")?;
+        let all = shares
+            .iter()
+            .fold(0u128, |all, it| all.saturating_add(it.commands));
+        for share in &shares {
+            put_share(share, all, output)?;
         }
-        is_name = !is_name;
-    }
-    output.write_all(b"}")
-}
-
-// Writes the object of a command.
-fn put_command<W: Write>(line: &str, output: &mut W) -> io::Result<()> {
-    let (place, status, dw0) = (word_at(line, 1), word_at(line, 2), word_at(line, 3));
-    let (region, index) = place.split_once('.').unwrap_or(("0", "0"));
-    write!(
-        output,
-        "{{\"region\":{region},\"index\":{index},\"status\":\"{status}\",\"dw0\":\"{dw0}\"}}"
-    )
-}
-
-// Writes the objects of the lines of a report that begin with this word, as the array of a name.
-fn put_array<W: Write>(name: &str, word: &str, report: &str, output: &mut W) -> io::Result<()> {
-    write!(output, ",\"{name}\":[")?;
-    let mut before: &[u8] = b"";
-    for line in report.split('\n') {
-        if first_word(line) == word {
-            output.write_all(before)?;
-            match word {
-                "pick" => put_pick(line, output)?,
-                "cmd" => put_command(line, output)?,
-                _ => put_region(line, output)?,
-            }
-            before = b",";
+        writeln!(output, "status  commands")?;
+        for tally in &tallies {
+            put_tally(tally, output)?;
         }
+        Ok(())
     }
-    output.write_all(b"]")
-}
 
-/// Writes the whole report of a run as an object of JSON, with the program, the workload and the settings.
-pub fn put_run_json<W: Write>(alloc: Global, run: &RunTold, output: &mut W) -> io::Result<()> {
-    let SettingsInWords {
-        mechanism,
-        settings,
-    } = settings_of(alloc, run.file)?;
-    let (digest, report) = (run.digest, run.report);
-    let mode = first_word(report.split('\n').next().unwrap_or(""));
-    let (mechanism, cdw11) = (name_of(mechanism), settings.to_cdw11());
-    write!(
-        output,
-        "{{\"form\":{JSON_FORM},\"version\":\"{VERSION}\",\"digest\":\"{digest}\""
-    )?;
-    write!(
-        output,
-        ",\"mode\":\"{mode}\",\"mechanism\":\"{mechanism}\",\"cdw11\":{cdw11}"
-    )?;
-    put_array("picks", "pick", report, output)?;
-    put_array("submissions", "sq", report, output)?;
-    put_array("completions", "cq", report, output)?;
-    put_array("commands", "cmd", report, output)?;
-    output.write_all(b"}\n")
+    /// Writes the run as an object of JSON.
+    pub fn put_json<W: Write>(&self, alloc: Global, output: &mut W) -> io::Result<()> {
+        let Ok(text) = serde_json::to_vec(alloc, self) else {
+            return Err(AllocError.into());
+        };
+        output.write_all(text.as_slice())?;
+        output.write_all(b"\n")
+    }
 }

@@ -11,7 +11,8 @@
 //! whoever starts the program ignores it, it is a failed write.
 #![tactic(auto)]
 
-ghost use Rattle.std.specs.Prelude.{◌≡◌, ◌≤◌, IfSome};
+ghost use Rattle.std.specs.Prelude.{◌≡◌, ◌≤◌, ◌↔◌, All, IfSome};
+ghost use Rattle.nvmearb.specs.declared.file_verdicts.Judged.{Judged};
 
 mod auditing;
 mod demo;
@@ -61,19 +62,6 @@ const BAD_LINE: u8 = 2;
 // The words of the command line, the program's name first.
 fn words_of(rt: &HostRuntime) -> io::Result<Vec<String>> {
     Ok(env::args(rt)?.collect(rt.alloc())?)
-}
-
-// Whether the words ask for a lint, or for the report of a run, as the subcommand of this name does, and for no help on
-// it.
-fn is_asked(alloc: Global, words: &[String], name: &str) -> Result<bool, AllocError> {
-    if subcommand(words) != name {
-        return Ok(false);
-    }
-    match asked_of(alloc, words) {
-        Ok(Request::Lint | Request::RunFile(..)) => Ok(true),
-        Err(WordsError::NoMemory(error)) => Err(error),
-        _ => Ok(false),
-    }
 }
 
 // Whether the options of the words don't go together, so that no file is opened.
@@ -242,16 +230,18 @@ fn put_faults<E: Write>(answers: &[Judged], errors: &mut E) {
     }
 }
 
-// The worst status of some answers: a breach of the host alone is the least.
+// The worst status of some answers: 0 exactly where that of each is. A breach of the host alone is the least.
 fn worst(answers: &[Judged]) -> u8
-    ensures { result ≤ 4 }
+    ensures none { result ≡ 0 ↔ All (λ (it : Judged). it.status ≡ 0) answers.now }
+    ensures range { result ≤ 4 }
 {
+    if answers.iter().all(|it| it.status == 0) {
+        return 0;
+    }
     let statuses = answers.iter().map(|it| it.status);
-    let worst = statuses.filter(|status| *status != 4).max().unwrap_or(0);
-    if worst == 0 && answers.iter().any(|it| it.status == 4) {
-        4
-    } else {
-        worst.min(3)
+    match statuses.filter(|status| *status != 4).max() {
+        Some(status @ 1..=3) => status,
+        _ => 4,
     }
 }
 
@@ -262,7 +252,8 @@ fn put_answers<W: Write, E: Write>(
     output: &mut W,
     errors: &mut E,
 ) -> u8
-    ensures { result ≤ 4 }
+    ensures none { result ≡ 0 → All (λ (it : Judged). it.status ≡ 0) answers.now }
+    ensures range { result ≤ 4 }
 {
     let status = worst(answers);
     if answers.iter().any(|it| it.status == BAD_LINE) {
@@ -343,15 +334,13 @@ where
     ensures { IfSome result (λ status. status ≤ 4) }
 {
     let alloc = rt.alloc();
-    match is_asked(alloc, words, "lint") {
-        Ok(true) => return Some(linted(rt, words, notes, output, errors)),
-        Ok(false) => {}
-        Err(_) => return Some(no_memory(errors)),
-    }
-    match is_asked(alloc, words, "run") {
-        Ok(true) => return ran_otherwise(rt, words, notes, output, errors),
-        Ok(false) => {}
-        Err(_) => return Some(no_memory(errors)),
+    match asked_of(alloc, words) {
+        Ok(Request::Lint) => return Some(linted(rt, words, notes, output, errors)),
+        Ok(Request::RunFile(mode, workers)) => {
+            return ran_otherwise(rt, words, mode, workers, notes, output, errors);
+        }
+        Err(WordsError::NoMemory(_)) => return Some(no_memory(errors)),
+        _ => {}
     }
     match simulation_asked(alloc, words) {
         Ok(Some(line)) => {

@@ -2,10 +2,9 @@
 ghost use Rattle.std.specs.Prelude.{◌≤◌, IfErr, IfSome};
 
 use crate::files::read_input;
-use crate::kept::Kept;
 use crate::noted::Notes;
 use crate::telling::{no_memory, unwritten};
-use nvme_program::{RunTold, command, file_named, put_run_json, put_summary};
+use nvme_program::{Mode, file_named, run_answer};
 use nvme_simulate::Digest;
 use std::alloc::Global;
 use std::io::{ErrorKind, Write};
@@ -75,38 +74,12 @@ fn form_of<E: Write>(words: &Said, errors: &mut E) -> Result<Option<Form>, u8>
     Err(BAD_LINE)
 }
 
-// Writes the report of a run in a form. The answer is the exit status.
-fn put<W: Write, E: Write>(
-    alloc: Global,
-    form: Form,
-    file: &[u8],
-    report: &[u8],
-    output: &mut W,
-    errors: &mut E,
-) -> u8
-    ensures { result ≤ 4 }
-{
-    let digest = Digest::of(file);
-    let told = RunTold {
-        file,
-        digest: digest.as_str(),
-        report: std::str::from_utf8(report).unwrap_or(""),
-    };
-    let written = match form {
-        Form::Summary => put_summary(alloc, &told, output),
-        Form::Json => put_run_json(alloc, &told, output),
-    };
-    match written {
-        Ok(()) => 0,
-        Err(error) if error.kind() == ErrorKind::OutOfMemory => no_memory(errors),
-        Err(_) => unwritten(errors),
-    }
-}
-
 // Runs the workload of a file, and writes its report in a form. The answer is the exit status.
 fn reported<R, W: Write, E: Write>(
     rt: &R,
     words: &[String],
+    mode: Mode,
+    workers: u8,
     form: Form,
     notes: &Notes,
     output: &mut W,
@@ -124,13 +97,20 @@ where
         Ok(text) => text,
         Err(status) => return status,
     };
-    let mut kept = Kept::new(alloc);
-    match command(rt, alloc, words, text.as_slice(), &mut kept, errors) {
-        0 => match kept.answer() {
-            Some(report) => put(alloc, form, text.as_slice(), report, output, errors),
-            None => no_memory(errors),
-        },
-        status => status,
+    let (text, digest) = (text.as_slice(), Digest::of(text.as_slice()));
+    let digest = digest.as_str();
+    let answer = match run_answer(rt, alloc, words, mode, workers, text, digest, errors) {
+        Ok(answer) => answer,
+        Err(status) => return status,
+    };
+    let written = match form {
+        Form::Summary => answer.put_summary(alloc, output),
+        Form::Json => answer.put_json(alloc, output),
+    };
+    match written {
+        Ok(()) => 0,
+        Err(error) if error.kind() == ErrorKind::OutOfMemory => no_memory(errors),
+        Err(_) => unwritten(errors),
     }
 }
 
@@ -140,6 +120,8 @@ where
 pub(crate) fn ran_otherwise<R, W: Write, E: Write>(
     rt: &R,
     words: &[String],
+    mode: Mode,
+    workers: u8,
     notes: &Notes,
     output: &mut W,
     errors: &mut E,
@@ -149,7 +131,7 @@ where
     ensures { IfSome result (λ status. status ≤ 4) }
 {
     match form_of(&said_in(words), errors) {
-        Ok(Some(form)) => Some(reported(rt, words, form, notes, output, errors)),
+        Ok(Some(form)) => Some(reported(rt, words, mode, workers, form, notes, output, errors)),
         Ok(None) => None,
         Err(status) => Some(status),
     }

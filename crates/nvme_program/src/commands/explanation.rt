@@ -3,7 +3,6 @@ ghost use Rattle.std.specs.Prelude.{◌≡◌};
 ghost use Rattle.nvme_program.specs.Statuses.{status_of};
 ghost use Rattle.nvme_program.specs.inside.Explained.{IsExplained, IsExplainedFault};
 
-use super::Answer;
 use crate::faults::Fault;
 use crate::long_script::LongScript;
 use nvme_runs::RunError;
@@ -65,11 +64,11 @@ fn explained_fault(alloc: Global, file: &Standing, fault: Fault) -> Fault
 /// The answer of a run of this file, where a fault tells in a second line what is known of it. It isn't inlined, so that
 /// its stack isn't that of the run.
 #[inline(never)]
-pub(super) fn explained(
+pub(super) fn explained<T: Drop>(
     alloc: Global,
     file: &Standing,
-    answer: Result<Answer, Fault>,
-) -> Result<Answer, Fault>
+    answer: Result<T, Fault>,
+) -> Result<T, Fault>
     ensures { IsExplained answer result }
 {
     match answer {

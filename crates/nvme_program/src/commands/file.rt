@@ -5,6 +5,7 @@ ghost use Rattle.nvme_short.specs.Names.{AreNamesFor};
 ghost use Rattle.nvme_program.specs.Answers.{Appended, AppendedPart, HasReport, HasTrace, HasWorkload};
 ghost use Rattle.nvme_program.specs.Files.{IsBadFile, OfFile};
 ghost use Rattle.nvme_program.specs.Inputs.{HasNoWarning, HasWarnings};
+ghost use Rattle.nvme_program.specs.RunAnswers.{IsRunAnswer};
 ghost use Rattle.nvme_program.specs.Statuses.{status_of};
 ghost use Rattle.nvme_program.specs.declared.faults.Fault.TheVariants as fault;
 ghost use Rattle.nvme_program.specs.declared.commands.Answer.TheVariants as answer;
@@ -13,9 +14,10 @@ ghost use Rattle.nvme_runs.specs.declared.runs.RunError.TheVariants as run_fault
 use super::Answer;
 use super::explanation::explained;
 use super::lint::{linted, warnings_of};
-use super::run::ran;
+use super::run::{ran, told};
 use super::trace::traced;
 use crate::faults::Fault;
+use crate::run_answers::RunAnswer;
 use nvme_lane::Mode;
 use nvme_output::{WriteFault, put};
 use nvme_short::{ExpandError, Standing, stood_for};
@@ -57,6 +59,24 @@ pub(super) fn ran_file<R: Read + Drop, W: Write, T: Threads + Wait + Sync>(
 {
     let file = named_text_of(alloc, input)?;
     let answer = ran(rt, alloc, mode, workers, file.text.as_slice(), output);
+    explained(alloc, &file, answer)
+}
+
+/// Runs the workload of a file, and answers what its report tells, as `told` does. Some faults have a second line.
+#[inline(never)]
+pub(super) fn told_file<'a, R: Read + Drop, T: Threads + Wait + Sync>(
+    rt: &T,
+    alloc: Global,
+    mode: Mode,
+    workers: u8,
+    input: R,
+    digest: &'a str,
+) -> Result<RunAnswer<'a>, Fault>
+    ensures told { IfOk result (λ answer. IfSome (R.remaining input) (OfFile (λ text. IsRunAnswer mode digest.now text answer))) }
+    ensures input { IfErr result (λ e. status_of e ≡ 1 → IfSome (R.remaining input) IsBadFile) }
+{
+    let file = named_text_of(alloc, input)?;
+    let answer = told(rt, alloc, mode, workers, file.text.as_slice(), digest);
     explained(alloc, &file, answer)
 }
 
