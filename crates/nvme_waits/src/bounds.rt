@@ -1,5 +1,5 @@
 // How long commands of a model may wait for arbitration.
-ghost use Rattle.std.specs.Prelude.{◌≡◌, ◌≤◌, if◌then◌else◌, IfOk, length, map};
+ghost use Rattle.std.specs.Prelude.{◌≡◌, ◌≤◌, if◌then◌else◌, IfOk, OnOk, length, map};
 ghost use Rattle.nvme_bounds.specs.Before.{most_before};
 ghost use Rattle.nvme_arbiter.specs.ByClass.{of_class};
 ghost use Rattle.nvme_waits.specs.Bounds.{count_in, counts_in, is_in, time_of, unbounded};
@@ -215,12 +215,13 @@ fn bound_of(all: &Queues, device: &Device, service: u64, class: Class) -> Bound
 impl Bounds {
     ghost use Rattle.nvme_waits.specs.Bounds.{bound_of, waits_in};
     ghost use Rattle.nvme_waits.specs.Longest.{longest_of};
-    ghost use Rattle.nvme_waits.specs.Waits.{Ends};
+    ghost use Rattle.nvme_waits.specs.Waits.{Ends, HasNoWait, Picks, longest_seen};
 
     /// Those of a model, of which no wait was seen.
     pub fn of(alloc: Global, model: &Model) -> Result<Bounds, AllocError>
         ensures queues { IfOk result (λ b. b.queues.items ≡ map (bound_of model.now) model.now.queues.items) }
         ensures service { IfOk result (λ b. b.service ≡ longest_of model.now.queues.items) }
+        ensures waits { IfOk result (λ b. HasNoWait (length model.now.queues.items) (waits_in b)) }
     {
         let all = Queues {
             mechanism: model.mechanism,
@@ -240,7 +241,11 @@ impl Bounds {
     }
 
     /// Commands of a queue are picked at this time, in picoseconds.
-    pub fn pick(&mut self, at: u64, pick: &Pick) -> Result<(), AllocError> {
+    pub fn pick(&mut self, at: u64, pick: &Pick) -> Result<(), AllocError>
+        ensures waits { OnOk result (Picks at pick.now (waits_in self.old) (waits_in self.new)) }
+        ensures queues { self.new.queues ≡ self.old.queues }
+        ensures service { self.new.service ≡ self.old.service }
+    {
         self.waits.pick(at, pick)
     }
 
@@ -254,7 +259,9 @@ impl Bounds {
     }
 
     /// The longest wait that was seen of a queue, by its identifier. `None` where none of its commands counts.
-    pub fn longest(&self, queue: usize) -> Option<u64> {
+    pub fn longest(&self, queue: usize) -> Option<u64>
+        ensures { result ≡ longest_seen (waits_in self.now) queue }
+    {
         self.waits.longest(queue.checked_sub(1)?)
     }
 

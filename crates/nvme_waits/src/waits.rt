@@ -1,6 +1,6 @@
 // How long commands waited for arbitration, each from when it was the next one of its queue.
-ghost use Rattle.std.specs.Prelude.{◌≡◌, ◌<◌, ◌∷◌, IfSome, IsPermutation, length, position, slice_get, option_and_then};
-ghost use Rattle.nvme_waits.specs.Waits.{Ends, is_of, longer_of, taken_in, wait_of};
+ghost use Rattle.std.specs.Prelude.{◌≡◌, ◌<◌, ◌∷◌, ◌++◌, IfOk, IfSome, IsPermutation, OnOk, length, position, slice_get, option_and_then};
+ghost use Rattle.nvme_waits.specs.Waits.{Ends, HasNoWait, Picks, is_of, longer_of, next_of, picked_from, queue_behind, taken_in, wait_of};
 
 use nvme_arbiter::Pick;
 use nvme_model::{Finished, Model};
@@ -17,7 +17,7 @@ struct Taken {
 }
 
 // The commands of a queue that were picked.
-#[derive(Clone, Copy, Default)]
+#[derive(Clone, Copy)]
 struct Queue {
     count: u64,
     // When the last one was picked.
@@ -25,6 +25,13 @@ struct Queue {
     // The longest wait of one that counts.
     longest: Option<u64>,
 }
+
+// A queue of which no command was picked.
+const UNPICKED: Queue = Queue {
+    count: 0,
+    last: 0,
+    longest: None,
+};
 
 /// The longest waits of the queues.
 #[derive(Drop)]
@@ -39,6 +46,38 @@ fn place_of(taken: &[Taken], command: &Finished) -> Option<usize>
     ensures within { IfSome result (λ i. i < length taken.now) }
 {
     taken.iter().position(|it| it.queue == command.queue && it.number == command.number)
+}
+
+// The next command of a queue is picked at a time.
+fn pick_one(queue: &mut Queue, qid: u16, at: u64) -> Taken
+    ensures taken { result ≡ record { queue = qid; number = queue.old.count; since = queue.old.last } }
+    ensures queue { queue.new ≡ record queue.old { count = next_of queue.old.count; last = at } }
+{
+    let taken = Taken {
+        queue: qid,
+        number: queue.count,
+        since: queue.last,
+    };
+    queue.count = queue.count.saturating_add(1);
+    queue.last = at;
+    taken
+}
+
+// The next commands of a queue are picked at a time, and the device has them. The second one and those behind it waited for
+// no time.
+fn pick_some(
+    queue: &mut Queue,
+    taken: &mut Vec<Taken>,
+    at: u64,
+    pick: &Pick,
+) -> Result<(), AllocError>
+    ensures taken { OnOk result (taken.new.items ≡ taken.old.items ++ picked_from at pick.now.qid pick.now.n queue.old) }
+    ensures queue { OnOk result (queue.new ≡ queue_behind at pick.now.n queue.old) }
+{
+    for _turn in 0..pick.n {
+        taken.push(pick_one(queue, pick.qid, at))?;
+    }
+    Ok(())
 }
 
 // How long a command waited as the next one of its queue.
@@ -60,32 +99,26 @@ fn longer_of(other: Option<u64>, wait: u64) -> u64
 
 impl Waits {
     // Of the queues of a model, of which no command was picked.
-    pub(crate) fn new(alloc: Global, model: &Model) -> Result<Waits, AllocError> {
+    pub(crate) fn new(alloc: Global, model: &Model) -> Result<Waits, AllocError>
+        ensures { IfOk result (HasNoWait (length model.now.queues.items)) }
+    {
         let mut queues = Vec::new(alloc);
-        queues.resize(model.queues.len(), Queue::default())?;
+        queues.resize(model.queues.len(), UNPICKED)?;
         Ok(Waits {
             queues,
             taken: Vec::new(alloc),
         })
     }
 
-    // Commands of a queue are picked at this time. The second one of a pick and those behind it waited for no time.
-    pub(crate) fn pick(&mut self, at: u64, pick: &Pick) -> Result<(), AllocError> {
-        let qid = pick.qid;
-        let Some(place) = usize::from(qid).checked_sub(1) else {
+    // Commands of a queue are picked at this time.
+    pub(crate) fn pick(&mut self, at: u64, pick: &Pick) -> Result<(), AllocError>
+        ensures { OnOk result (Picks at pick.now self.old self.new) }
+    {
+        let Some(place) = usize::from(pick.qid).checked_sub(1) else {
             return Ok(());
         };
-        let Some(queue) = self.queues.get_mut(place) else {
-            return Ok(());
-        };
-        for _turn in 0..pick.n {
-            self.taken.push(Taken {
-                queue: qid,
-                number: queue.count,
-                since: queue.last,
-            })?;
-            queue.count = queue.count.saturating_add(1);
-            queue.last = at;
+        if place < self.queues.len() {
+            pick_some(&mut self.queues[place], &mut self.taken, at, pick)?;
         }
         Ok(())
     }
