@@ -1,3 +1,4 @@
 mod Mixes
+mod Played
 mod Steps
 mod Totals

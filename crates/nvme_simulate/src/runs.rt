@@ -1,5 +1,8 @@
 // Runs a model to its end.
+ghost use Rattle.std.specs.Prelude.{◌≡◌, IfOk, OnOk};
+ghost use Rattle.nvme_simulate.specs.Played.{AddsIf, HasRun, IsMeasured, IsPlayed, Takes, done_behind, is_over};
 ghost use Rattle.nvme_simulation.specs.Simulations.{IsSimulation};
+ghost use Rattle.nvme_simulation.specs.Stepping.{HasStepped};
 
 use crate::distributions::Subject;
 use crate::fault::{SimulateFault, Stream};
@@ -8,7 +11,7 @@ use crate::origin::Origin;
 use crate::progress::Progress;
 use crate::streams::Streams;
 use crate::watch::Watch;
-use nvme_model::Model;
+use nvme_model::{Finished, Model};
 use nvme_numbers::{About, Answer, Member, Numbers, Row};
 use nvme_simulation::{Happening, Simulation, SimulationFault};
 use nvme_version::VERSION;
@@ -53,15 +56,48 @@ impl Form {
     }
 }
 
-// What a step came to.
-#[derive(Clone, Copy)]
-enum Stepped {
-    // A command is finished, at this time.
-    Finished(u64),
-    // Something else happened.
-    On,
-    // Nothing happens any more.
-    Over,
+// Numbers add a command that is done, where it counts.
+fn count(numbers: &mut Numbers, command: &Finished, counts: bool) -> Result<(), SimulateFault>
+    ensures { OnOk result (AddsIf counts command.now numbers.old numbers.new) }
+{
+    if !counts {
+        return Ok(());
+    }
+    numbers.add(command)?;
+    Ok(())
+}
+
+// What happened is counted and written.
+fn note<L: Write, T: Write, P: Write>(
+    happening: &Happening,
+    watch: &Watch,
+    bounds: &mut Option<Bounds>,
+    numbers: &mut Numbers,
+    streams: &mut Streams<L, T, P>,
+) -> Result<(), SimulateFault>
+    ensures { OnOk result (Takes happening.now numbers.old numbers.new) }
+{
+    match happening {
+        Happening::Picked(picked) => {
+            streams.pick(picked, watch.seen())?;
+            if let Some(bounds) = bounds {
+                bounds.pick(picked.at, &picked.pick)?;
+            }
+            Ok(())
+        }
+        Happening::Finished { command, counts } => {
+            streams.finish(command)?;
+            if let Some(bounds) = bounds {
+                bounds.finish(command, *counts);
+            }
+            count(numbers, command, *counts)
+        }
+        Happening::Came { .. }
+        | Happening::Settled
+        | Happening::Paused { .. }
+        | Happening::Resumed { .. }
+        | Happening::Over => Ok(()),
+    }
 }
 
 // What happens next is counted and written.
@@ -71,34 +107,35 @@ fn step<L: Write, T: Write, P: Write>(
     bounds: &mut Option<Bounds>,
     numbers: &mut Numbers,
     streams: &mut Streams<L, T, P>,
-) -> Result<Stepped, SimulateFault>
+) -> Result<Happening, SimulateFault>
     requires stands { IsSimulation simulation.old }
     ensures stands { IsSimulation simulation.new }
+    ensures steps { IfOk result (HasStepped simulation.old simulation.new) }
+    ensures takes { IfOk result (λ h. Takes h numbers.old numbers.new) }
 {
     if streams.trace.is_some() && simulation.picks() {
         watch.look(simulation)?;
     }
-    match simulation.step()? {
-        Happening::Picked(picked) => {
-            streams.pick(&picked, watch.seen())?;
-            if let Some(bounds) = bounds {
-                bounds.pick(picked.at, &picked.pick)?;
-            }
-            Ok(Stepped::On)
-        }
-        Happening::Finished { command, counts } => {
-            streams.finish(&command)?;
-            if let Some(bounds) = bounds {
-                bounds.finish(&command, counts);
-            }
-            if counts {
-                numbers.add(&command)?;
-            }
-            Ok(Stepped::Finished(command.times.done))
-        }
-        Happening::Over => Ok(Stepped::Over),
-        _ => Ok(Stepped::On),
+    let happening = simulation.step()?;
+    note(&happening, watch, bounds, numbers, streams)?;
+    Ok(happening)
+}
+
+// When the last command was finished: that which just was, or one before it.
+fn done_behind(happening: &Happening, before: u64) -> u64
+    ensures { result ≡ done_behind happening.now before }
+{
+    match happening {
+        Happening::Finished { command, .. } => command.times.done,
+        _ => before,
     }
+}
+
+// Whether nothing happens any more.
+fn is_over(happening: &Happening) -> bool
+    ensures { result ≡ is_over happening.now }
+{
+    matches!(happening, Happening::Over)
 }
 
 // Runs a simulation until nothing happens any more. The answer is the time when the last command was finished, or 0: where
@@ -111,16 +148,34 @@ fn run<L: Write, T: Write, P: Write>(
     streams: &mut Streams<L, T, P>,
 ) -> Result<u64, SimulateFault>
     requires stands { IsSimulation simulation.old }
+    ensures { IfOk result (HasRun simulation.old simulation.new numbers.old numbers.new) }
 {
     let mut end = 0;
     for _ in 0..u64::MAX {
-        match step(simulation, watch, bounds, numbers, streams)? {
-            Stepped::Finished(time) => end = time,
-            Stepped::On => {}
-            Stepped::Over => break,
+        let happening = step(simulation, watch, bounds, numbers, streams)?;
+        if is_over(&happening) {
+            return Ok(end);
         }
+        end = done_behind(&happening, end);
     }
-    Ok(end)
+    // (no run has so many steps)
+    Err(SimulateFault::Simulation(SimulationFault::TooLong))
+}
+
+// Does the same. Then the line that tells how far it is is gone, whatever it came to.
+fn run_told<L: Write, T: Write, P: Write>(
+    simulation: &mut Simulation,
+    watch: &mut Watch,
+    bounds: &mut Option<Bounds>,
+    numbers: &mut Numbers,
+    streams: &mut Streams<L, T, P>,
+) -> Result<u64, SimulateFault>
+    requires stands { IsSimulation simulation.old }
+    ensures { IfOk result (HasRun simulation.old simulation.new numbers.old numbers.new) }
+{
+    let ran = run(simulation, watch, bounds, numbers, streams);
+    streams.progress.clear();
+    ran
 }
 
 // A model that ran to its end.
@@ -139,7 +194,9 @@ fn played_to_end<L: Write, T: Write, P: Write>(
     model: Model,
     bounds: &mut Option<Bounds>,
     streams: &mut Streams<L, T, P>,
-) -> Result<Played, SimulateFault> {
+) -> Result<Played, SimulateFault>
+    ensures { IfOk result (λ p. IsPlayed model p.simulation p.numbers p.end) }
+{
     if is_too_long(&model) {
         return Err(SimulateFault::Simulation(SimulationFault::TooLong));
     }
@@ -147,9 +204,7 @@ fn played_to_end<L: Write, T: Write, P: Write>(
     let mut watch = Watch::new(alloc, &model);
     streams.begin(&model)?;
     let mut simulation = Simulation::new(alloc, model)?;
-    let ran = run(&mut simulation, &mut watch, bounds, &mut numbers, streams);
-    streams.progress.clear();
-    let end = ran?;
+    let end = run_told(&mut simulation, &mut watch, bounds, &mut numbers, streams)?;
     streams.end()?;
     Ok(Played {
         simulation,
@@ -248,24 +303,28 @@ pub fn measure<P: Write + Drop>(
     alloc: Global,
     model: Model,
     progress: Progress<P>,
-) -> Result<Measured, SimulateFault> {
+) -> Result<Measured, SimulateFault>
+    ensures { IfOk result (IsMeasured model) }
+{
     let mut streams = Streams {
         log: None::<Vec<u8>>,
         trace: None::<Vec<u8>>,
         progress,
     };
-    let Played { numbers, end, .. } = played_to_end(alloc, model, &mut None, &mut streams)?;
+    let played = played_to_end(alloc, model, &mut None, &mut streams)?;
+    let Played { numbers, end, .. } = played;
     let about = About {
         version: VERSION,
         digest: "",
         options: "",
     };
+    let answer = numbers.answer(end, &[], about)?;
     let Answer {
         queues,
         classes,
         all,
         ..
-    } = numbers.answer(end, &[], about)?;
+    } = answer;
     Ok(Measured {
         queues,
         classes,
