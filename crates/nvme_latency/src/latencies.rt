@@ -59,7 +59,9 @@ impl Latencies {
         ensures { IsPermutation (times_of self) (ranked_times result) }
     {
         let mut times = self.times;
-        times.sort_unstable();
+        if times.sort().is_err() {
+            times.sort_unstable();
+        }
         Ranked::of_sorted(times)
     }
 }
