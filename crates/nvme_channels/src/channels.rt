@@ -1,5 +1,5 @@
 // The channels of a device, and the commands that it has.
-ghost use Rattle.std.specs.Prelude.{◌≡◌, ◌≤◌, ◌<◌, [], ◌∷◌, ◌++◌, All, IfErr, IfOk, IfSome, OnOk, length, position, vec_capacity, vec_len};
+ghost use Rattle.std.specs.Prelude.{◌≡◌, ◌≤◌, ◌<◌, [], ◌∷◌, ◌++◌, All, IfErr, IfOk, IfSome, OnOk, count_by, length, position, slice_set, vec_capacity, vec_len};
 ghost use Rattle.nvme_channels.specs.Channel.{begun, is_idle};
 ghost use Rattle.nvme_channels.specs.declared.channels.TheConstants.{MAX_CHANNELS};
 
@@ -63,8 +63,11 @@ pub struct Channels {
     depth: u16,
     channels: Vec<Channel>,
     waiting: Vec<Waiting>,
+    // How many channels run a command.
+    running: usize,
     ghost some: { 0 < vec_len channels },
     ghost worked: { All (λ c. c.busy ≤ c.ends) channels.items },
+    ghost counted: { running ≡ count_by (λ c. c.running) channels.items },
     ghost reserved: { depth ≤ vec_capacity waiting },
 }
 
@@ -108,6 +111,7 @@ impl Channels {
                 depth,
                 channels,
                 waiting,
+                running: 0,
             }),
             Err(_) => Err(ChannelsFault::Memory),
         }
@@ -131,8 +135,7 @@ impl Channels {
     pub fn room(&self) -> u16
         ensures { result ≡ room_of (device_of self.now) }
     {
-        let running = self.channels.iter().filter(|c| c.running).count();
-        let free = usize::from(self.depth).saturating_sub(running);
+        let free = usize::from(self.depth).saturating_sub(self.running);
         free.saturating_sub(self.waiting.len()) as u16
     }
 
@@ -169,6 +172,17 @@ impl Channels {
         }
     }
 
+    // A channel becomes this.
+    fn put(&mut self, channel: usize, becomes: Channel)
+        requires within { channel < length (device_of self.old).channels }
+        requires worked { becomes.busy ≤ becomes.ends }
+        ensures { device_of self.new ≡ with_content (device_of self.old) (slice_set (device_of self.old).channels channel becomes) (device_of self.old).waiting }
+    {
+        let others = self.running - self.channels[channel].running as usize;
+        self.running = others + becomes.running as usize;
+        self.channels[channel] = becomes;
+    }
+
     // A channel becomes this, and where it is idle then, the first waiting command that may run on it starts.
     fn refill(
         &mut self,
@@ -181,13 +195,13 @@ impl Channels {
         ensures { (result, device_of self.new) ≡ refill_of now channel becomes (device_of self.old) }
     {
         let Some(place) = self.next_for(channel, &becomes) else {
-            self.channels[channel] = becomes;
+            self.put(channel, becomes);
             return Ok(None);
         };
         let first = self.waiting[place];
         let begun = becomes.begun(now, first.service)?;
         self.waiting.remove(place);
-        self.channels[channel] = begun;
+        self.put(channel, begun);
         Ok(Some(Start {
             number: first.number,
             channel,
@@ -208,7 +222,7 @@ impl Channels {
             (begun now service (channel_at (device_of self.old) channel)) }
     {
         let begun = self.channels[channel].begun(now, service)?;
-        self.channels[channel] = begun;
+        self.put(channel, begun);
         Ok(Some(Start {
             number,
             channel,
@@ -277,7 +291,8 @@ impl Channels {
         if channel >= self.channels.len() {
             return Err(StepFault::NoChannel);
         }
-        self.channels[channel] = self.channels[channel].paused();
+        let paused = self.channels[channel].paused();
+        self.put(channel, paused);
         Ok(())
     }
 
