@@ -1,6 +1,6 @@
 // Draws from a stream, with neither a float nor a logarithm. Each loop is bounded, so each draw ends for any stream.
-ghost use Rattle.std.specs.Prelude.{◌≡◌, ◌≤◌, ◌<◌, ◌*◌, ◌^◌};
-ghost use Rattle.nvme_clock.specs.Draws.{exponential, one_of_two, part_of, run_behind, uniform};
+ghost use Rattle.std.specs.Prelude.{◌≡◌, ◌≤◌, ◌<◌, ◌*◌, ◌^◌, nat_lt};
+ghost use Rattle.nvme_clock.specs.Draws.{accepted_below, exponential, one_of_two, part_of, run_behind, uniform};
 
 use rand_core::Rng;
 
@@ -18,6 +18,14 @@ pub(crate) fn part(word: u64, whole: u64) -> u64
     ((u128::from(word) * u128::from(whole)) / 0x1_0000_0000_0000_0000) as u64
 }
 
+// Whether a word is below the greatest multiple of a bound up to 2^64 - 1. That of most words is told without the remainder.
+fn is_accepted(word: u64, bound: u64) -> bool
+    requires some { 0 < bound }
+    ensures { result ≡ nat_lt word (accepted_below bound) }
+{
+    word <= u64::MAX - bound || word < u64::MAX - u64::MAX % bound
+}
+
 /// A number below `bound`, each equally likely: the remainder of the first word that is below the greatest multiple of
 /// `bound` up to 2^64 - 1. Where 64 words were not, which has a probability of 2^-64 at most, it is the next one's.
 pub fn uniform<R: Rng>(rng: &mut R, bound: u64) -> u64
@@ -25,10 +33,9 @@ pub fn uniform<R: Rng>(rng: &mut R, bound: u64) -> u64
     ensures value { (result, R.stream rng.new) ≡ uniform bound (R.stream rng.old) }
     ensures below { result < bound }
 {
-    let accepted_below = u64::MAX - u64::MAX % bound;
     for _turn in 0..TURNS {
         let word = rng.next_u64();
-        if word < accepted_below {
+        if is_accepted(word, bound) {
             return word % bound;
         }
     }
