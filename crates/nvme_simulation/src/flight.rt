@@ -122,13 +122,12 @@ impl Flights {
         ensures none { result ≡ None → self.new ≡ self.old }
     {
         let place = self.place(number)?;
-        let flight = self.kept[place];
-        if flight.stage != from {
+        if self.kept[place].stage != from {
             return None;
         }
-        let next = flight.next(now);
-        self.kept[place] = next;
-        Some(next)
+        let flight = &mut self.kept[place];
+        flight.go_on(now);
+        Some(*flight)
     }
 
     // The next command is submitted, if one waits for that.
@@ -210,35 +209,26 @@ impl Flight {
     ghost use Rattle.nvme_simulation.specs.Marks.{IsToldOf, gone_on};
     ghost use Rattle.nvme_simulation.specs.Ranks.{next_stage};
 
-    // The command at the next stage, to which it comes now.
-    fn next(&self, now: u64) -> Flight
-        ensures stage { result.stage ≡ next_stage self.now.stage }
-        ensures value { result ≡ gone_on now self.now }
+    // The command comes to its next stage now.
+    fn go_on(&mut self, now: u64)
+        ensures stage { self.new.stage ≡ next_stage self.old.stage }
+        ensures value { self.new ≡ gone_on now self.old }
     {
         match self.stage {
-            Stage::Came => Flight {
-                stage: Stage::Submitted,
-                submitted: now,
-                ..*self
-            },
-            Stage::Submitted => Flight {
-                stage: Stage::Fetched,
-                ..*self
-            },
-            Stage::Fetched => Flight {
-                stage: Stage::Picked,
-                picked: now,
-                ..*self
-            },
-            Stage::Picked => Flight {
-                stage: Stage::Started,
-                started: now,
-                ..*self
-            },
-            _ => Flight {
-                stage: Stage::Done,
-                ..*self
-            },
+            Stage::Came => {
+                self.stage = Stage::Submitted;
+                self.submitted = now;
+            }
+            Stage::Submitted => self.stage = Stage::Fetched,
+            Stage::Fetched => {
+                self.stage = Stage::Picked;
+                self.picked = now;
+            }
+            Stage::Picked => {
+                self.stage = Stage::Started;
+                self.started = now;
+            }
+            _ => self.stage = Stage::Done,
         }
     }
 
