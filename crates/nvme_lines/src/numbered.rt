@@ -7,6 +7,7 @@ use crate::lines::{Lines, NextError};
 use std::alloc::Global;
 use std::io::Read;
 use std::marker::Model;
+use std::mem;
 
 /// The lines of a text that aren't blank, in turn. Contracts see the bytes that are left, where they are known, the
 /// number of lines that were read, and the latest one.
@@ -101,6 +102,15 @@ impl<R: Read> NumberedLines<R> {
         ensures { result.now ≡ self.now.latest }
     {
         &self.line
+    }
+
+    /// Takes the latest line, without its newline.
+    pub fn take(&mut self, alloc: Global) -> Vec<u8>
+        ensures latest { result.items ≡ self.old.latest }
+        ensures rest { self.new.rest ≡ self.old.rest }
+        ensures number { self.new.number ≡ self.old.number }
+    {
+        mem::replace(&mut self.line, Vec::new(alloc))
     }
 
     /// Reads the next line that isn't blank. The answer is false at the end of the text. After an error nothing more is

@@ -3,7 +3,7 @@ use Rattle.std.proofs.Common.{◌≡◌, ℕ, Bool, true, false, List, [], ◌�
 use Rattle.std.specs.Prelude.{IfSome}
 use mathlib.Core.List.{reverse-cons, reverse-reverse}
 use Rattle.nvme_arbiter.specs.History.{ArbitrationEvent, History}
-use Rattle.nvme_trace.specs.Lines.{lines_of, numbered, told_lines, TakesTold, HasNoTold}
+use Rattle.nvme_lines.specs.Lines.{lines_of, numbered, told_lines, TakesTold, HasNoTold}
 use Rattle.nvme_trace.specs.Format.{head_by, event_by}
 use Rattle.nvme_trace.specs.Faults.{IsHeadFault, IsEventFaultBy}
 use Rattle.nvme_trace.specs.Checks.{TellsBy}
@@ -33,7 +33,7 @@ reverse_more line lines rest = sym (append_assoc (reverse lines) (line ∷ []) r
 -- after the head
 pub shown_head : (text : List ℕ) (n : ℕ) (new : Option (List ℕ)) (head : Head) (P : History → Type 0) → TakesTold (λ line. head_by line ≡ Ok head) 0 (Some text) n new → P [] → ShownUpTo text new n head P
 shown_head text n None head P t p = t
-shown_head text n (Some rest) head P (line, split, is) p = record {
+shown_head text n (Some rest) head P (line, split, is, all) p = record {
   past = [];
   before = record { lines = (n, line) ∷ []; split = split; tells = ((n, line), refl, is) };
   holds = p;
@@ -45,7 +45,7 @@ pub shown_more : (text : List ℕ) (m : ℕ) (old : Option (List ℕ)) (n : ℕ)
     → ShownUpTo text new n head Q
 shown_more text m None n new head P Q e j t f = absurd j
 shown_more text m (Some xs) n None head P Q e j t f = absurd t
-shown_more text m (Some xs) n (Some ys) head P Q e j (line, split, is) f = record {
+shown_more text m (Some xs) n (Some ys) head P Q e j (line, split, is, all) f = record {
   past = e ∷ j.past;
   before = record {
     lines = (n, line) ∷ j.before.lines;

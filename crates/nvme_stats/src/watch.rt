@@ -2,7 +2,7 @@
 ghost use Rattle.std.specs.Prelude.{◌≡◌, ◌+◌, List, ℕ, Some, Ok, [], ◌∷◌, IfErr, IfOk, OnOk};
 ghost use Rattle.nvme_arbiter.specs.History.{History};
 ghost use Rattle.nvme_trace.specs.Format.{event_view, head_by};
-ghost use Rattle.nvme_trace.specs.Lines.{TakesTold};
+ghost use Rattle.nvme_lines.specs.Lines.{TakesTold};
 ghost use Rattle.nvme_trace.specs.declared.basis.Basis.TheVariants.{Specification};
 ghost use Rattle.nvme_trace.specs.declared.records.Head.{Head};
 ghost use Rattle.nvme_trace.specs.declared.fault.TraceError.TheVariants as fault;

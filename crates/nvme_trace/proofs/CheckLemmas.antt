@@ -9,7 +9,7 @@ use Rattle.nvme_judge.specs.Standing.{IsQuiet}
 use Rattle.nvme_judge.specs.Starts.{CanBegin, IsPrior}
 use Rattle.nvme_judge.proofs.StartLemmas.{priors}
 use Rattle.nvme_trace.specs.Readings.{seen_by}
-use Rattle.nvme_trace.specs.Lines.{lines_of, numbered, told_lines, TakesTold, HasNoTold}
+use Rattle.nvme_lines.specs.Lines.{lines_of, numbered, told_lines, TakesTold, HasNoTold}
 use Rattle.nvme_trace.specs.Format.{start_of_line, head_of_kept, event_by, room_of_line}
 use Rattle.nvme_trace.specs.Judged.{IsObserved, picks_of}
 use Rattle.nvme_trace.specs.Bases.{IsRunBy, IsAllowedBy, IsReasonBy, StandsBy, picks_by}
@@ -54,7 +54,7 @@ same_text n a b xs ys e = ap (first_text a) e
 pub judged_head : (basis : Basis) (text : List ℕ) (n : ℕ) (new : Option (List ℕ)) (start : Kept) (judge : BasisJudge) → CanBegin start → TakesTold (λ line. start_of_line line ≡ Ok start) 0 (Some text) n new
     → ((prior : History) → IsPrior start prior → IsQuiet prior → StandsBy basis (head_of_kept start) prior [] judge) → picks_by judge ≡ 0 → JudgedUpTo basis text new n (head_of_kept start) judge
 judged_head basis text n None start judge can t s p = t
-judged_head basis text n (Some rest) start judge can (line, split, is) s p =
+judged_head basis text n (Some rest) start judge can (line, split, is, all) s p =
     let (prior, before, quiet) = priors start can in
     record {
       past = [];
@@ -79,7 +79,7 @@ pub judged_more : (basis : Basis) (text : List ℕ) (m : ℕ) (old : Option (Lis
     → picks_by next ≡ picks_by judge + picks_of e → JudgedUpTo basis text new n head next
 judged_more basis text m None n new quoted head judge next e j t q o l s p = absurd j
 judged_more basis text m (Some xs) n None quoted head judge next e j t q o l s p = absurd t
-judged_more basis text m (Some xs) n (Some ys) quoted head judge next e j (line, split, is) (one, split', same) o l s p = record {
+judged_more basis text m (Some xs) n (Some ys) quoted head judge next e j (line, split, is, all) (one, split', same, also) o l s p = record {
   past = e ∷ j.past;
   prior = j.prior;
   before = record {
@@ -118,7 +118,7 @@ pub judged_reason : (basis : Basis) (text : List ℕ) (m : ℕ) (old : Option (L
     → line ≡ n → IsRefusedBy basis text line quoted reason
 judged_reason basis text m None n new line quoted head judge e reason j t q f is = absurd j
 judged_reason basis text m (Some xs) n None line quoted head judge e reason j t q f is = absurd t
-judged_reason basis text m (Some xs) n (Some ys) line quoted head judge e reason j (at, split, says) (one, split', same) f is = record {
+judged_reason basis text m (Some xs) n (Some ys) line quoted head judge e reason j (at, split, says, all) (one, split', same, also) f is = record {
   head = head;
   past = j.past;
   prior = j.prior;

@@ -12,7 +12,7 @@ use Rattle.nvme_trace.proofs.PriorLemmas.{taken_alike, keeps_alike, taken_after_
 use Rattle.nvme_trace.specs.declared.fault.LineFault.{LineFault}
 use Rattle.nvme_trace.specs.Taken.{IsTakenAfter}
 use Rattle.nvme_arbiter.specs.Specified.{IsSpecifiedRun}
-use Rattle.nvme_trace.specs.Lines.{told_lines}
+use Rattle.nvme_lines.specs.Lines.{told_lines}
 use Rattle.nvme_trace.specs.Format.{head_of_kept, head_by, event_by, room_of_line, rooms_of}
 use Rattle.nvme_trace.specs.Judged.{IsFinding}
 use Rattle.nvme_trace.specs.Bases.{IsRunBy, IsBreach, IsReasonBy}

@@ -21,7 +21,7 @@ use Rattle.nvme_trace.proofs.TakenLemmas.{lawful_taken, taken_after_none, taken_
 use Rattle.nvme_trace.specs.Fields.{text_of}
 use Rattle.nvme_trace.specs.Readings.{◌>>=◌, ◌>>◌, seen_by, only, whole, number_at, flag_at}
 use Rattle.nvme_trace.specs.Format.{data_of, object_in, basics_in, head_in, last_from, last_told, used_from, used_told, if_last_fits, if_used_fits, start_in, head_of_kept, head_of_line, start_of_line, set_in, but_zero, room_at, room_in, room_read, room_by, rooms_of, fresh_in, pick_in, event_in, event_by}
-use Rattle.nvme_trace.specs.Lines.{told_lines}
+use Rattle.nvme_lines.specs.Lines.{told_lines}
 use Rattle.nvme_trace.specs.Taken.{TellSomeRoom}
 use Rattle.nvme_trace.specs.Checks.{Tells, TellsBy, start_of_told, NothingIsBefore, LawfulTextsPass, LawfulTextsAreAllowed, TextsAreReadAsWritten, TextsAreReadAlike}
 use Rattle.nvme_trace.specs.declared.basis.Basis.TheVariants.{Profile, Specification}

@@ -1,4 +1,3 @@
-pub mod LineLemmas
 pub mod ReadingLemmas
 pub mod TraceLemmas
 pub mod CheckLemmas

@@ -14,7 +14,7 @@ use Rattle.nvme_arbiter.specs.declared.kept.Kept.{Kept}
 use Rattle.nvme_judge.specs.Starts.{CanBegin, IsPrior}
 use Rattle.nvme_judge.proofs.StartLemmas.{priors}
 use Rattle.nvme_trace.specs.Readings.{seen_by}
-use Rattle.nvme_trace.specs.Lines.{lines_of, numbered, told_lines, TakesTold, HasNoTold}
+use Rattle.nvme_lines.specs.Lines.{lines_of, numbered, told_lines, TakesTold, HasNoTold}
 use Rattle.nvme_trace.specs.Format.{start_of_line, head_of_kept, event_by, room_of_line, rooms_of}
 use Rattle.nvme_trace.specs.Checks.{TellsBy, BeginsAfter, start_of_told}
 use Rattle.nvme_trace.specs.Faults.{IsEventFaultBy}
@@ -135,7 +135,7 @@ reverse_more line lines rest = sym (append_assoc (reverse lines) (line ∷ []) r
 pub surveyed_head : (text : List ℕ) (n : ℕ) (new : Option (List ℕ)) (start : Kept) (s : Surveyor) → CanBegin start → TakesTold (λ line. start_of_line line ≡ Ok start) 0 (Some text) n new
     → ((prior : History) (lines : List (ℕ × List ℕ)) → IsPrior start prior → SurveysAt (head_of_kept start) prior [] lines s) → SurveyedUpTo text new n (head_of_kept start) s
 surveyed_head text n None start s can t at = t
-surveyed_head text n (Some rest) start s can (line, split, is) at =
+surveyed_head text n (Some rest) start s can (line, split, is, all) at =
     let (prior, before, quiet) = priors start can in
     record {
       past = [];
@@ -152,7 +152,7 @@ pub surveyed_more : (text : List ℕ) (m : ℕ) (old : Option (List ℕ)) (n : �
     → SurveyedUpTo text new n head next
 surveyed_more text m None n new quoted head s next e j t q f = absurd j
 surveyed_more text m (Some xs) n None quoted head s next e j t q f = absurd t
-surveyed_more text m (Some xs) n (Some ys) quoted head s next e j (line, split, is) (one, split', same) f =
+surveyed_more text m (Some xs) n (Some ys) quoted head s next e j (line, split, is, all) (one, split', same, also) f =
     let there : line ≡ quoted = same_text n line one _ _ (sym split ∙ split') ∙ same in
     record {
       past = e ∷ j.past;

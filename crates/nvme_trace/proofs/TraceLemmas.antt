@@ -1,12 +1,11 @@
 -- The line that comes next, and its fault.
-use Rattle.std.proofs.Common.{◌≡◌, ◌≢◌, ℕ, ◌+◌, ◌<◌, ◌≤◌, ◌&&◌, ltb, leb, Bool, true, false, List, ◌∷◌, length, Option, Some, None, Result, Ok, Err, inl, inr, refl, sym, ap, subst, ◌∙◌}
-use Rattle.std.specs.Prelude.{if◌then◌else◌}
-use Rattle.std.specs.List.{list_all}
-use Rattle.std.proofs.lemmas.Bool.{lt-ltb, le-leb, lt-leb}
-use Rattle.nvme_trace.specs.Lines.{lines_of, is_space, is_blank, numbered, StartsWithLine, TakesTold, StartsTold, HasNoTold, PassesBlank}
+use Rattle.std.proofs.Common.{◌≡◌, ◌≢◌, ℕ, ◌<◌, ltb, true, List, length, Option, Some, None, Result, Ok, Err, inl, inr, refl, sym, ap, subst, ◌∙◌}
+use Rattle.std.proofs.lemmas.Bool.{lt-ltb}
+use Rattle.nvme_lines.specs.Lines.{lines_of, numbered, TakesTold, StartsTold, HasNoTold, MeetsTold, longest_line}
+use Rattle.nvme_lines.specs.declared.lines.NextError.TheVariants.{TooLong}
 use Rattle.nvme_arbiter.specs.declared.kept.Kept.{Kept}
 use Rattle.nvme_trace.specs.Readings.{Fails, seen_by}
-use Rattle.nvme_trace.specs.Format.{longest_line, data_of, start_of_line, head_of_kept, head_by, event_by}
+use Rattle.nvme_trace.specs.Format.{data_of, start_of_line, head_of_kept, head_by, event_by}
 use Rattle.nvme_trace.specs.declared.basis.Basis.{Basis}
 use Rattle.nvme_trace.specs.Faults.{IsLineFault, HasHeadFault, IsHeadFault, IsEventFaultBy}
 use Rattle.nvme_trace.specs.declared.fault.LineFault.{LineFault}
@@ -15,49 +14,15 @@ use Rattle.nvme_trace.specs.declared.fault.TraceError.{TraceError}
 use Rattle.nvme_trace.specs.declared.records.Head.{Head}
 use Rattle.nvme_trace.specs.declared.fault.TraceError.TheVariants as error
 
--- ---- blank lines
-and_true : (b : Bool) → (b && true) ≡ b
-and_true true = refl
-and_true false = refl
-
-and_false : (b : Bool) → (b && false) ≡ false
-and_false true = refl
-and_false false = refl
-
--- a line that is short enough is blank where it is white space
-pub short_blank : (line : List ℕ) → length line ≤ longest_line → list_all is_space line ≡ is_blank line
-short_blank line h =
-    let short : leb (length line) longest_line ≡ true = le-leb _ _ h in
-    sym (ap (λ (b : Bool). list_all is_space line && b) short ∙ and_true (list_all is_space line))
-
--- a line that is too long isn't blank
-long_blank : (line : List ℕ) → longest_line < length line → is_blank line ≡ false
-long_blank line h =
-    let long : leb (length line) longest_line ≡ false = lt-leb _ _ h in
-    ap (λ (b : Bool). list_all is_space line && b) long ∙ and_false (list_all is_space line)
-
-told_first : (m : ℕ) (line : List ℕ) (lines : List (List ℕ)) → is_blank line ≡ false → numbered m (line ∷ lines) ≡ (m + 1, line) ∷ numbered (m + 1) lines
-told_first m line lines told = ap (λ (b : Bool). if b then numbered (m + 1) lines else (m + 1, line) ∷ numbered (m + 1) lines) told
-
-blank_first : (m : ℕ) (line : List ℕ) (lines : List (List ℕ)) → is_blank line ≡ true → numbered m (line ∷ lines) ≡ numbered (m + 1) lines
-blank_first m line lines blank = ap (λ (b : Bool). if b then numbered (m + 1) lines else (m + 1, line) ∷ numbered (m + 1) lines) blank
-
-pub passes_more : (m n k : ℕ) (a b c : Option (List ℕ)) → PassesBlank m a n b → PassesBlank n b k c → PassesBlank m a k c
-passes_more m n k None b c p q = tt
-passes_more m n k (Some xs) None c p q = absurd p
-passes_more m n k (Some xs) (Some ys) None p q = absurd q
-passes_more m n k (Some xs) (Some ys) (Some zs) p q = p ∙ q
-
 starts_as : (P : List ℕ → Type 0) (line : List ℕ) (m n : ℕ) (a b : Option (List ℕ)) → TakesTold (λ l. l ≡ line) m a n b → P line → StartsTold P m a n
 starts_as P line m n None b t p = tt
 starts_as P line m n (Some xs) None t p = absurd t
-starts_as P line m n (Some xs) (Some ys) (l, split, is) p = (l, numbered n (lines_of ys), split, subst P (sym is) p)
+starts_as P line m n (Some xs) (Some ys) (l, split, is, all) p = (l, numbered n (lines_of ys), split, subst P (sym is) p)
 
--- a line that is too long comes next
-starts_long : (P : List ℕ → Type 0) (m : ℕ) (a : Option (List ℕ)) → ((l : List ℕ) → longest_line < length l → P l) → StartsWithLine (λ l. longest_line < length l) a → StartsTold P m a (m + 1)
-starts_long P m None f s = tt
-starts_long P m (Some xs) f (l, rest, split, long) =
-    (l, numbered (m + 1) rest, ap (numbered m) split ∙ told_first m l rest (long_blank l long), f l long)
+-- a line of one kind comes next, so one of another that is it
+starts_so : (P Q : List ℕ → Type 0) (m n : ℕ) (a : Option (List ℕ)) → ((l : List ℕ) → P l → Q l) → StartsTold P m a n → StartsTold Q m a n
+starts_so P Q m n None f s = tt
+starts_so P Q m n (Some xs) f (l, rest, split, is) = (l, rest, split, f l is)
 
 -- a fault that isn't `NoMemory` is the line's
 failed : {Y : Type 0} (fault : LineFault) (reading : Result Y LineFault) → Fails fault reading → fault ≢ faults.NoMemory → reading ≡ Err fault
@@ -106,13 +71,13 @@ long_event : (basis : Basis) (line : List ℕ) → longest_line < length line �
 unfolding event_by data_of
 long_event basis line h = let e : ltb longest_line (length line) ≡ true = lt-ltb _ _ h in rw e
 
-pub head_too_long : (e : TraceError) (number : ℕ) (a : Option (List ℕ)) → IsLineFault e (number + 1) faults.TooLong → StartsWithLine (λ line. longest_line < length line) a → IsHeadFault e number a
-head_too_long e number a told s =
-    told_head e number (number + 1) faults.TooLong a told (λ n. head_starts faults.TooLong number (number + 1) a (starts_long (λ l. start_of_line l ≡ Err faults.TooLong) number a long_head s))
+pub head_too_long : (e : TraceError) (m number : ℕ) (a : Option (List ℕ)) → IsLineFault e number faults.TooLong → MeetsTold TooLong m a number → IsHeadFault e m a
+head_too_long e m number a told s =
+    told_head e m number faults.TooLong a told (λ n. head_starts faults.TooLong m number a (starts_so (λ l. longest_line < length l) (λ l. start_of_line l ≡ Err faults.TooLong) m number a long_head s))
 
-pub event_too_long : (basis : Basis) (e : TraceError) (number : ℕ) (a : Option (List ℕ)) → IsLineFault e (number + 1) faults.TooLong → StartsWithLine (λ line. longest_line < length line) a → IsEventFaultBy basis e number a
-event_too_long basis e number a told s =
-    told_event basis e number (number + 1) faults.TooLong a told (λ n. starts_long (λ l. event_by basis l ≡ Err faults.TooLong) number a (long_event basis) s)
+pub event_too_long : (basis : Basis) (e : TraceError) (m number : ℕ) (a : Option (List ℕ)) → IsLineFault e number faults.TooLong → MeetsTold TooLong m a number → IsEventFaultBy basis e m a
+event_too_long basis e m number a told s =
+    told_event basis e m number faults.TooLong a told (λ n. starts_so (λ l. longest_line < length l) (λ l. event_by basis l ≡ Err faults.TooLong) m number a (long_event basis) s)
 
 -- a text of blank lines
 no_line : (m : ℕ) (a : Option (List ℕ)) → HasNoTold m a → HasHeadFault faults.NoHead m a 1
@@ -126,4 +91,4 @@ no_head e m a told n = told_head e m 1 faults.NoHead a told (λ _. no_line m a n
 pub takes_head : (start : Kept) (head : Head) (m number : ℕ) (a b : Option (List ℕ)) → head ≡ head_of_kept start → TakesTold (λ line. start_of_line line ≡ Ok start) m a number b → TakesTold (λ line. head_by line ≡ Ok head) m a number b
 takes_head start head m number None b h t = tt
 takes_head start head m number (Some xs) None h t = absurd t
-takes_head start head m number (Some xs) (Some ys) h (line, split, is) = (line, split, ap (seen_by head_of_kept) is ∙ ap (λ (x : Head). Ok x) (sym h))
+takes_head start head m number (Some xs) (Some ys) h (line, split, is, all) = (line, split, ap (seen_by head_of_kept) is ∙ ap (λ (x : Head). Ok x) (sym h), all)

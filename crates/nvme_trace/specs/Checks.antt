@@ -2,7 +2,7 @@
 use Rattle.std.specs.Prelude.{◌≡◌, ◌⊎◌, ℕ, List, [], ◌∷◌, ◌++◌, reverse, Option, Some, None, Result, Ok, Err}
 use Rattle.nvme_arbiter.specs.History.{ArbitrationEvent, History}
 use Rattle.nvme_arbiter.specs.Lawful.{IsLawfulRun}
-use Rattle.nvme_trace.specs.Lines.{lines_of, numbered, told_lines}
+use Rattle.nvme_lines.specs.Lines.{lines_of, numbered, told_lines}
 use Rattle.nvme_trace.specs.Format.{head_of_line, head_of_kept, head_by, start_of_line, event_by, room_of_line, rooms_of}
 use Rattle.nvme_trace.specs.Faults.{IsHeadFault, IsEventFaultBy}
 use Rattle.nvme_trace.specs.Judged.{picks_in}

@@ -1,6 +1,6 @@
 -- The faults of a text, each of the line that comes next. (profile)
 use Rattle.std.specs.Prelude.{◌≡◌, ◌≢◌, ◌⊎◌, ℕ, List, [], Option, Some, None, Err}
-use Rattle.nvme_trace.specs.Lines.{lines_of, numbered, StartsTold}
+use Rattle.nvme_lines.specs.Lines.{lines_of, numbered, StartsTold}
 use Rattle.nvme_trace.specs.Format.{start_of_line, event_by}
 use Rattle.nvme_trace.specs.declared.basis.Basis.{Basis}
 use Rattle.nvme_trace.specs.declared.fault.LineFault.{LineFault}

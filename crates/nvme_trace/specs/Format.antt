@@ -29,12 +29,9 @@ use Rattle.nvme_trace.specs.declared.basis.Basis.TheVariants.{Profile, Specifica
 use Rattle.nvme_trace.specs.declared.records.Head.{Head}
 use Rattle.nvme_trace.specs.declared.records.TraceEvent.{TraceEvent}
 use Rattle.nvme_trace.specs.declared.records.TraceEvent.TheVariants.{Pick, Set}
+use Rattle.nvme_lines.specs.Lines.{longest_line}
 use Rattle.nvme_trace.specs.Fields.{text_of}
 use Rattle.nvme_trace.specs.Readings.{◌>>=◌, ◌>>◌, item_count, seen_by, only, field_count, value_at, whole, number_at, flag_at}
-
--- the most bytes of a line, its newline aside
-abbrev pub longest_line : ℕ
-longest_line = 4096
 
 -- ---- the head
 

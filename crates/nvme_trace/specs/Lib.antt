@@ -2,7 +2,6 @@ pub mod Fields
 pub mod Names
 pub mod Readings
 pub mod Format
-pub mod Lines
 pub mod Taken
 pub mod Within
 pub mod Judged

@@ -1,7 +1,7 @@
 -- The events of a text that is a trace, and its first fault. That the picks are lawful is not asked. (profile)
 use Rattle.std.specs.Prelude.{◌≡◌, ◌⊎◌, ℕ, List, ◌++◌, reverse, Some}
 use Rattle.nvme_arbiter.specs.History.{History}
-use Rattle.nvme_trace.specs.Lines.{lines_of, numbered, told_lines}
+use Rattle.nvme_lines.specs.Lines.{lines_of, numbered, told_lines}
 use Rattle.nvme_trace.specs.Faults.{IsHeadFault, IsEventFaultBy}
 use Rattle.nvme_trace.specs.Checks.{TellsBy}
 use Rattle.nvme_trace.specs.declared.basis.Basis.{Basis}

@@ -12,7 +12,7 @@ use Rattle.nvme_arbiter.specs.declared.kept.Kept.{Kept}
 use Rattle.nvme_arbiter.specs.declared.pick.Seen.{Seen}
 use Rattle.nvme_arbiter.specs.declared.pick.Pick.{Pick}
 use Rattle.nvme_trace.specs.Taken.{as_written, pick_within, IsTakenPick}
-use Rattle.nvme_trace.specs.Lines.{told_lines}
+use Rattle.nvme_lines.specs.Lines.{told_lines}
 use Rattle.nvme_trace.specs.Format.{room_of_line}
 use Rattle.nvme_trace.specs.Judged.{count_in, picks_in}
 use Rattle.nvme_trace.specs.Checks.{TellsBy, BeginsAfter, IsLawfulBy}

@@ -8,7 +8,6 @@ mod follower;
 mod judge;
 mod judges;
 mod laws;
-mod lines;
 mod names;
 mod notes;
 mod raw;

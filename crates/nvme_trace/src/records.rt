@@ -2,7 +2,8 @@
 ghost use Rattle.std.specs.Prelude.{◌≡◌, ◌≤◌, length, None, Ok, option_map, ok_or, IfOk, IfSome};
 ghost use Rattle.serde_json.specs.View.{view, members_view};
 ghost use Rattle.nvme_trace.specs.Readings.{Gives, seen_by, only, value_at, whole, number_at, flag_at, is_extra, member_count, field_count};
-ghost use Rattle.nvme_trace.specs.Format.{longest_line, mechanism_of, basics_in, class_named, number_of_part, class_of_part, part_count, triple_of, queue_of, queues_of, observation_of, set_in, fresh_in, but_zero, room_in, pick_fields, pick_in, event_in, room_told, room_of_line, data_of, object_in, start_of_line, event_by, event_view, room_view};
+ghost use Rattle.nvme_trace.specs.Format.{mechanism_of, basics_in, class_named, number_of_part, class_of_part, part_count, triple_of, queue_of, queues_of, observation_of, set_in, fresh_in, but_zero, room_in, pick_fields, pick_in, event_in, room_told, room_of_line, data_of, object_in, start_of_line, event_by, event_view, room_view};
+ghost use Rattle.nvme_lines.specs.Lines.{longest_line};
 ghost use Rattle.serde_json.specs.Read.{read};
 ghost use Rattle.nvme_arbiter.specs.Observation.{IsObservation};
 ghost use Rattle.nvme_trace.specs.Judged.{IsObserved};

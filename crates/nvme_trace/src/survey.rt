@@ -3,7 +3,7 @@ ghost use Rattle.std.specs.Prelude.{◌≡◌, ◌↔◌, IsTrue, ◌+◌, ◌-�
 ghost use Rattle.nvme_arbiter.specs.History.{History, Picked, Changed};
 ghost use Rattle.nvme_trace.specs.Taken.{IsTakenPick};
 ghost use Rattle.nvme_arbiter.specs.Observation.{IsObservation};
-ghost use Rattle.nvme_trace.specs.Lines.{TakesTold};
+ghost use Rattle.nvme_lines.specs.Lines.{TakesTold};
 ghost use Rattle.nvme_trace.specs.Format.{start_of_line, head_of_kept, event_view, room_view, room_of_line};
 ghost use Rattle.nvme_trace.specs.Judged.{IsObserved, picks_of};
 ghost use Rattle.nvme_judge.specs.Starts.{CanBegin, IsPrior};

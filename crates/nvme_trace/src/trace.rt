@@ -1,43 +1,36 @@
 // Reads a trace as a stream, line by line.
-ghost use Rattle.std.specs.Prelude.{◌≡◌, ◌≤◌, ◌<◌, ◌+◌, ◌-◌, ◌^◌, ℕ, List, Option, Ok, length, IfOk, IfErr, IfSome, OnOk, MatchOption};
-ghost use Rattle.std.specs.List.{list_all};
-ghost use Rattle.nvme_trace.specs.Lines.{unread, is_blank, is_space, MatchLine, MatchTold, MeetsError, TakesTold, HasNoTold};
-ghost use Rattle.nvme_trace.specs.Format.{longest_line, start_of_line, head_by, event_by, event_view, room_view, room_of_line};
+ghost use Rattle.std.specs.Prelude.{◌≡◌, ◌≤◌, ℕ, List, Option, Ok, length, IfOk, IfErr, IfSome, OnOk, MatchOption};
+ghost use Rattle.nvme_lines.specs.Lines.{longest_line, MatchTold, MeetsTold, TakesTold, HasNoTold};
+ghost use Rattle.nvme_trace.specs.Format.{start_of_line, head_by, event_by, event_view, room_view, room_of_line};
 ghost use Rattle.nvme_trace.specs.Judged.{IsObserved};
 ghost use Rattle.nvme_trace.specs.Faults.{IsLineFault, IsHeadFault, IsEventFaultBy};
 ghost use Rattle.nvme_trace.specs.Readings.{Fails};
 ghost use Rattle.nvme_judge.specs.Starts.{CanBegin};
 ghost use Rattle.nvme_trace.specs.declared.basis.Basis.{Basis};
-ghost use Rattle.nvme_trace.specs.declared.fault.TraceError.TheVariants as fault;
-ghost use Rattle.nvme_trace.specs.declared.lines.NextError.TheVariants as next;
 
 use crate::basis::Basis;
 use crate::fault::{LineFault, TraceError};
-use crate::lines::{Lines, NextError};
 use crate::notes::{event_note, head_note};
 use crate::records::{Head, TraceEvent, event_of_line, start_of_line};
 use nvme_arbiter::Kept;
+use nvme_lines::{NextError, NumberedLines};
 use std::alloc::Global;
 use std::io::Read;
 use std::marker::Model;
-use std::mem;
 
 /// A trace of which some lines were read. Contracts see the bytes that are left, where they are known, the number of
 /// lines that were read, and the latest one.
 #[derive(Drop)]
 pub struct Trace<R: Read> {
-    lines: Lines<R>,
-    // The latest line, and the number of lines that were read.
-    line: Vec<u8>,
-    number: u64,
+    lines: NumberedLines<R>,
 }
 
 impl<R: Read> Model for Trace<R> {
-    ghost use Rattle.nvme_trace.specs.Lines.{TraceView, unread};
+    ghost use Rattle.nvme_lines.specs.Lines.{ToldView};
 
-    ghost Value = { TraceView };
+    ghost Value = { ToldView };
 
-    ghost view = { λ t. record { rest = unread R.remaining t.lines; number = t.number; latest = t.line.items } };
+    ghost view = { λ t. t.lines };
 }
 
 // A fault of the line of this number, with a note.
@@ -54,86 +47,30 @@ fn fault_at(number: u64, fault: LineFault, note: String) -> TraceError
     }
 }
 
-// Why the line after the first `number` lines wasn't taken.
-fn stop_after(alloc: Global, number: u64, error: NextError) -> TraceError
-    requires { number < 2 ^ 64 - 1 }
-    ensures head { (rest : Option (List ℕ)) → MeetsError error rest → IsHeadFault result number rest }
-    ensures event { (basis : Basis) (rest : Option (List ℕ)) → MeetsError error rest → IsEventFaultBy basis result number rest }
-    ensures read { error ≡ next.Read → result ≡ fault.Read }
-    ensures no_memory { error ≡ next.NoMemory → result ≡ fault.NoMemory }
+// Why the line of this number wasn't taken.
+#[tactic(auto, using(crate::proofs::TraceLemmas::head_too_long, crate::proofs::TraceLemmas::event_too_long))]
+fn stop_at(alloc: Global, number: u64, error: NextError) -> TraceError
+    ensures head { (m : ℕ) (rest : Option (List ℕ)) → MeetsTold error m rest number → IsHeadFault result m rest }
+    ensures event { (basis : Basis) (m : ℕ) (rest : Option (List ℕ)) → MeetsTold error m rest number → IsEventFaultBy basis result m rest }
 {
     match error {
-        NextError::TooLong => fault_at(number + 1, LineFault::TooLong, String::new(alloc)),
+        NextError::TooLong => fault_at(number, LineFault::TooLong, String::new(alloc)),
         NextError::Read => TraceError::Read,
         NextError::NoMemory => TraceError::NoMemory,
     }
 }
 
-// Reads the line after the first `number` lines. The answer is false at the end of the text.
-fn line_after<R: Read>(
-    alloc: Global,
-    number: u64,
-    lines: &mut Lines<R>,
-    line: &mut Vec<u8>,
-) -> Result<bool, TraceError>
-    requires { number < 2 ^ 64 - 1 }
-    ensures ok { IfOk result (λ more. MatchLine more line.new.items (unread R.remaining lines.old) (unread R.remaining lines.new)) }
-    ensures short { OnOk result (length line.new.items ≤ longest_line) }
-    ensures head { IfErr result (λ e. IsHeadFault e number (unread R.remaining lines.old)) }
-    ensures event { (basis : Basis) → IfErr result (λ e. IsEventFaultBy basis e number (unread R.remaining lines.old)) }
+// Reads the next line that isn't blank. The answer is false at the end of the text.
+fn next_line<R: Read>(alloc: Global, lines: &mut NumberedLines<R>) -> Result<bool, TraceError>
+    ensures ok { IfOk result (λ more. MatchTold more lines.new.latest lines.old.number lines.old.rest lines.new.number lines.new.rest) }
+    ensures short { OnOk result (length lines.new.latest ≤ longest_line) }
+    ensures head { IfErr result (λ e. IsHeadFault e lines.old.number lines.old.rest) }
+    ensures event { (basis : Basis) → IfErr result (λ e. IsEventFaultBy basis e lines.old.number lines.old.rest) }
 {
-    match lines.next_line(line) {
+    match lines.next() {
         Ok(more) => Ok(more),
-        Err(error) => Err(stop_after(alloc, number, error)),
+        Err(error) => Err(stop_at(alloc, lines.number(), error)),
     }
-}
-
-// Whether a byte is white space within a line.
-fn is_space(byte: u8) -> bool
-    ensures { result ≡ is_space byte }
-{
-    byte == b' ' || byte == b'\t' || byte == b'\r'
-}
-
-// Whether a line has only white space.
-fn has_only_space(line: &[u8]) -> bool
-    ensures { result ≡ list_all is_space line.now }
-{
-    line.iter().all(|byte| is_space(*byte))
-}
-
-// Whether a line is blank.
-#[tactic(auto, using(crate::proofs::TraceLemmas::short_blank))]
-fn is_blank(line: &[u8]) -> bool
-    requires { length line.now ≤ longest_line }
-    ensures { result ≡ is_blank line.now }
-{
-    has_only_space(line)
-}
-
-// Reads the next line that isn't blank, after the first `number` lines, and counts the lines. The answer is false at the
-// end of the text.
-fn numbered_after<R: Read>(
-    alloc: Global,
-    number: &mut u64,
-    lines: &mut Lines<R>,
-    line: &mut Vec<u8>,
-) -> Result<bool, TraceError>
-    ensures ok { IfOk result (λ more. MatchTold more line.new.items number.old (unread R.remaining lines.old) number.new (unread R.remaining lines.new)) }
-    ensures short { OnOk result (length line.new.items ≤ longest_line) }
-    ensures head { IfErr result (λ e. IsHeadFault e number.old (unread R.remaining lines.old)) }
-    ensures event { (basis : Basis) → IfErr result (λ e. IsEventFaultBy basis e number.old (unread R.remaining lines.old)) }
-{
-    for _ in *number..u64::MAX {
-        if !line_after(alloc, *number, lines, line)? {
-            return Ok(false);
-        }
-        *number += 1;
-        if !is_blank(line) {
-            return Ok(true);
-        }
-    }
-    Err(TraceError::Read)
 }
 
 // The fault of a line that is no head, with its note.
@@ -176,9 +113,7 @@ impl<R: Read> Trace<R> {
         ensures number { result.number ≡ 0 }
     {
         Trace {
-            lines: Lines::new(reader),
-            line: Vec::new(alloc),
-            number: 0,
+            lines: NumberedLines::new(alloc, reader),
         }
     }
 
@@ -186,7 +121,7 @@ impl<R: Read> Trace<R> {
     pub fn number(&self) -> u64
         ensures { result ≡ self.now.number }
     {
-        self.number
+        self.lines.number()
     }
 
     /// Takes the latest line that isn't blank.
@@ -195,7 +130,7 @@ impl<R: Read> Trace<R> {
         ensures rest { self.new.rest ≡ self.old.rest }
         ensures number { self.new.number ≡ self.old.number }
     {
-        mem::replace(&mut self.line, Vec::new(alloc))
+        self.lines.take(alloc)
     }
 
     /// Reads the head, the first line that isn't blank: what the arbiter kept then.
@@ -205,12 +140,12 @@ impl<R: Read> Trace<R> {
         ensures fits { IfOk result CanBegin }
         ensures err { IfErr result (λ e. IsHeadFault e 0 self.old.rest) }
     {
-        if !numbered_after(alloc, &mut self.number, &mut self.lines, &mut self.line)? {
+        if !next_line(alloc, &mut self.lines)? {
             return Err(no_head(alloc));
         }
-        match start_of_line(alloc, &self.line) {
+        match start_of_line(alloc, self.lines.latest()) {
             Ok(start) => Ok(start),
-            Err(fault) => Err(head_fault(alloc, self.number, &self.line, fault)),
+            Err(fault) => Err(head_fault(alloc, self.lines.number(), self.lines.latest(), fault)),
         }
     }
 
@@ -239,12 +174,12 @@ impl<R: Read> Trace<R> {
         ensures observed { IfOk result (λ o. IfSome o (λ e. IsObserved (event_view e))) }
         ensures err { IfErr result (λ e. IsEventFaultBy basis e self.old.number self.old.rest) }
     {
-        if !numbered_after(alloc, &mut self.number, &mut self.lines, &mut self.line)? {
+        if !next_line(alloc, &mut self.lines)? {
             return Ok(None);
         }
-        match event_of_line(alloc, basis, &self.line) {
+        match event_of_line(alloc, basis, self.lines.latest()) {
             Ok(event) => Ok(Some(event)),
-            Err(fault) => Err(event_fault(alloc, self.number, &self.line, fault)),
+            Err(fault) => Err(event_fault(alloc, self.lines.number(), self.lines.latest(), fault)),
         }
     }
 }

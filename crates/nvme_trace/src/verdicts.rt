@@ -1,6 +1,6 @@
 // Checks a trace.
 ghost use Rattle.std.specs.Prelude.{◌≡◌, ℕ, List, Some, Ok, IfOk, IfErr, IfSome};
-ghost use Rattle.nvme_trace.specs.Lines.{TakesTold};
+ghost use Rattle.nvme_lines.specs.Lines.{TakesTold};
 ghost use Rattle.nvme_trace.specs.Format.{start_of_line};
 ghost use Rattle.nvme_judge.specs.Starts.{CanBegin};
 ghost use Rattle.nvme_trace.specs.Checks.{IsAnswer, IsFaultBy};

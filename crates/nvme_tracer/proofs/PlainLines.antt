@@ -7,7 +7,7 @@ use Rattle.std.proofs.lemmas.Str.Parse.{digit_at}
 use Rattle.std.specs.Prelude.{get_or}
 use Rattle.std.specs.Str.{is_utf8}
 use Rattle.json.proofs.Printed.Utf8.{are_ascii, IsUtf8-are_ascii}
-use Rattle.nvme_trace.specs.Lines.{lines_of, before_lines}
+use Rattle.nvme_lines.specs.Lines.{lines_of, before_lines}
 
 abbrev pub is_plain_byte : ℕ → Bool
 is_plain_byte x = nat_lt x 128 && not (x == 10)

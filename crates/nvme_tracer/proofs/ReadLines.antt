@@ -28,7 +28,8 @@ use Rattle.nvme_arbiter.specs.declared.pick.Pick.{Pick}
 use Rattle.nvme_trace.specs.declared.basis.Basis.TheVariants.{Profile}
 use Rattle.nvme_trace.specs.Names.{class_text, mechanism_text}
 use Rattle.nvme_trace.specs.Readings.{item_count, number_at, flag_at}
-use Rattle.nvme_trace.specs.Format.{longest_line, class_named, queue_of, triple_of, queues_from, queues_of, observation_of, head_in, set_in, pick_in, event_in, data_of, object_in, head_of_line, room_in, room_of_line, fresh_in, event_by, event_of_line}
+use Rattle.nvme_trace.specs.Format.{class_named, queue_of, triple_of, queues_from, queues_of, observation_of, head_in, set_in, pick_in, event_in, data_of, object_in, head_of_line, room_in, room_of_line, fresh_in, event_by, event_of_line}
+use Rattle.nvme_lines.specs.Lines.{longest_line}
 use Rattle.nvme_tracer.proofs.PlainLines.{plain_utf8}
 use Rattle.nvme_tracer.proofs.ShortLines.{IsShort, cdw11_small, short_head, short_set, short_pick}
 use Rattle.nvme_tracer.proofs.WrittenJson.{head_json, queues_json, pick_json, set_json, line_of, head_bytes, set_bytes, pick_bytes, head_line, set_line, pick_line}

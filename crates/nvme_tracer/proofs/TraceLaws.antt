@@ -6,7 +6,7 @@ use Rattle.nvme_log.specs.declared.event.Event.TheVariants as event
 use Rattle.nvme_log.specs.Histories.{arbitration_of}
 use Rattle.nvme_log.specs.Histories as log
 use Rattle.nvme_log.proofs.PickCounts.{picks_in-append}
-use Rattle.nvme_trace.specs.Lines.{told_lines}
+use Rattle.nvme_lines.specs.Lines.{told_lines}
 use Rattle.nvme_trace.specs.Judged.{picks_in}
 use Rattle.nvme_trace.specs.Checks.{Tells}
 use Rattle.nvme_trace.specs.Format.{rooms_of}

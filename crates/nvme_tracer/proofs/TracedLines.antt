@@ -20,7 +20,7 @@ use Rattle.nvme_log.specs.declared.event.Event.{Event}
 use Rattle.nvme_log.specs.declared.event.Event.TheVariants as event
 use Rattle.nvme_log.specs.Rules.{Past}
 use Rattle.nvme_log.specs.Histories.{arbitration_of}
-use Rattle.nvme_trace.specs.Lines.{lines_of, is_blank, numbered, told_lines}
+use Rattle.nvme_lines.specs.Lines.{lines_of, is_blank, numbered, told_lines}
 use Rattle.nvme_tracer.specs.Text.{text_of_head, text_of_event, trace_text, text_of_pick, text_of_set}
 use Rattle.nvme_trace.specs.Checks.{Tells}
 use Rattle.nvme_trace.specs.Format.{rooms_of}

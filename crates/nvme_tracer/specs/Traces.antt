@@ -8,7 +8,7 @@ use Rattle.nvme_log.specs.Rules.{FrontRules}
 use Rattle.nvme_log.specs.Histories.{arbitration_of, picks_in}
 use Rattle.nvme_log.specs.Account.{IsAccount}
 use Rattle.nvme_tracer.specs.Text.{trace_text}
-use Rattle.nvme_trace.specs.Lines.{told_lines}
+use Rattle.nvme_lines.specs.Lines.{told_lines}
 use Rattle.nvme_trace.specs.Checks.{Tells, IsLawfulText}
 use Rattle.nvme_trace.specs.declared.records.Head.{Head}
 

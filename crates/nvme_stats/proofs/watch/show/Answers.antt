@@ -1,7 +1,7 @@
 use Rattle.std.proofs.Common.{◌≡◌, ◌∙◌, ◌∷◌, Ok, refl, sym, subst, rules}
 use Rattle.std.proofs.lemmas.Result.{err_from_is_err_and}
 use Rattle.nvme_arbiter.specs.History.{History}
-use Rattle.nvme_trace.specs.Lines.{TakesTold, HasNoTold}
+use Rattle.nvme_lines.specs.Lines.{TakesTold, HasNoTold}
 use Rattle.nvme_trace.specs.Format.{event_by, event_view}
 use Rattle.nvme_trace.specs.declared.basis.Basis.TheVariants.{Specification}
 use Rattle.nvme_trace.specs.declared.records.Head.{Head}

@@ -1,5 +1,5 @@
 use Rattle.std.proofs.Common.{◌≡◌, ℕ, List, [], Some, Ok}
-use Rattle.nvme_trace.specs.Lines.{TakesTold}
+use Rattle.nvme_lines.specs.Lines.{TakesTold}
 use Rattle.nvme_trace.specs.Format.{head_by}
 use Rattle.nvme_trace.specs.declared.records.Head.{Head}
 use Rattle.nvme_stats.proofs.ShowLemmas.{IsFollowed, ShownUpTo}

@@ -2,7 +2,8 @@ use Rattle.std.proofs.Common.{◌≡◌, ltb, false, length, inl, inr}
 use Rattle.std.specs.Str.{is_utf8}
 use Rattle.std.proofs.lemmas.Bool.{cases_Bool, le-ltb}
 use Rattle.std.proofs.lemmas.Str.{is_utf8-from_IsUtf8, IsUtf8-from_is_utf8}
-use Rattle.nvme_trace.specs.Format.{data_of, longest_line}
+use Rattle.nvme_trace.specs.Format.{data_of}
+use Rattle.nvme_lines.specs.Lines.{longest_line}
 use Rattle.nvme_trace.proofs.records.data_of.Goals as goal
 
 pub returns-in-Ok : goal.returns-in-Ok

@@ -1,7 +1,7 @@
 use Rattle.std.proofs.Common.{◌≡◌, ◌∷◌, ℕ, List, Option, Ok, sym, subst, arith, rules}
 use Rattle.std.proofs.lemmas.Result.{err_from_is_err_and}
 use Rattle.nvme_arbiter.specs.History.{History}
-use Rattle.nvme_trace.specs.Lines.{TakesTold, HasNoTold}
+use Rattle.nvme_lines.specs.Lines.{TakesTold, HasNoTold}
 use Rattle.nvme_trace.specs.Format.{head_of_kept, event_by, event_view}
 use Rattle.nvme_trace.specs.inside.Steps.{SurveysAt}
 use Rattle.nvme_trace.specs.declared.basis.Basis.TheVariants.{Profile}

@@ -1,5 +1,5 @@
 use Rattle.std.proofs.Common.{◌≡◌, ◌≤◌, ℕ, List, Some, Ok}
-use Rattle.nvme_trace.specs.Lines.{TakesTold}
+use Rattle.nvme_lines.specs.Lines.{TakesTold}
 use Rattle.nvme_trace.specs.Format.{start_of_line, head_of_kept}
 use Rattle.nvme_trace.specs.inside.Steps.{AreFew}
 use Rattle.nvme_trace.proofs.SurveyLemmas.{SurveyedUpTo}

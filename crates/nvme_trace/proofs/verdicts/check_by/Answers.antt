@@ -1,5 +1,5 @@
 use Rattle.std.proofs.Common.{◌≡◌, ℕ, List, Option, Ok, subst}
-use Rattle.nvme_trace.specs.Lines.{TakesTold}
+use Rattle.nvme_lines.specs.Lines.{TakesTold}
 use Rattle.nvme_trace.specs.Format.{start_of_line}
 use Rattle.nvme_trace.proofs.CheckLemmas.{all_answers, all_faults}
 use Rattle.nvme_trace.proofs.verdicts.check_by.Goals as goal
