@@ -1,1 +1,2 @@
 mod Combinations
+pub mod Standing

@@ -1,3 +1,6 @@
 pub mod Estimates
 pub mod Examples
 pub mod Points
+pub mod Rows
+pub mod Runs
+pub mod Values

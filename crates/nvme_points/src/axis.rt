@@ -1,4 +1,7 @@
 // The keys of a sweep and their values.
+ghost use Rattle.std.specs.Prelude.{◌≡◌, IfOk};
+ghost use Rattle.nvme_points.specs.Values.{lengths_of};
+
 use crate::fault::{SweepFault, add};
 use crate::points::points_of;
 use std::alloc::{AllocError, Global};
@@ -62,12 +65,13 @@ fn axis_of<'a>(alloc: Global, words: &'a str) -> Result<Axis<'a>, SweepFault<'a>
 }
 
 /// How many values the keys have, that of the last one first: it is the fastest.
-pub fn lengths_of(alloc: Global, axes: &[Axis]) -> Result<Vec<usize>, AllocError> {
-    let mut lengths = Vec::new(alloc);
-    for axis in axes.iter().rev() {
-        lengths.push(axis.values.len())?;
-    }
-    Ok(lengths)
+pub fn lengths_of(alloc: Global, axes: &[Axis]) -> Result<Vec<usize>, AllocError>
+    ensures { IfOk result (λ lengths. lengths.items ≡ lengths_of axes.now) }
+{
+    axes.iter()
+        .rev()
+        .map(|axis| axis.values.len())
+        .collect(alloc)
 }
 
 /// The keys and values of words as `KEY=A,B,..`, in their order. They have at most `MAX_POINTS` combinations.

@@ -38,8 +38,8 @@ pub enum SweepFault<'a> {
     Replay(String, String, ReplayError),
     /// At this point, whose values are told, the load is none, or its open queues can't be scaled to it.
     Load(String, LoadFault),
-    /// The load is swept, and said beside that.
-    TwoLoads,
+    /// This option would stand in place of this key, which is swept.
+    Overridden(&'static str, &'a str),
     /// The simulation of this point, whose values are told, has no answer.
     Stopped(String, SimulateFault),
     /// A write failed.
@@ -114,7 +114,9 @@ impl fmt::Display for SweepFault<'_> {
             }
             SweepFault::Load(point, fault) if point.is_empty() => write!(f, "--load: {fault}"),
             SweepFault::Load(point, fault) => write!(f, "--sweep {point}: {fault}"),
-            SweepFault::TwoLoads => f.write_str("--load and --sweep load don't go together"),
+            SweepFault::Overridden(option, key) => {
+                write!(f, "{option} and --sweep {key} don't go together")
+            }
             SweepFault::Stopped(point, fault) => write!(f, "simulation: {point}: {fault}"),
             SweepFault::Write => f.write_str("write failed"),
             SweepFault::NoMemory => f.write_str("out of memory"),

@@ -6,6 +6,15 @@ use toml::{Table, Value};
 /// The key of a sweep that is none of the file: the load to which the gaps of all open queues are scaled.
 pub const LOAD: &str = "load";
 
+/// The keys of a file in whose place an option may stand.
+pub const SEED: &str = "simulation.seed";
+
+pub const COMMANDS: &str = "simulation.commands";
+
+pub const TIME: &str = "simulation.time";
+
+pub const WARM_UP: &str = "simulation.warm_up";
+
 // The weights of a table, in the order in which they are written.
 const WEIGHTS: [&str; 3] = ["high", "medium", "low"];
 

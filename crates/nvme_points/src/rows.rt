@@ -1,4 +1,7 @@
 // The numbers of a point over its seeds.
+ghost use Rattle.std.specs.Prelude.{◌≡◌, IfOk, filter_map};
+ghost use Rattle.nvme_points.specs.Rows.{AreRowsFor, AreRowsOver, IsOver, IsRowOver, number_in, numbers_of, class_scopes, first_scopes, member_in, queue_scopes, row_in, scopes_of};
+
 use crate::estimates::{Estimate, estimate_of};
 use nvme_arbiter::Class;
 use nvme_numbers::{Member, Row};
@@ -28,7 +31,7 @@ pub const P99: usize = 4;
 /// Of which commands a row tells.
 #[derive(Clone, Copy, Debug, PartialEq, Eq)]
 pub enum Scope {
-    /// Those of the queue of this number, from 1 on.
+    /// Those of the queue at this place among those of the file, from 0 on.
     Queue(usize, Class),
     /// Those of the queues of a class.
     Class(Class),
@@ -52,7 +55,9 @@ pub struct Run {
 }
 
 // The numbers of a row of one run.
-fn numbers_of(row: &Row) -> [Option<u128>; COUNT] {
+fn numbers_of(row: &Row) -> [Option<u128>; COUNT]
+    ensures { result ≡ numbers_of row.now }
+{
     let Some(spread) = row.spread else {
         return [row.iops, None, None, None, None, None, None];
     };
@@ -67,82 +72,135 @@ fn numbers_of(row: &Row) -> [Option<u128>; COUNT] {
     ]
 }
 
-// The row of a class among members.
-fn class_in(members: &[Member], class: Class) -> Option<&Row> {
-    for member in members {
-        if member.class == class {
-            return Some(&member.row);
-        }
-    }
-    None
+// The member of a class.
+fn member_in(members: &[Member], class: Class) -> Option<Member>
+    ensures { result ≡ member_in members.now class }
+{
+    let mut members = members.iter().copied();
+    members.find(|member| member.class.number() == class.number())
 }
 
 // The row of a scope in a run.
-fn row_of(run: &Measured, scope: Scope) -> Option<&Row> {
-    match scope {
-        Scope::Queue(number, _) => {
-            let member = run.queues.get(number.checked_sub(1)?)?;
-            Some(&member.row)
-        }
-        Scope::Class(class) => class_in(&run.classes, class),
-        Scope::All => Some(&run.all),
-    }
+fn row_of(run: &Measured, scope: Scope) -> Option<Row>
+    ensures { result ≡ row_in run.now scope }
+{
+    let member = match scope {
+        Scope::Queue(at, _) => run.queues.get(at).copied()?,
+        Scope::Class(class) => member_in(&run.classes, class)?,
+        Scope::All => return Some(run.all),
+    };
+    Some(member.row)
 }
 
-// A number of a scope over runs.
-fn number_over(
+// The number at an index of a scope in a run.
+fn number_of(run: &Run, scope: Scope, index: usize) -> Option<u128>
+    ensures { result ≡ number_in index scope run.now }
+{
+    let row = row_of(&run.measured, scope)?;
+    numbers_of(&row).get(index).copied().flatten()
+}
+
+// The numbers at an index of a scope in runs.
+fn numbers_over(
     alloc: Global,
     runs: &[Run],
     scope: Scope,
     index: usize,
-) -> Result<Estimate, AllocError> {
-    let mut values = Vec::new(alloc);
-    for run in runs {
-        let numbers = row_of(&run.measured, scope).map(numbers_of);
-        let number = numbers.and_then(|numbers| numbers.get(index).copied().flatten());
-        if let Some(number) = number {
-            values.push(number)?;
-        }
-    }
-    Ok(estimate_of(&values, runs.len()))
+) -> Result<Vec<u128>, AllocError>
+    ensures { IfOk result (λ numbers. numbers.items ≡ filter_map (number_in index scope) runs.now) }
+{
+    runs.iter()
+        .filter_map(|run| number_of(run, scope, index))
+        .collect(alloc)
+}
+
+// A number of a scope over runs.
+fn estimate_over(
+    alloc: Global,
+    runs: &[Run],
+    scope: Scope,
+    index: usize,
+) -> Result<Estimate, AllocError>
+    ensures { IfOk result (IsOver runs.now scope index) }
+{
+    let numbers = numbers_over(alloc, runs, scope, index)?;
+    Ok(estimate_of(&numbers, runs.len()))
 }
 
 // The row of a scope over runs.
-fn row_over(alloc: Global, runs: &[Run], scope: Scope) -> Result<SweepRow, AllocError> {
-    let nothing = Estimate {
-        mean: None,
-        half: None,
-    };
-    let mut numbers = [nothing; COUNT];
-    for (index, number) in numbers.iter_mut().enumerate() {
-        *number = number_over(alloc, runs, scope, index)?;
+fn row_over(alloc: Global, runs: &[Run], scope: Scope) -> Result<SweepRow, AllocError>
+    ensures scope { IfOk result (λ row. row.scope ≡ scope) }
+    ensures numbers { IfOk result (IsRowOver runs.now scope) }
+{
+    Ok(SweepRow {
+        scope,
+        numbers: [
+            estimate_over(alloc, runs, scope, 0)?,
+            estimate_over(alloc, runs, scope, 1)?,
+            estimate_over(alloc, runs, scope, 2)?,
+            estimate_over(alloc, runs, scope, 3)?,
+            estimate_over(alloc, runs, scope, 4)?,
+            estimate_over(alloc, runs, scope, 5)?,
+            estimate_over(alloc, runs, scope, 6)?,
+        ],
+    })
+}
+
+// The scopes of queues.
+fn queue_scopes(alloc: Global, queues: &[Member]) -> Result<Vec<Scope>, AllocError>
+    ensures { IfOk result (λ scopes. scopes.items ≡ queue_scopes queues.now) }
+{
+    let numbered = queues.iter().enumerate();
+    numbered
+        .map(|(at, member)| Scope::Queue(at, member.class))
+        .collect(alloc)
+}
+
+// The scopes of classes.
+fn class_scopes(alloc: Global, classes: &[Member]) -> Result<Vec<Scope>, AllocError>
+    ensures { IfOk result (λ scopes. scopes.items ≡ class_scopes classes.now) }
+{
+    classes
+        .iter()
+        .map(|member| Scope::Class(member.class))
+        .collect(alloc)
+}
+
+// The scopes of the first run.
+fn first_scopes(alloc: Global, runs: &[Run]) -> Result<Vec<Scope>, AllocError>
+    ensures { IfOk result (λ scopes. scopes.items ≡ first_scopes runs.now) }
+{
+    match runs.first() {
+        Some(run) => scopes_of(alloc, &run.measured),
+        None => Ok(Vec::new(alloc)),
     }
-    Ok(SweepRow { scope, numbers })
 }
 
 // The scopes of a run: its queues, its classes, and all.
-fn scopes_of(alloc: Global, run: &Measured) -> Result<Vec<Scope>, AllocError> {
-    let mut scopes = Vec::new(alloc);
-    let mut number = 1usize;
-    for member in &run.queues {
-        scopes.push(Scope::Queue(number, member.class))?;
-        number = number.saturating_add(1);
-    }
-    for member in &run.classes {
-        scopes.push(Scope::Class(member.class))?;
-    }
+fn scopes_of(alloc: Global, run: &Measured) -> Result<Vec<Scope>, AllocError>
+    ensures { IfOk result (λ scopes. scopes.items ≡ scopes_of run.now) }
+{
+    let mut scopes = queue_scopes(alloc, &run.queues)?;
+    scopes.extend_from_slice(&class_scopes(alloc, &run.classes)?)?;
     scopes.push(Scope::All)?;
     Ok(scopes)
 }
 
-/// The rows of a point, over the runs of its seeds: a row for each queue, for each class that has one, and for all.
-pub fn rows_of(alloc: Global, runs: &[Run]) -> Result<Vec<SweepRow>, AllocError> {
+// The rows of scopes over runs.
+fn rows_for(alloc: Global, runs: &[Run], scopes: &[Scope]) -> Result<Vec<SweepRow>, AllocError>
+    ensures { IfOk result (λ rows. AreRowsFor runs.now scopes.now rows.items) }
+{
     let mut rows = Vec::new(alloc);
-    let Some(run) = runs.first() else {
-        return Ok(rows);
-    };
-    for scope in &scopes_of(alloc, &run.measured)? {
+    for scope in scopes {
         rows.push(row_over(alloc, runs, *scope)?)?;
     }
     Ok(rows)
+}
+
+/// The rows of a point, over the runs of its seeds: a row for each queue, for each class that has one, and for all.
+pub fn rows_of(alloc: Global, runs: &[Run]) -> Result<Vec<SweepRow>, AllocError>
+    ensures { IfOk result (λ rows. AreRowsOver runs.now rows.items) }
+{
+    let scopes = first_scopes(alloc, runs)?;
+    rows_for(alloc, runs, &scopes)
 }

@@ -1,9 +1,13 @@
 // Runs a simulation at each point.
-ghost use Rattle.std.specs.Prelude.{◌<◌};
+ghost use Rattle.std.specs.Prelude.{◌≡◌, ◌<◌, IfOk};
+ghost use Rattle.nvme_points.specs.Points.{count_of};
+ghost use Rattle.nvme_points.specs.Rows.{AreRowsOver};
+ghost use Rattle.nvme_points.specs.Runs.{IsRunOf, Stand, first_seed};
+ghost use Rattle.nvme_points.specs.Values.{chosen, lengths_of, values_at, values_by};
 
 use crate::axis::{Axis, lengths_of};
 use crate::fault::SweepFault;
-use crate::place::{LOAD, put};
+use crate::place::{COMMANDS, LOAD, SEED, TIME, WARM_UP, put};
 use crate::points::{choices_at, points_of};
 use crate::rows::{Run, SweepRow, rows_of};
 use nvme_arbiter::Class;
@@ -84,17 +88,31 @@ impl<'a> Sweep<'a> {
     }
 
     /// The value of each key at a point, in the order of the keys.
-    pub fn values_at(&self, alloc: Global, point: usize) -> Result<Vec<&'a str>, AllocError> {
-        let mut values = Vec::new(alloc);
+    pub fn values_at(&self, alloc: Global, point: usize) -> Result<Vec<&'a str>, AllocError>
+        ensures { point < count_of (lengths_of self.now.axes.items) → IfOk result (λ values. values.items ≡ values_at self.now.axes.items point) }
+    {
         let Some(choices) = choices_at(alloc, &lengths_of(alloc, &self.axes)?, point)? else {
-            return Ok(values);
+            return Ok(Vec::new(alloc));
         };
-        for (axis, choice) in self.axes.iter().zip(choices.iter().rev()) {
-            if let Some(value) = axis.values.get(*choice) {
-                values.push(*value)?;
-            }
-        }
-        Ok(values)
+        self.values_by(alloc, &choices)
+    }
+
+    // The value of each key, where the choice of the last key comes first.
+    fn values_by(&self, alloc: Global, choices: &[usize]) -> Result<Vec<&'a str>, AllocError>
+        ensures { IfOk result (λ values. values.items ≡ values_by self.now.axes.items choices.now) }
+    {
+        (0..self.axes.len())
+            .filter_map(|key| self.chosen(choices, key))
+            .collect(alloc)
+    }
+
+    // The value of the key at an index, where the choice of the last key comes first.
+    fn chosen(&self, choices: &[usize], key: usize) -> Option<&'a str>
+        ensures { result ≡ chosen self.now.axes.items choices.now key }
+    {
+        let axis = self.axes.get(key)?;
+        let choice = choices.get(self.axes.len() - 1 - key)?;
+        axis.values.get(*choice).copied()
     }
 
     /// The name of a point: its keys and values, or the first of them.
@@ -164,29 +182,44 @@ impl<'a> Sweep<'a> {
     }
 
     // What stands in place of what the file says at a point with these values.
-    fn overrides_at(&self, values: &[&str]) -> Result<Overrides, LoadFault> {
-        let mut overrides = self.overrides;
+    fn overrides_at(&self, values: &[&str]) -> Result<Overrides, LoadFault>
+        ensures seed { IfOk result (λ o. o.seed ≡ self.now.overrides.seed) }
+        ensures end { IfOk result (λ o. o.end ≡ self.now.overrides.end) }
+        ensures warm_up { IfOk result (λ o. o.warm_up ≡ self.now.overrides.warm_up) }
+    {
+        let load = match self.load_at(values) {
+            Some(value) => Some(Load::new(value)?),
+            None => self.overrides.load,
+        };
+        Ok(Overrides {
+            load,
+            ..self.overrides
+        })
+    }
+
+    // The load at a point with these values, where it is swept.
+    fn load_at<'t>(&self, values: &[&'t str]) -> Option<&'t str> {
         for (axis, value) in self.axes.iter().zip(values) {
             if axis.key == LOAD {
-                overrides.load = Some(Load::new(value)?);
+                return Some(*value);
             }
         }
-        Ok(overrides)
+        None
     }
 
     // A model with what stands in place of its own at a point with these values.
-    fn replaced(&self, values: &[&str], model: Model) -> Result<Model, LoadFault> {
+    #[tactic(auto, using(crate::proofs::Standing::stands_so))]
+    fn replaced(&self, values: &[&str], model: Model) -> Result<Model, LoadFault>
+        ensures { IfOk result (Stand self.now.overrides) }
+    {
         self.overrides_at(values)?.applied(model)
     }
 
     // The model of a text at a point, with the lists of the files that its queues replay, and with what stands in place of
     // what the file says.
-    fn model_at(
-        &self,
-        alloc: Global,
-        values: &[&str],
-        text: &str,
-    ) -> Result<Model, SweepFault<'a>> {
+    fn model_at(&self, alloc: Global, values: &[&str], text: &str) -> Result<Model, SweepFault<'a>>
+        ensures { IfOk result (Stand self.now.overrides) }
+    {
         let model = match model_in(alloc, text.as_bytes()) {
             Ok(model) => self.with_lists(alloc, values, text, model)?,
             Err(fault) => return Err(self.fault_at(alloc, values, fault)),
@@ -197,9 +230,33 @@ impl<'a> Sweep<'a> {
         }
     }
 
-    // Whether the load is swept.
-    fn is_load_swept(&self) -> bool {
-        self.axes.iter().any(|axis| axis.key == LOAD)
+    // The option that says when a simulation ends, where one does.
+    fn end_option(&self) -> Option<&'static str> {
+        match self.overrides.end?.time {
+            Some(_) => Some("--time"),
+            None => Some("--commands"),
+        }
+    }
+
+    // The option that stands in the place of a key, where one does.
+    fn option_for(&self, key: &str) -> Option<&'static str> {
+        match key {
+            LOAD => self.overrides.load.map(|_| "--load"),
+            SEED => self.overrides.seed.map(|_| "--seed"),
+            WARM_UP => self.overrides.warm_up.map(|_| "--warm-up"),
+            COMMANDS | TIME => self.end_option(),
+            _ => None,
+        }
+    }
+
+    // The first swept key in whose place an option would stand, with that option.
+    fn overridden(&self) -> Option<(&'static str, &'a str)> {
+        for axis in &self.axes {
+            if let Some(option) = self.option_for(axis.key) {
+                return Some((option, axis.key));
+            }
+        }
+        None
     }
 
     // Whether a picture shows a queue of this model.
@@ -214,8 +271,8 @@ impl<'a> Sweep<'a> {
     /// Reads the file at each point, and runs nothing. The error is the first fault. The answer is at which points more
     /// commands come than the device can run.
     pub fn look(&self, alloc: Global) -> Result<Overloads, SweepFault<'a>> {
-        if self.overrides.load.is_some() && self.is_load_swept() {
-            return Err(SweepFault::TwoLoads);
+        if let Some((option, key)) = self.overridden() {
+            return Err(SweepFault::Overridden(option, key));
         }
         let (mut overloads, mut is_drawn) = (Overloads::new(alloc), false);
         for point in 0..self.points(alloc)? {
@@ -240,7 +297,9 @@ impl<'a> Sweep<'a> {
         point: usize,
         number: u64,
         terminal: Option<P>,
-    ) -> Result<Run, SweepFault<'a>> {
+    ) -> Result<Run, SweepFault<'a>>
+        ensures { IfOk result (IsRunOf self.now.overrides number) }
+    {
         let values = self.values_at(alloc, point)?;
         let text = self.text_at(alloc, &values)?;
         let mut model = self.model_at(alloc, &values, &text)?;
@@ -255,7 +314,11 @@ impl<'a> Sweep<'a> {
     }
 
     /// What is told of a point by its runs, in the order of their seeds.
-    pub fn told(&self, alloc: Global, point: usize, runs: &[Run]) -> Result<Point<'a>, AllocError> {
+    pub fn told(&self, alloc: Global, point: usize, runs: &[Run]) -> Result<Point<'a>, AllocError>
+        ensures values { point < count_of (lengths_of self.now.axes.items) → IfOk result (λ p. p.values.items ≡ values_at self.now.axes.items point) }
+        ensures seed { IfOk result (λ p. p.seed ≡ first_seed runs.now) }
+        ensures rows { IfOk result (λ p. AreRowsOver runs.now p.rows.items) }
+    {
         Ok(Point {
             values: self.values_at(alloc, point)?,
             seed: runs.first().map_or(0, |run| run.seed),

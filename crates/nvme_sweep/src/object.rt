@@ -34,8 +34,8 @@ fn put_number<W: Write>(number: Option<u128>, writer: &mut W) -> io::Result<()> 
 // Writes of which commands a row tells.
 fn put_scope<W: Write>(scope: Scope, writer: &mut W) -> io::Result<()> {
     match scope {
-        Scope::Queue(number, class) => {
-            let class = class_name(class);
+        Scope::Queue(at, class) => {
+            let (number, class) = (at.saturating_add(1), class_name(class));
             write!(
                 writer,
                 "{{\"scope\":\"queue\",\"queue\":{number},\"class\":\"{class}\""
