@@ -28,13 +28,16 @@ abbrev pub picked_from : (at qid : ℕ) → (n : ℕ) → Queue → List Taken
 picked_from at qid zero q = []
 picked_from at qid (suc n) q = record { queue = qid; number = q.count; since = q.last } ∷ picked_from at qid n (record q { count = next_of q.count; last = at })
 
--- commands of a queue are picked at a time: the device has them too, and no other queue changes
+-- commands of a queue are picked at a time: the device has them too, and no other queue changes. Commands of the admin queue,
+-- and of a queue that the model lacks, aren't followed
 pub record Picks (at : ℕ) (p : Pick) (old new : Waits) : Type 0 where
   pub count : length new.queues.items ≡ length old.queues.items
   pub own : (k : ℕ) (d : Queue) → k + 1 ≡ p.qid → k < length old.queues.items
       → slice_index_or new.queues.items k d ≡ queue_behind at p.n (slice_index_or old.queues.items k d)
   pub taken : (k : ℕ) (d : Queue) → k + 1 ≡ p.qid → k < length old.queues.items
       → new.taken.items ≡ old.taken.items ++ picked_from at p.qid p.n (slice_index_or old.queues.items k d)
+  pub admin : p.qid ≡ 0 → new.taken.items ≡ old.taken.items
+  pub beyond : length old.queues.items < p.qid → new.taken.items ≡ old.taken.items
   pub others : (k : ℕ) (d : Queue) → ¬ (k + 1 ≡ p.qid) → slice_index_or new.queues.items k d ≡ slice_index_or old.queues.items k d
 
 -- the command that the device has, with when the one before it in its queue was picked
