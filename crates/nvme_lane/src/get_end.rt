@@ -1,5 +1,5 @@
 //! The get end of a ring. It may move to a thread of its own, and no call on it waits for the other end.
-use rtrb::{Consumer, PopError};
+use rtrb::Consumer;
 use std::marker::Model;
 
 /// The get end of a ring. Contracts see the list of all that it got (`got`), the items that it
@@ -25,10 +25,36 @@ impl<T: Copy> Model for GetEnd<T> {
 }
 
 impl<T: Copy> GetEnd<T> {
-    ghost use Rattle.std.specs.Prelude.{◌≡◌, ◌<◌, ◌≤◌, [], ◌∷◌, ◌++◌, length, take, drop, IsSome, IfSome, IfNone};
+    ghost use Rattle.std.specs.Prelude.{◌≡◌, ◌<◌, ◌≤◌, true, false, [], ◌∷◌, ◌++◌, length, take, drop, IsSome, IfSome, IfNone};
     ghost use mathlib.Core.List.{IsPrefix};
     ghost use Rattle.nvme_lane.specs.Limits.{min_slots, max_slots};
     ghost use Rattle.nvme_lane.specs.View.{SameGet};
+
+    /// Whether nothing was found to be got: never while an item is `known`. What it finds is `known` then. Where it
+    /// finds nothing, or an item was `known` before, nothing changes.
+    pub fn is_empty(&mut self) -> bool
+        ensures ring { SameGet self.old self.new }
+        ensures got { self.new.got ≡ self.old.got }
+        ensures found { result ≡ false → 0 < length self.new.known }
+        ensures none_known { result ≡ true → self.old.known ≡ [] }
+        ensures unchanged { result ≡ true → self.new ≡ self.old }
+        ensures known { 0 < length self.old.known → self.new ≡ self.old }
+    {
+        if self.consumer.cached_slots() > 0 {
+            return false;
+        }
+        self.consumer.is_empty()
+    }
+
+    /// Gets the oldest item that was put and not got, which is `known`.
+    pub fn get_known(&mut self) -> T
+        requires { 0 < length self.old.known }
+        ensures ring { SameGet self.old self.new }
+        ensures got { self.new.got ≡ self.old.got ++ result ∷ [] }
+        ensures known { self.old.known ≡ result ∷ self.new.known }
+    {
+        self.consumer.pop_known()
+    }
 
     /// Gets the oldest item that was put and not got. `None`, which changes nothing, where no item was found:
     /// never while an item is `known`.
@@ -40,13 +66,10 @@ impl<T: Copy> GetEnd<T> {
         ensures unchanged { IfNone result (self.new ≡ self.old) }
         ensures succeeds { 0 < length self.old.known → IsSome result }
     {
-        if self.consumer.cached_slots() > 0 {
-            return Some(self.consumer.pop_known());
+        if self.is_empty() {
+            return None;
         }
-        match self.consumer.pop() {
-            Ok(item) => Some(item),
-            Err(PopError::Empty) => None,
-        }
+        Some(self.get_known())
     }
 
     /// Gets items into the beginning of a slice, in order, until the slice is full or the ring is found empty.

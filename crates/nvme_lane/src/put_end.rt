@@ -1,6 +1,6 @@
 //! The put end of a ring. It may move to a thread of its own, and no call on it waits for the other end.
 use crate::errors::Full;
-use rtrb::{Producer, PushError};
+use rtrb::Producer;
 use std::marker::Model;
 
 /// The put end of a ring. Contracts see the list of all that it put (`sent`), how many places it
@@ -43,14 +43,12 @@ impl<T: Copy> PutEnd<T> {
         ensures succeeds { 0 < self.old.free → IsOk result }
     {
         if self.free > 0 {
-            self.producer.push_reserved(item);
             self.free -= 1;
-            return Ok(());
+        } else if self.producer.is_full() {
+            return Err(Full(item));
         }
-        match self.producer.push(item) {
-            Ok(()) => Ok(()),
-            Err(PushError::Full(back)) => Err(Full(back)),
-        }
+        self.producer.push_reserved(item);
+        Ok(())
     }
 
     /// Puts items from the beginning of a slice, in order, after those put before, until all are put or the
