@@ -85,9 +85,15 @@ impl Worker {
             return Worked::Nothing;
         };
         gate.enter(job.ticket);
-        self.kept = Some(job.execute());
+        let done = job.execute();
         gate.leave(job.ticket);
-        self.give()
+        match self.results.put(done) {
+            Ok(()) => Worked::Did,
+            Err(Full(done)) => {
+                self.kept = Some(done);
+                Worked::Held
+            }
+        }
     }
 
     // Gives the result that is kept, or keeps it.
