@@ -66,8 +66,8 @@ fn first_of(ends: &mut [GetEnd<Finished>]) -> Option<Finished>
     ensures unchanged { IfNone result (ends.new ≡ ends.old) }
 {
     for end in ends.iter_mut() {
-        if let Some(x) = end.get() {
-            return Some(x);
+        if !end.is_empty() {
+            return Some(end.get_known());
         }
     }
     None
