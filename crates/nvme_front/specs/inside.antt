@@ -1,5 +1,6 @@
 -- What only private contracts cite: no public clause reaches it (profile).
 pub mod Dispatching
+pub mod Fetching
 pub mod Goes
 pub mod Loads
 pub mod Looks

@@ -29,7 +29,5 @@ pub fn note(log: &mut Vec<Event>, event: Event)
     ensures items { log.new.items ≡ log.old.items ++ event ∷ [] }
     ensures room { vec_capacity log.old ≤ vec_capacity log.new }
 {
-    let Ok(()) = log.push(event) else {
-        unreachable!()
-    };
+    log.push_reserved(event);
 }

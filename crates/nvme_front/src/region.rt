@@ -16,22 +16,22 @@ pub struct Got {
 }
 
 impl SqRegion {
-    ghost use Rattle.std.specs.Prelude.{◌≡◌, ◌+◌, ◌^◌, ◌<◌, [], ◌∷◌, ◌++◌, length, IfSome, IfNone};
+    ghost use Rattle.std.specs.Prelude.{◌≡◌, ◌+◌, ◌^◌, ◌<◌, [], ◌∷◌, ◌++◌, length};
     ghost use Rattle.nvme_lane.specs.View.{SameGet};
 
-    /// Gets the next command of the ring. `None`, which changes nothing, where the ring gave none.
-    pub fn get(&mut self) -> Option<Got>
+    /// Gets the next command of the ring, which is known to come.
+    pub fn get(&mut self) -> Got
+        requires known { 0 < length self.old.end.known }
         requires few { self.old.fetched + 1 < 2 ^ 32 }
-        ensures none { IfNone result ((self.new ≡ self.old) × (self.old.end.known ≡ [])) }
-        ensures index { IfSome result (λ g. g.index ≡ self.old.fetched) }
-        ensures got { IfSome result (λ g. self.new.end.got ≡ self.old.end.got ++ g.entry ∷ []) }
+        ensures index { result.index ≡ self.old.fetched }
+        ensures got { self.new.end.got ≡ self.old.end.got ++ result.entry ∷ [] }
         ensures end { SameGet self.old.end self.new.end }
-        ensures known { IfSome result (λ g. 0 < length self.old.end.known → self.old.end.known ≡ g.entry ∷ self.new.end.known) }
-        ensures fetched { IfSome result (λ g. self.new.fetched ≡ self.old.fetched + 1) }
+        ensures known { self.old.end.known ≡ result.entry ∷ self.new.end.known }
+        ensures fetched { self.new.fetched ≡ self.old.fetched + 1 }
     {
-        let entry = self.end.get()?;
+        let entry = self.end.get_known();
         let index = self.fetched;
         self.fetched += 1;
-        Some(Got { index, entry })
+        Got { index, entry }
     }
 }

@@ -5,10 +5,38 @@
 //
 // Decided: the front gets one entry at a time, since each has an event of its own. `put_some` and `get_some` are for an
 // embedder who moves entries in batches.
+ghost use Rattle.std.specs.Prelude.{◌+◌, ◌^◌, ◌<◌, length, vec_capacity};
+ghost use Rattle.nvme_engine.specs.Standing.{IsEngine};
+ghost use Rattle.nvme_front.specs.inside.Fetching.{FetchesOne};
+
 use crate::front::FrontError;
 use crate::log::{make_room, note};
+use crate::region::SqRegion;
 use crate::state::FrontState;
+use nvme_engine::Engine;
 use nvme_log::{Event, window_of};
+
+// Fetches the next command of a region, which is known to come, for the queue on it. (A function of its own, so that
+// where nothing comes no place is made for an entry.)
+fn fetch(sq: &mut SqRegion, engine: &mut Engine, log: &mut Vec<Event>, qid: u16, region: u8)
+    requires known { 0 < length sq.old.end.known }
+    requires few { sq.old.fetched + 1 < 2 ^ 32 }
+    requires engine { IsEngine engine.old }
+    requires room { length log.old.items < vec_capacity log.old }
+    ensures { FetchesOne qid region sq.old sq.new engine.old engine.new log.old.items log.new.items }
+{
+    let slots = sq.end.slots();
+    let got = sq.get();
+    engine.fetched(qid, slots, got.index, &got.entry);
+    note(
+        log,
+        Event::Fetch {
+            region,
+            index: got.index,
+            entry: got.entry,
+        },
+    );
+}
 
 impl FrontState {
     ghost use Rattle.std.specs.Prelude.{◌≡◌, ◌≢◌, ℕ, ◌+◌, ◌<◌, ◌≤◌, length, Option, Some, None, OnOk, IfErr, true, false, ◌⊎◌};
@@ -49,18 +77,11 @@ impl FrontState {
             return Ok(false);
         }
         make_room(&mut self.log, self.config.max_events, 1)?;
-        let Some(got) = self.sqs[r].get() else {
+        let sq = &mut self.sqs[r];
+        if sq.end.is_empty() {
             return Ok(false);
-        };
-        self.engine.fetched(qid, slots, got.index, &got.entry);
-        note(
-            &mut self.log,
-            Event::Fetch {
-                region,
-                index: got.index,
-                entry: got.entry,
-            },
-        );
+        }
+        fetch(sq, &mut self.engine, &mut self.log, qid, region);
         Ok(true)
     }
 

@@ -1,5 +1,7 @@
-use Rattle.std.proofs.Common.{◌≡◌, ◌∙◌, ℕ, ◌+◌, ◌%◌, ◌<◌, ◌∷◌, [], ◌++◌, length, ap, sym, refl, subst, arith}
+use Rattle.std.proofs.Common.{◌≡◌, ◌∙◌, ℕ, ◌+◌, ◌%◌, ◌<◌, List, ◌∷◌, [], ◌++◌, length, ap, sym, refl, subst, arith}
 use Rattle.std.specs.Vec.{with_item}
+use Rattle.nvme_entry.specs.declared.submission.Sqe.{Sqe}
+use Rattle.nvme_lane.specs.View.{GetView}
 use Rattle.nvme_log.specs.declared.event.Event.TheVariants.{Fetch}
 use Rattle.nvme_log.specs.Limits.{window_of}
 use Rattle.nvme_log.specs.Places.{waiting}
@@ -69,30 +71,23 @@ returns-in_err-make_room-clause-loads c = λ lower.
 pub returns-in_err-make_room-clause-posted : goal.returns-in_err-make_room-clause-posted
 returns-in_err-make_room-clause-posted c = posted_same c.args.self.now (with_room c) (same_room c)
 
-pub index_mut-requires : goal.index_mut-requires
-index_mut-requires c =
+pub index_mut-sq-requires : goal.index_mut-sq-requires
+index_mut-sq-requires c =
     let a = c.args.self.now in
     let k = c.requires.consistent.running c.requires.admin in
     let there = region_there a c.requires.consistent c.requires.admin c.args.qid c.from-r.result
     (opened a k c.args.qid c.in-Some.region c.from-r.result c.sq_region.result c.sq_region.ensures c.in-Some.is c.from-r.ensures) in
     omega (arith, there, a.sqs.ok.0)
 
-pub get-requires : goal.get-requires
-get-requires c =
-    let a = c.args.self.now in
-    let k = c.requires.consistent.running c.requires.admin in
-    let fits = index_fits a c.requires.consistent c.requires.admin c.args.qid c.from-r.result
-    (opened a k c.args.qid c.in-Some.region c.from-r.result c.sq_region.result c.sq_region.ensures c.in-Some.is c.from-r.ensures) c.index_mut.result.now c.index_mut.ensures.value in
-    record { few = fits }
+-- its ring gives none
+abbrev with_same : (c : goal.After-self-1) → FrontState
+with_same c = record c.args.self.now { sqs = with_item c.args.self.now.sqs c.from-r.result (record c.index_mut-sq.result.now { end = c.is_empty.new.self }); log = c.make_room.new.log }
 
--- its ring gave none
-abbrev with_same : (c : goal.In_default-get) → FrontState
-with_same c = record c.args.self.now { sqs = with_item c.args.self.now.sqs c.from-r.result c.get.new.self; log = c.make_room.new.log }
-
-same_ring : (c : goal.In_default-get) → IsSame c.args.self.now (with_same c)
+same_ring : (c : goal.After-self-1) → IsSame c.args.self.now (with_same c)
 same_ring c = record {
   log = c.make_room.ensures.same;
-  sqs = put_back c.args.self.now.sqs.items c.from-r.result c.index_mut.result.now c.get.new.self c.index_mut.ensures.value c.in_default-get.ensures.none.0;
+  sqs = put_back c.args.self.now.sqs.items c.from-r.result c.index_mut-sq.result.now (record c.index_mut-sq.result.now { end = c.is_empty.new.self }) c.index_mut-sq.ensures.value
+      (ap (λ (e : GetView Sqe). record c.index_mut-sq.result.now { end = e }) (c.is_empty.ensures.unchanged c.if-is_empty.true));
   cqs = refl;
   engine = refl;
   jobs = refl;
@@ -101,69 +96,75 @@ same_ring c = record {
   alloc = refl;
 }
 
-pub returns-in_default-get-clause-consistent : goal.returns-in_default-get-clause-consistent
-returns-in_default-get-clause-consistent c = kept_same c.args.self.now (with_same c) (same_ring c) c.requires.consistent
+pub returns-then-is_empty-clause-consistent : goal.returns-then-is_empty-clause-consistent
+returns-then-is_empty-clause-consistent c = kept_same c.args.self.now (with_same c) (same_ring c) c.requires.consistent
 
-pub returns-in_default-get-clause-goes : goal.returns-in_default-get-clause-goes
-returns-in_default-get-clause-goes c = Goes-same c.args.self.now (with_same c) (same_ring c)
+pub returns-then-is_empty-clause-goes : goal.returns-then-is_empty-clause-goes
+returns-then-is_empty-clause-goes c = Goes-same c.args.self.now (with_same c) (same_ring c)
 
-pub returns-in_default-get-clause-others : goal.returns-in_default-get-clause-others
-returns-in_default-get-clause-others c = λ q other was. scanned_on c.args.self.now (with_same c) (same_ring c) q was
+pub returns-then-is_empty-clause-others : goal.returns-then-is_empty-clause-others
+returns-then-is_empty-clause-others c = λ q other was. scanned_on c.args.self.now (with_same c) (same_ring c) q was
 
-pub returns-in_default-get-clause-loads : goal.returns-in_default-get-clause-loads
-returns-in_default-get-clause-loads c = λ lower.
+pub returns-then-is_empty-clause-loads : goal.returns-then-is_empty-clause-loads
+returns-then-is_empty-clause-loads c = λ lower.
     posts-load c.args.self.now (with_same c) (Goes-same c.args.self.now (with_same c) (same_ring c)) (posts-by c.args.self.now (with_same c) c.make_room.ensures.same (same_ring c).sqs)
 
-pub returns-in_default-get-clause-posted : goal.returns-in_default-get-clause-posted
-returns-in_default-get-clause-posted c = posted_same c.args.self.now (with_same c) (same_ring c)
+pub returns-then-is_empty-clause-posted : goal.returns-then-is_empty-clause-posted
+returns-then-is_empty-clause-posted c = posted_same c.args.self.now (with_same c) (same_ring c)
 
-pub returns-in_default-get-clause-still : goal.returns-in_default-get-clause-still
-returns-in_default-get-clause-still c = λ _.
+pub returns-then-is_empty-clause-still : goal.returns-then-is_empty-clause-still
+returns-then-is_empty-clause-still c = λ _.
     let a = c.args.self.now in
     let k = c.requires.consistent.running c.requires.admin in (
       same_ring c,
       scanned_empty a c.requires.consistent c.requires.admin c.args.qid c.from-r.result
           (opened a k c.args.qid c.in-Some.region c.from-r.result c.sq_region.result c.sq_region.ensures c.in-Some.is c.from-r.ensures)
-          c.index_mut.result.now c.index_mut.ensures.value c.in_default-get.ensures.none.1,
+          c.index_mut-sq.result.now c.index_mut-sq.ensures.value (c.is_empty.ensures.none_known c.if-is_empty.true),
     )
 
-pub fetched-requires-clause-engine : goal.fetched-requires-clause-engine
-fetched-requires-clause-engine c = has_engine c.args.self.now (c.requires.consistent.running c.requires.admin)
+pub fetch-requires-clause-few : goal.fetch-requires-clause-few
+fetch-requires-clause-few c =
+    let a = c.args.self.now in
+    let k = c.requires.consistent.running c.requires.admin in
+    index_fits a c.requires.consistent c.requires.admin c.args.qid c.from-r.result
+    (opened a k c.args.qid c.in-Some.region c.from-r.result c.sq_region.result c.sq_region.ensures c.in-Some.is c.from-r.ensures) c.index_mut-sq.result.now c.index_mut-sq.ensures.value
+
+pub fetch-requires-clause-engine : goal.fetch-requires-clause-engine
+fetch-requires-clause-engine c = has_engine c.args.self.now (c.requires.consistent.running c.requires.admin)
 
 -- ---- a command was fetched
-abbrev with_fetch : (c : goal.After-note) → FrontState
-with_fetch c = record c.args.self.now { engine = c.fetched.new.self; sqs = with_item c.args.self.now.sqs c.from-r.result c.get.new.self; log = c.note.new.log }
+abbrev with_fetch : (c : goal.After-self-2-1) → FrontState
+with_fetch c = record c.args.self.now { engine = c.fetch.new.engine; sqs = with_item c.args.self.now.sqs c.from-r.result c.fetch.new.sq; log = c.fetch.new.log }
 
-from : (c : goal.After-note) → IsOpenOn (past_of c.args.self.now) c.args.qid c.from-r.result
+from : (c : goal.After-self-2-1) → IsOpenOn (past_of c.args.self.now) c.args.qid c.from-r.result
 from c =
     opened c.args.self.now (c.requires.consistent.running c.requires.admin) c.args.qid c.in-Some.region c.from-r.result c.sq_region.result c.sq_region.ensures c.in-Some.is c.from-r.ensures
 
 -- the slots of its ring
-slots_are : (c : goal.After-note) → c.slots-slots.result ≡ c.index_mut.result.now.end.slots
+slots_are : (c : goal.After-self-2-1) → c.slots-slots.result ≡ c.index_mut-sq.result.now.end.slots
 slots_are c =
     let there = region_there c.args.self.now c.requires.consistent c.requires.admin c.args.qid c.from-r.result (from c) in
     c.slots-slots.ensures.value
-    ∙ ap (λ (d : SqRegion). d.end.slots) (same_read c.args.self.now.sqs.items c.from-r.result c.index.result.now c.index_mut.result.now there c.index.ensures c.index_mut.ensures.value)
+    ∙ ap (λ (d : SqRegion). d.end.slots) (same_read c.args.self.now.sqs.items c.from-r.result c.index.result.now c.index_mut-sq.result.now there c.index.ensures c.index_mut-sq.ensures.value)
 
-is_fetched : (c : goal.After-note) → Fetched c.args.self.now (with_fetch c) c.args.qid c.from-r.result c.index_mut.result.now c.get.new.self c.in-Some-get.got.entry
+is_fetched : (c : goal.After-self-2-1) → Fetched c.args.self.now (with_fetch c) c.args.qid c.from-r.result c.index_mut-sq.result.now c.fetch.new.sq c.fetch.ensures.entry
 is_fetched c =
-    let e = c.in-Some-get.ensures in
+    let d = c.index_mut-sq.result.now in
+    let l = c.is_empty.ensures in
+    let f = c.fetch.ensures in
     record {
-      read = c.index_mut.ensures.value;
+      read = c.index_mut-sq.ensures.value;
       sqs = refl;
-      end = e.end;
-      got = e.got;
-      next = e.known;
-      counted = e.fetched;
-      slot = (c.in-Some-get.got.index + 1) % c.slots-slots.result;
+      end = (f.end.0 ∙ l.ring.0, f.end.1 ∙ l.ring.1, f.end.2 ∙ l.ring.2);
+      got = f.got ∙ ap (λ (xs : List Sqe). xs ++ f.entry ∷ []) l.got;
+      next = λ some. sym (ap (λ (e : GetView Sqe). e.known) (l.known some)) ∙ f.known;
+      counted = f.counted;
+      slot = (d.fetched + 1) % d.end.slots;
       engine = λ rules late notes s m.
-          let may = subst (λ (i : ℕ). MayFetch rules notes c.args.qid c.slots-slots.result i) (sym e.index)
-          (subst (λ (n : ℕ). MayFetch rules notes c.args.qid n c.index_mut.result.now.fetched) (sym (slots_are c)) m) in
-          subst (λ (i : ℕ). HasFetched rules late notes c.args.qid ((c.in-Some-get.got.index + 1) % c.slots-slots.result) i c.in-Some-get.got.entry c.fetched.new.self) e.index
-          (c.fetched.ensures.stands rules late notes s may);
-      log = noted _ _ _ _ c.make_room.ensures.same c.note.ensures.items
-          ∙ ap (λ (i : ℕ). c.args.self.now.log.items ++ Fetch c.in-Some.region i c.in-Some-get.got.entry ∷ []) e.index
-          ∙ ap (λ (r : ℕ). c.args.self.now.log.items ++ Fetch r c.index_mut.result.now.fetched c.in-Some-get.got.entry ∷ []) (sym c.from-r.ensures);
+          subst (λ (n : ℕ). HasFetched rules late notes c.args.qid ((d.fetched + 1) % n) d.fetched f.entry c.fetch.new.engine) l.ring.2
+          (f.engine rules late notes s (subst (λ (n : ℕ). MayFetch rules notes c.args.qid n d.fetched) (sym l.ring.2) m));
+      log = noted _ _ _ _ c.make_room.ensures.same f.noted
+          ∙ ap (λ (r : ℕ). c.args.self.now.log.items ++ Fetch r d.fetched f.entry ∷ []) (sym c.from-r.ensures);
       within = c.in_ok-make_room.ensures.within;
       cqs = refl;
       jobs = refl;
@@ -173,37 +174,37 @@ is_fetched c =
     }
 
 -- its window had room
-has_room : (c : goal.After-note) → length (waiting (past_of c.args.self.now) c.from-r.result) < window_of c.index_mut.result.now.end.slots
+has_room : (c : goal.After-self-2-1) → length (waiting (past_of c.args.self.now) c.from-r.result) < window_of c.index_mut-sq.result.now.end.slots
 has_room c =
     let waits = told_waiting c.args.self.now (c.requires.consistent.running c.requires.admin) c.args.qid c.waiting.result c.waiting.ensures c.from-r.result (from c) in
-    let window : c.window_of.result ≡ window_of c.index_mut.result.now.end.slots = c.window_of.ensures ∙ ap window_of (slots_are c) in
+    let window : c.window_of.result ≡ window_of c.index_mut-sq.result.now.end.slots = c.window_of.ensures ∙ ap window_of (slots_are c) in
     let some = c.if-waiting-window_of.false in
     omega (arith, waits, window, some)
 
 pub returns-clause-consistent : goal.returns-clause-consistent
 returns-clause-consistent c =
-    fetch_kept c.args.self.now (with_fetch c) c.args.qid c.from-r.result c.index_mut.result.now c.get.new.self c.in-Some-get.got.entry (is_fetched c)
+    fetch_kept c.args.self.now (with_fetch c) c.args.qid c.from-r.result c.index_mut-sq.result.now c.fetch.new.sq c.fetch.ensures.entry (is_fetched c)
     c.requires.consistent c.requires.admin (from c) c.requires.none_pending (has_room c)
 
 pub returns-clause-goes : goal.returns-clause-goes
 returns-clause-goes c =
-    fetch_goes c.args.self.now (with_fetch c) c.args.qid c.from-r.result c.index_mut.result.now c.get.new.self c.in-Some-get.got.entry (is_fetched c)
+    fetch_goes c.args.self.now (with_fetch c) c.args.qid c.from-r.result c.index_mut-sq.result.now c.fetch.new.sq c.fetch.ensures.entry (is_fetched c)
 
 pub returns-clause-posted : goal.returns-clause-posted
 returns-clause-posted c =
-    fetch_posted c.args.self.now (with_fetch c) c.args.qid c.from-r.result c.index_mut.result.now c.get.new.self c.in-Some-get.got.entry (is_fetched c)
+    fetch_posted c.args.self.now (with_fetch c) c.args.qid c.from-r.result c.index_mut-sq.result.now c.fetch.new.sq c.fetch.ensures.entry (is_fetched c)
     c.requires.consistent c.requires.admin (from c) c.requires.none_pending (has_room c)
 
 pub returns-clause-picks : goal.returns-clause-picks
-returns-clause-picks c = picks-noted _ _ _ _ c.make_room.ensures.same c.note.ensures.items refl
+returns-clause-picks c = picks-noted _ _ _ _ c.make_room.ensures.same c.fetch.ensures.noted refl
 
 pub returns-clause-others : goal.returns-clause-others
 returns-clause-others c =
-    others_scanned c.args.self.now (with_fetch c) c.args.qid c.from-r.result c.index_mut.result.now c.get.new.self c.in-Some-get.got.entry (is_fetched c)
+    others_scanned c.args.self.now (with_fetch c) c.args.qid c.from-r.result c.index_mut-sq.result.now c.fetch.new.sq c.fetch.ensures.entry (is_fetched c)
     c.requires.consistent c.requires.admin (from c)
 
 pub returns-clause-loads : goal.returns-clause-loads
 returns-clause-loads c = λ lower.
-    fetch-load c.args.self.now (with_fetch c) c.args.qid c.from-r.result c.index_mut.result.now c.get.new.self c.in-Some-get.got.entry (is_fetched c)
+    fetch-load c.args.self.now (with_fetch c) c.args.qid c.from-r.result c.index_mut-sq.result.now c.fetch.new.sq c.fetch.ensures.entry (is_fetched c)
     c.requires.consistent c.requires.admin (from c) (returns-clause-consistent c)
     (λ q below. returns-clause-others c q (λ same. omega (arith, below, same)) (lower q below))
