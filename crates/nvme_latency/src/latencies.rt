@@ -59,6 +59,7 @@ impl Latencies {
         ensures { IsPermutation (times_of self) (ranked_times result) }
     {
         let mut times = self.times;
+        // (those that are ranked already are merged, where there is memory for that)
         if times.sort().is_err() {
             times.sort_unstable();
         }
