@@ -2,7 +2,7 @@
 ghost use Rattle.std.specs.Prelude.{◌≡◌, IfOk, OnOk};
 ghost use Rattle.nvme_simulate.specs.Played.{AddsIf, HasRun, IsMeasured, IsPlayed, Takes, done_behind, is_over};
 ghost use Rattle.nvme_simulation.specs.Simulations.{IsSimulation};
-ghost use Rattle.nvme_simulation.specs.Stepping.{HasStepped};
+ghost use Rattle.nvme_simulation.specs.Stepping.{GoesOn};
 
 use crate::distributions::Subject;
 use crate::fault::{SimulateFault, Stream};
@@ -110,13 +110,13 @@ fn step<L: Write, T: Write, P: Write>(
 ) -> Result<Happening, SimulateFault>
     requires stands { IsSimulation simulation.old }
     ensures stands { IsSimulation simulation.new }
-    ensures steps { IfOk result (HasStepped simulation.old simulation.new) }
+    ensures steps { IfOk result (GoesOn simulation.old simulation.new) }
     ensures takes { IfOk result (λ h. Takes h numbers.old numbers.new) }
 {
     if streams.trace.is_some() && simulation.picks() {
         watch.look(simulation)?;
     }
-    let happening = simulation.step()?;
+    let happening = simulation.go_on()?;
     note(&happening, watch, bounds, numbers, streams)?;
     Ok(happening)
 }

@@ -27,6 +27,16 @@ pub if_ok : {T E : Type 0} (P Q : T → Type 0) (r : Result T E) → ((x : T) �
 if_ok P Q (Ok x) f p = f x p
 if_ok P Q (Err e) f p = tt
 
+-- no pick comes behind a step of picks: it told that there is none
+pub settled_is : (h : Happening) → picks_behind h true ≡ false → h ≡ Settled
+settled_is (Came queue) e = cc
+settled_is (Picked p) e = cc
+settled_is Settled e = refl
+settled_is (Finished command counts) e = cc
+settled_is (Paused channel) e = cc
+settled_is (Resumed channel) e = cc
+settled_is Over e = cc
+
 -- the simulation after a pick, or after none
 abbrev pub picked : Simulation → Machine → Happening → Simulation
 picked a m h = record a { machine = m; picks = is_pick h }

@@ -1,5 +1,5 @@
 -- What a step makes happen. (profile)
-use Rattle.std.specs.Prelude.{◌≡◌}
+use Rattle.std.specs.Prelude.{◌≡◌, ◌⊎◌}
 use Rattle.nvme_simulation.specs.Counts.{Counts}
 use Rattle.nvme_simulation.specs.Passing.{Passes}
 use Rattle.nvme_simulation.specs.Picks.{IsTimed}
@@ -8,6 +8,7 @@ use Rattle.nvme_simulation.specs.Plans.{IsNext, events_of, picks_behind}
 use Rattle.nvme_simulation.specs.Simulations.{counts_next, end_of, hosts_of, may_come_to, occupancy_of, picks_of, time_of}
 use Rattle.nvme_simulation.specs.Steps.{IsStepLess}
 use Rattle.nvme_simulation.specs.declared.happening.Happening.{Happening}
+use Rattle.nvme_simulation.specs.declared.happening.Happening.TheVariants.{Settled}
 use Rattle.nvme_simulation.specs.declared.simulation.Simulation.{Simulation}
 
 pub record HasStepped (before after : Simulation) (h : Happening) : Type 0 where
@@ -24,3 +25,8 @@ pub record HasStepped (before after : Simulation) (h : Happening) : Type 0 where
   pub plans : StepPlans h before after
   -- fewer steps are left
   pub falls : IsStepLess before after h
+
+-- a step makes it happen, or does so behind one that tells that no command can be picked
+abbrev pub GoesOn : (before after : Simulation) → Happening → Type 0
+GoesOn before after h =
+    HasStepped before after h ⊎ ((mid : Simulation) × (HasStepped before mid Settled × HasStepped mid after h))

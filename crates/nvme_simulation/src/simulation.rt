@@ -43,7 +43,7 @@ impl Simulation {
     ghost use Rattle.nvme_simulation.specs.Picks.{IsLawful};
     ghost use Rattle.nvme_simulation.specs.Plans.{events_of};
     ghost use Rattle.nvme_simulation.specs.Simulations.{IsSameModel, IsSimulation, StandsAt, channels_of, may_come_to, occupancy_of, picks_of, room_at, time_of};
-    ghost use Rattle.nvme_simulation.specs.Stepping.{HasStepped};
+    ghost use Rattle.nvme_simulation.specs.Stepping.{GoesOn, HasStepped};
     ghost use Rattle.nvme_simulation.specs.Steps.{cost_with};
     ghost use Rattle.nvme_simulation.specs.declared.agenda.Event.TheVariants as event;
 
@@ -328,6 +328,23 @@ impl Simulation {
         let happening = self.machine.pick()?;
         self.picks = happening.is_pick();
         Ok(happening)
+    }
+
+    /// What happens next, behind a step that tells that no command can be picked, if that is the next one. After a fault the
+    /// simulation is of no use.
+    pub fn go_on(&mut self) -> Result<Happening, SimulationFault>
+        requires stands { IsSimulation self.old }
+        ensures stands { IsSimulation self.new }
+        ensures goes { IfOk result (GoesOn self.old self.new) }
+    {
+        if !self.picks {
+            return self.advance();
+        }
+        let happening = self.pick()?;
+        if self.picks {
+            return Ok(happening);
+        }
+        self.advance()
     }
 
     /// What happens next, in the order of time. After a fault the simulation is of no use.
