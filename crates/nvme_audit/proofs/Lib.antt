@@ -6,3 +6,4 @@ pub mod CoverageLemmas
 pub mod OnceLemmas
 pub mod RunLemmas
 pub mod HeadLemmas
+pub mod RepairLemmas

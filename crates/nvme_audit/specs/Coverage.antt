@@ -1,5 +1,5 @@
 -- Where a rule asks something: what it reads stands there, so the event keeps the rule or breaks it. Each rule is taken by itself,
--- whatever came out, and whatever is said of others.
+-- whatever came out, and whatever is said of others. (profile)
 use Rattle.std.specs.Prelude.{ℕ, ◌+◌, ◌==◌, ◌&&◌, ◌||◌, nat_lt, Bool, true, false, not, is_some, [], ◌∷◌, Option, Some, None}
 use Rattle.nvme_entry.specs.Status.{StatusCode}
 use Rattle.nvme_entry.specs.declared.admin.AdminCommand.{AdminCommand}

@@ -14,6 +14,9 @@ pub mod Laws
 pub mod Coverage
 pub mod Examples
 pub mod StatusExamples
+pub mod Repairs
 pub mod CoverageLaws
 pub mod CoverageExamples
+pub mod RepairLaws
+pub mod RepairExamples
 pub mod inside

@@ -45,6 +45,7 @@ impl Judge {
     ghost use Rattle.nvme_audit.specs.Standing.{sq_at, cq_at, command_at, StandsAt};
     ghost use Rattle.nvme_audit.specs.Facts.{outstanding};
     ghost use Rattle.nvme_audit.specs.Coverage.{scene_of};
+    ghost use Rattle.nvme_audit.specs.Repairs.{answered_at, done_at};
     ghost use Rattle.nvme_audit.specs.declared.scene.Scene.TheVariants.{Posted};
     ghost use Rattle.nvme_audit.specs.Answers.{command_in};
     ghost use Rattle.nvme_audit.specs.declared.event.Event.TheVariants.{Post};
@@ -480,6 +481,38 @@ impl Judge {
             self.keep(event, verdict)?;
         }
         Ok(verdict)
+    }
+
+    /// Judges the next event, which counts from then on whatever is said of it.
+    pub fn judge_on(&mut self, event: &Event) -> Result<Verdict, AuditError>
+        ensures exact { (start : Start) (past : Past) → StandsAt start past self.old → IfOk result (λ v. v ≡ verdict start past event.now) }
+        ensures stands { (start : Start) (past : Past) → StandsAt start past self.old → OnOk result (StandsAt start (event.now ∷ past) self.new) }
+    {
+        let verdict = self.verdict(event)?;
+        self.keep(event, verdict)?;
+        Ok(verdict)
+    }
+
+    /// The admin command that the next event answers, whatever the status.
+    pub(crate) fn answered_at(&self, event: &Event) -> AdminCommand
+        ensures { (start : Start) (past : Past) → StandsAt start past self.now → result ≡ answered_at past event.now }
+    {
+        match event {
+            Event::Post { completion, .. } => {
+                answered(self.commands.get(0, completion.cid), completion)
+            }
+            _ => AdminCommand::Other,
+        }
+    }
+
+    /// The admin command that the next event carries to its end.
+    pub(crate) fn done_at(&self, event: &Event) -> AdminCommand
+        ensures { (start : Start) (past : Past) → StandsAt start past self.now → result ≡ done_at past event.now }
+    {
+        match event {
+            Event::Post { completion, .. } => self.done(completion),
+            _ => AdminCommand::Other,
+        }
     }
 
     /// Judges the next events in turn, until the controller breaks a rule: which it is, and at which index.

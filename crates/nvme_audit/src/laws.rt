@@ -4,6 +4,8 @@ ghost use Rattle.nvme_audit.specs.Examples.{AreJudged, on_the_bus, as_read, door
 ghost use Rattle.nvme_audit.specs.StatusExamples.{by_name, as_read_by_name, creates, deletes, meetings, foreign, deletions, unasked_aborts, untrue_aborts, features, excused, late_statuses};
 ghost use Rattle.nvme_audit.specs.CoverageLaws.{BrokenIsAsked};
 ghost use Rattle.nvme_audit.specs.CoverageExamples.{AreAsked, on_rings, of_names, of_statuses, of_queues, of_late_reads};
+ghost use Rattle.nvme_audit.specs.RepairLaws.{FirstBreachIsTold};
+ghost use Rattle.nvme_audit.specs.RepairExamples.{AreSaid, own_queues, every_queue, queues_created_again, wrong_statuses, aborts};
 
 /// In a log without faults each fetched command is answered once, but for the outstanding ones.
 pub fn answered_once()
@@ -49,4 +51,18 @@ pub fn worked_coverage()
     ensures of_statuses { AreAsked by_name of_statuses }
     ensures of_queues { AreAsked by_name of_queues }
     ensures of_late_reads { AreAsked as_read of_late_reads }
+{}
+
+/// Until the controller breaks a rule a judge that goes on says what one says that stops.
+pub fn first_breach_is_told()
+    ensures { FirstBreachIsTold }
+{}
+
+/// Worked: what is said after breaches of the controller.
+pub fn worked_repairs()
+    ensures own_queues { AreSaid by_name own_queues }
+    ensures every_queue { AreSaid by_name every_queue }
+    ensures queues_created_again { AreSaid by_name queues_created_again }
+    ensures wrong_statuses { AreSaid by_name wrong_statuses }
+    ensures aborts { AreSaid by_name aborts }
 {}

@@ -8,6 +8,7 @@ mod event;
 mod facts;
 mod judge;
 mod laws;
+mod repair;
 mod rules;
 mod scene;
 mod verdict;
@@ -16,8 +17,9 @@ pub use event::{Completion, Event};
 pub use facts::{Admin, Command, Cq, Ring, Sq, Start, Tells};
 pub use judge::{AuditError, Judge};
 pub use laws::{
-    answered_once, broken_is_asked, heads_are_counts, worked_coverage, worked_statuses,
-    worked_verdicts,
+    answered_once, broken_is_asked, first_breach_is_told, heads_are_counts, worked_coverage,
+    worked_repairs, worked_statuses, worked_verdicts,
 };
+pub use repair::WholeJudge;
 pub use scene::{Count, FetchScene, PostScene, Scene, count_asked};
 pub use verdict::{Breach, Rule, Verdict};

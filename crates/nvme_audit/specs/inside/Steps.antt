@@ -12,6 +12,7 @@ use Rattle.nvme_audit.specs.declared.facts.Admin.{Admin}
 use Rattle.nvme_audit.specs.declared.facts.Command.{Command}
 use Rattle.nvme_audit.specs.declared.verdict.Verdict.{Verdict}
 use Rattle.nvme_audit.specs.declared.judge.Judge.{Judge}
+use Rattle.nvme_audit.specs.declared.repair.WholeJudge.{WholeJudge}
 use Rattle.nvme_audit.specs.Lives.{turns_sq}
 use Rattle.nvme_audit.specs.Queues.{ring_by, deletes_sq, turns_cq, qsize_by}
 use Rattle.nvme_audit.specs.Rings.{advanced_where_open, qsize_in}
@@ -20,7 +21,8 @@ use Rattle.nvme_audit.specs.Aborts.{is_abort, names, is_aborted, told_of}
 use Rattle.nvme_audit.specs.Host.{is_kept, tail_verdict, head_verdict}
 use Rattle.nvme_audit.specs.Rules.{fetch_verdict, if_kept, post_verdict}
 use Rattle.nvme_audit.specs.Answers.{answered_in, mark_in, answer_verdict}
-use Rattle.nvme_audit.specs.Standing.{sq_at, cq_at, command_at}
+use Rattle.nvme_audit.specs.Repairs.{Queue, All, SQ, CQ, lets_go, is_of, turns}
+use Rattle.nvme_audit.specs.Standing.{sq_at, cq_at, command_at, gone_at, gone_in}
 
 -- ---- verdicts, by what is kept
 abbrev pub verdict_at : Judge → Event → Verdict
@@ -412,3 +414,21 @@ pub record Notes (old new : Judge) (command : AdminCommand) (dw0 : Option ℕ) :
   pub cqs_stay : (k : ℕ) → cq_at new k ≡ cq_at old k
   pub admin : new.admin ≡ admin_noting command dw0 old.admin
   pub commands_stay : new.commands ≡ old.commands
+
+-- ---- changes of a judge that goes on
+-- the queues of an event go, where what is said of it does so
+abbrev pub gone_more : (old : WholeJudge) → Verdict → Event → Queue → Bool
+gone_more old said event queue = (is_of event queue && lets_go said) || gone_in old queue
+
+pub record LetsGo (old new : WholeJudge) (said : Verdict) (event : Event) : Type 0 where
+  pub judge_stays : new.judge ≡ old.judge
+  pub all_is : new.all ≡ gone_more old said event All
+  pub sqs_are : (q : ℕ) → gone_at new.sqs q ≡ gone_more old said event (SQ q)
+  pub cqs_are : (q : ℕ) → gone_at new.cqs q ≡ gone_more old said event (CQ q)
+
+-- a queue comes back that a command with success opens or closes
+pub record Reopens (old new : WholeJudge) (command : AdminCommand) : Type 0 where
+  pub judge_stays : new.judge ≡ old.judge
+  pub all_stays : new.all ≡ old.all
+  pub sqs_are : (q : ℕ) → gone_at new.sqs q ≡ (not (turns command (SQ q)) && gone_at old.sqs q)
+  pub cqs_are : (q : ℕ) → gone_at new.cqs q ≡ (not (turns command (CQ q)) && gone_at old.cqs q)
