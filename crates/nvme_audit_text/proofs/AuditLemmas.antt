@@ -50,7 +50,7 @@ audits_broken start past found event said rule old new judge taken broken there 
 
 -- ---- one line
 -- one line more, of those before the others
-reverse_more : (line : ℕ × List ℕ) (lines rest : List (ℕ × List ℕ)) → reverse lines ++ line ∷ rest ≡ reverse (line ∷ lines) ++ rest
+pub reverse_more : (line : ℕ × List ℕ) (lines rest : List (ℕ × List ℕ)) → reverse lines ++ line ∷ rest ≡ reverse (line ∷ lines) ++ rest
 reverse_more line lines rest = sym (append_assoc (reverse lines) (line ∷ []) rest) ∙ ap (λ (ls : List (ℕ × List ℕ)). ls ++ rest) (sym (reverse-cons line lines))
 
 -- after the head
@@ -193,14 +193,14 @@ pub later : (view : View) (P : List ℕ → Type 0) (known : Option (List ℕ)) 
 later view P None n new head t h = tt
 later view P (Some text) n new head t h = h text t
 
-pub all_answers : (view : View) (known : Option (List ℕ)) (n : ℕ) (new : Option (List ℕ)) (head : Head) (r : Result Audit LogError) → TakesTold (λ line. head_of_line view line ≡ Ok head) 0 known n new
-    → IfOk r (λ audit. (text : List ℕ) → TakesTold (λ line. head_of_line view line ≡ Ok head) 0 (Some text) n new → IsAudit view text audit)
-    → IfOk r (λ audit. IfSome known (λ text. IsAudit view text audit))
-all_answers view known n new head (Ok x) t h = later view (λ text. IsAudit view text x) known n new head t h
-all_answers view known n new head (Err e) t h = tt
+pub all_answers : {A : Type 0} (view : View) (P : List ℕ → A → Type 0) (known : Option (List ℕ)) (n : ℕ) (new : Option (List ℕ)) (head : Head) (r : Result A LogError) → TakesTold (λ line. head_of_line view line ≡ Ok head) 0 known n new
+    → IfOk r (λ a. (text : List ℕ) → TakesTold (λ line. head_of_line view line ≡ Ok head) 0 (Some text) n new → P text a)
+    → IfOk r (λ a. IfSome known (λ text. P text a))
+all_answers view P known n new head (Ok x) t h = later view (λ text. P text x) known n new head t h
+all_answers view P known n new head (Err e) t h = tt
 
-pub all_faults : (view : View) (known : Option (List ℕ)) (n : ℕ) (new : Option (List ℕ)) (head : Head) (r : Result Audit LogError) → TakesTold (λ line. head_of_line view line ≡ Ok head) 0 known n new
-    → IfErr r (λ e. (text : List ℕ) → TakesTold (λ line. head_of_line view line ≡ Ok head) 0 (Some text) n new → IsFault view text e)
-    → IfErr r (λ e. IfSome known (λ text. IsFault view text e))
-all_faults view known n new head (Ok x) t h = tt
-all_faults view known n new head (Err e) t h = later view (λ text. IsFault view text e) known n new head t h
+pub all_faults : {A : Type 0} (view : View) (P : List ℕ → LogError → Type 0) (known : Option (List ℕ)) (n : ℕ) (new : Option (List ℕ)) (head : Head) (r : Result A LogError) → TakesTold (λ line. head_of_line view line ≡ Ok head) 0 known n new
+    → IfErr r (λ e. (text : List ℕ) → TakesTold (λ line. head_of_line view line ≡ Ok head) 0 (Some text) n new → P text e)
+    → IfErr r (λ e. IfSome known (λ text. P text e))
+all_faults view P known n new head (Ok x) t h = tt
+all_faults view P known n new head (Err e) t h = later view (λ text. P text e) known n new head t h

@@ -6,3 +6,4 @@ pub mod ToldLemmas
 pub mod CountLemmas
 pub mod AuditLemmas
 pub mod FirstLemmas
+pub mod WholeLemmas

@@ -1,7 +1,9 @@
--- The first breaches of the host.
-use Rattle.std.proofs.Common.{◌≡◌, ℕ, ◌<◌, ◌≤◌, zero, suc, List, [], ◌∷◌, ◌++◌, length, take, refl, sym, ap, ◌∙◌, arith}
+-- The first breaches of some kind.
+use Rattle.std.proofs.Common.{◌≡◌, ℕ, ◌+◌, ◌<◌, ◌≤◌, zero, suc, List, [], ◌∷◌, ◌++◌, length, take, refl, sym, ap, ◌∙◌, arith}
+use Rattle.std.proofs.lemmas.List.{length-append}
 use Rattle.nvme_audit_text.specs.declared.audit.Finding.{Finding}
-use Rattle.nvme_audit_text.specs.Audits.{most_told}
+use Rattle.nvme_audit_text.specs.declared.whole.Told.{Told}
+use Rattle.nvme_audit_text.specs.WholeAudits.{AreTold}
 
 take_none : (n : ℕ) → take {A = Finding} n [] ≡ []
 take_none zero = refl
@@ -17,8 +19,18 @@ takes_none zero found finding many = refl
 takes_none (suc n) [] finding many = absurd (omega (arith, many))
 takes_none (suc n) (it ∷ found) finding many = ap (λ (l : List Finding). it ∷ l) (takes_none n found finding (omega (arith, many)))
 
-pub one_more_told : (found told more : List Finding) (finding : Finding) → told ≡ take most_told found → length told < most_told → more ≡ told ++ finding ∷ [] → more ≡ take most_told (found ++ finding ∷ [])
-one_more_told found told more finding is few one = one ∙ (ap (λ (l : List Finding). l ++ finding ∷ []) is ∙ sym (takes_one most_told found finding (rw (sym is) few)))
+pub one_more_told : (most : ℕ) (found told more : List Finding) (finding : Finding) → told ≡ take most found → length told < most → more ≡ told ++ finding ∷ [] → more ≡ take most (found ++ finding ∷ [])
+one_more_told most found told more finding is few one = one ∙ (ap (λ (l : List Finding). l ++ finding ∷ []) is ∙ sym (takes_one most found finding (rw (sym is) few)))
 
-pub enough_told : (found told : List Finding) (finding : Finding) → told ≡ take most_told found → most_told ≤ length told → told ≡ take most_told (found ++ finding ∷ [])
-enough_told found told finding is many = is ∙ sym (takes_none most_told found finding (rw (sym is) many))
+pub enough_told : (most : ℕ) (found told : List Finding) (finding : Finding) → told ≡ take most found → most ≤ length told → told ≡ take most (found ++ finding ∷ [])
+enough_told most found told finding is many = is ∙ sym (takes_none most found finding (rw (sym is) many))
+
+-- the first findings, and their number
+pub none_told : (most : ℕ) (told : Told) → told.first.items ≡ [] → told.count ≡ 0 → AreTold most [] told
+none_told most told none zero_is = record { first_are = none ∙ sym (take_none most); count_is = zero_is }
+
+pub one_more_found : (most : ℕ) (found : List Finding) (finding : Finding) (old new : Told) → new.count ≡ old.count + 1 → (old.first.items ≡ take most found → new.first.items ≡ take most (found ++ finding ∷ [])) → AreTold most found old → AreTold most (found ++ finding ∷ []) new
+one_more_found most found finding old new more first told = record {
+  first_are = first told.first_are;
+  count_is = omega (arith, more, told.count_is, length-append found (finding ∷ []));
+}

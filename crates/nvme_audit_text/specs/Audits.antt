@@ -65,20 +65,21 @@ abbrev pub added : Option Event → Past → Past
 added None past = past
 added (Some event) past = event ∷ past
 
--- some lines after a head, the last one first, tell these events. At these the host breaks a rule, the first one first
-abbrev pub TellEvents : View → Head → List (ℕ × List ℕ) → Past → List Finding → Type 0
-TellEvents view head [] past found = (past ≡ []) × (found ≡ [])
-TellEvents view head (line ∷ earlier) past found =
+-- some lines after a head, the last one first, tell these events. This is found at them, the first one first
+abbrev pub TellEvents : (Start → Past → ℕ → Option Event → List Finding) → View → Head → List (ℕ × List ℕ) → Past → List Finding → Type 0
+TellEvents at view head [] past found = (past ≡ []) × (found ≡ [])
+TellEvents at view head (line ∷ earlier) past found =
     (said : Option Event) × (before : Past) × (fewer : List Finding) × (event_of_line view head line.1 ≡ Ok said) × (past ≡ added said before)
-    × (found ≡ fewer ++ host_at head.start before line.0 said) × TellEvents view head earlier before fewer
+    × (found ≡ fewer ++ at head.start before line.0 said) × TellEvents at view head earlier before fewer
 
--- the first lines of a text that aren't blank, before others: a head, and lines that tell the events of a lawful log
+-- the first lines of a text that aren't blank, before others: a head, and lines that tell the events of a lawful log. At those that are
+-- found the host breaks a rule
 pub record IsLawfulBefore (view : View) (text : List ℕ) (later : List (ℕ × List ℕ)) (head : Head) (past : Past) (found : List Finding) : Type 0 where
   pub first : ℕ × List ℕ
   pub lines : List (ℕ × List ℕ)
   pub split : told_lines text ≡ first ∷ reverse lines ++ later
   pub head_is : head_of_line view first.1 ≡ Ok head
-  pub tells : TellEvents view head lines past found
+  pub tells : TellEvents host_at view head lines past found
   pub lawful : IsLawfulLog head.start past
 
 -- ---- answers

@@ -6,5 +6,6 @@ pub mod Format
 pub mod Views
 pub mod Names
 pub mod Audits
+pub mod WholeAudits
 pub mod Laws
 pub mod inside

@@ -24,8 +24,8 @@ use nvme_lines::{NextError, NumberedLines};
 use std::alloc::Global;
 use std::io::Read;
 
-// How many breaches of the host are told.
-const MOST_TOLD: usize = 10;
+/// How many breaches of the host are told.
+pub(crate) const MOST_TOLD: usize = 10;
 
 /// A line at which a rule is broken.
 #[derive(Clone, Copy)]
@@ -64,8 +64,8 @@ struct Auditor {
     asked: [Count; RULE_COUNT],
 }
 
-// The fault of a judge.
-fn fault_of(error: AuditError) -> LogError
+/// The fault of a judge.
+pub(crate) fn fault_of(error: AuditError) -> LogError
     ensures { IsOther result }
 {
     match error {
@@ -97,8 +97,8 @@ fn judged(judge: &mut Judge, event: &Event) -> Result<Verdict, LogError>
     }
 }
 
-// One more breach of the host.
-fn one_more(count: u64) -> Result<u64, LogError>
+/// One more breach.
+pub(crate) fn one_more(count: u64) -> Result<u64, LogError>
     ensures more { IfOk result (λ n. n ≡ count + 1) }
     ensures other { IfErr result IsOther }
 {
@@ -108,20 +108,21 @@ fn one_more(count: u64) -> Result<u64, LogError>
     }
 }
 
-// Keeps one more breach of the host, where few are kept.
+/// Keeps one more finding, where fewer than these are kept.
 #[tactic(auto, using(crate::proofs::ToldLemmas::one_more_told, crate::proofs::ToldLemmas::enough_told))]
-fn keep_first(
-    host: &mut Vec<Finding>,
+pub(crate) fn keep_first(
+    kept: &mut Vec<Finding>,
+    most: usize,
     line: u64,
     event: Event,
     said: Verdict,
     facts: Facts,
 ) -> Result<(), LogError>
-    ensures first { OnOk result ((found : List Finding) → host.old.items ≡ take most_told found → host.new.items ≡ take most_told (found ++ record { line = line; event = event; said = said; facts = facts } ∷ [])) }
+    ensures first { OnOk result ((found : List Finding) → kept.old.items ≡ take most found → kept.new.items ≡ take most (found ++ record { line = line; event = event; said = said; facts = facts } ∷ [])) }
     ensures other { IfErr result IsOther }
 {
-    if host.len() < MOST_TOLD {
-        host.push(Finding {
+    if kept.len() < most {
+        kept.push(Finding {
             line,
             event,
             said,
@@ -165,7 +166,7 @@ impl Auditor {
             })),
             Verdict::Host(_) => {
                 self.host_breaches = one_more(self.host_breaches)?;
-                keep_first(&mut self.host, line, event, said, facts)?;
+                keep_first(&mut self.host, MOST_TOLD, line, event, said, facts)?;
                 Ok(None)
             }
         }
@@ -274,8 +275,8 @@ fn no_head(alloc: Global) -> LogError
     }
 }
 
-// Reads the head, the first line that isn't blank.
-fn head_in_text<R: Read>(
+/// Reads the head, the first line that isn't blank.
+pub(crate) fn head_in_text<R: Read>(
     alloc: Global,
     through: &View,
     lines: &mut NumberedLines<R>,
@@ -293,8 +294,8 @@ fn head_in_text<R: Read>(
     }
 }
 
-// Reads the next line after the head that isn't blank: the event that it tells, if any. `None` at the end of the log.
-fn said_next<R: Read>(
+/// Reads the next line after the head that isn't blank: the event that it tells, if any. `None` at the end of the log.
+pub(crate) fn said_next<R: Read>(
     alloc: Global,
     through: &View,
     head: &Head,

@@ -3,6 +3,7 @@ ghost use Rattle.std.specs.Prelude.{◌≡◌, ◌+◌};
 
 use crate::audit::{Audit, Finding};
 use crate::names::{breach_name, rule_name, section_of, section_of_breach};
+use crate::whole::WholeAudit;
 use nvme_audit::{Breach, Command, Completion, Cq, Event, Rule, Sq, Verdict};
 use std::fmt;
 
@@ -313,22 +314,66 @@ impl fmt::Display for Finding {
     }
 }
 
+// Writes how many breaches of some kind aren't told.
+fn put_more<W: fmt::Write>(
+    who: &str,
+    count: u64,
+    told: usize,
+    f: &mut fmt::Formatter<W>,
+) -> fmt::Result {
+    match count.saturating_sub(told as u64) {
+        0 => Ok(()),
+        more => write!(f, "\n{who}: and {more} more"),
+    }
+}
+
+// Writes the breaches of the host that are told, and how many more there are.
+fn put_hosts<W: fmt::Write>(
+    told: &[Finding],
+    count: u64,
+    f: &mut fmt::Formatter<W>,
+) -> fmt::Result {
+    for finding in told {
+        write!(f, "\n{finding}")?;
+    }
+    put_more("host", count, told.len(), f)
+}
+
+// Writes that the controller breaks no rule.
+fn put_lawful<W: fmt::Write>(lines: u64, f: &mut fmt::Formatter<W>) -> fmt::Result {
+    write!(f, "lawful: {lines} lines")
+}
+
 impl fmt::Display for Audit {
     fn fmt<W: fmt::Write>(&self, f: &mut fmt::Formatter<W>) -> fmt::Result {
         match &self.broken {
             Some(finding) => write!(f, "{finding}")?,
-            None => {
-                let lines = self.lines;
-                write!(f, "lawful: {lines} lines")?;
-            }
+            None => put_lawful(self.lines, f)?,
         }
-        for finding in &self.host {
-            write!(f, "\n{finding}")?;
+        put_hosts(&self.host, self.host_breaches, f)
+    }
+}
+
+// Writes the breaches of the controller that are told, and how many more there are.
+fn put_all_broken<W: fmt::Write>(
+    told: &[Finding],
+    count: u64,
+    f: &mut fmt::Formatter<W>,
+) -> fmt::Result {
+    let mut before = "";
+    for finding in told {
+        write!(f, "{before}{finding}")?;
+        before = "\n";
+    }
+    put_more("broken", count, told.len(), f)
+}
+
+impl fmt::Display for WholeAudit {
+    fn fmt<W: fmt::Write>(&self, f: &mut fmt::Formatter<W>) -> fmt::Result {
+        if self.broken.first.is_empty() {
+            put_lawful(self.lines, f)?;
         }
-        let more = self.host_breaches.saturating_sub(self.host.len() as u64);
-        if more > 0 {
-            write!(f, "\nhost: and {more} more")?;
-        }
-        Ok(())
+        put_all_broken(&self.broken.first, self.broken.count, f)?;
+        put_hosts(&self.host.first, self.host.count, f)
     }
 }

@@ -13,6 +13,7 @@ mod names;
 mod notes;
 mod reading;
 mod views;
+mod whole;
 
 pub use audit::{Audit, Finding, audit_log};
 pub use events::{event_of_line, head_of_line};
@@ -23,3 +24,4 @@ pub use laws::{breaches_are_first, each_rule_stands};
 pub use names::{breach_name, rule_name, rule_named, rules};
 pub use nvme_audit::{Breach, Count, Rule, Verdict};
 pub use views::{Completions, Observer, View};
+pub use whole::{Told, WholeAudit, audit_whole_log};

@@ -9,7 +9,7 @@ use Rattle.nvme_audit.specs.declared.judge.Judge.{Judge}
 use Rattle.nvme_audit.specs.declared.verdict.Verdict.{Verdict}
 use Rattle.nvme_audit.specs.Lives.{Past}
 use Rattle.nvme_audit.specs.Lawful.{verdict, is_broken, IsLawfulLog}
-use Rattle.nvme_audit.specs.Standing.{StandsAt}
+use Rattle.nvme_audit.specs.Standing.{StandsAt, GoesOnAt}
 use Rattle.nvme_audit_text.specs.declared.fault.LineFault.{LineFault}
 use Rattle.nvme_audit_text.specs.declared.fault.LineFault.TheVariants.{NoHead, NoMemory, TooLong}
 use Rattle.nvme_audit_text.specs.declared.fault.LogError.{LogError}
@@ -19,7 +19,9 @@ use Rattle.nvme_audit_text.specs.declared.head.Head.{Head}
 use Rattle.nvme_audit_text.specs.declared.audit.Finding.{Finding}
 use Rattle.nvme_audit_text.specs.declared.audit.Auditor.{Auditor}
 use Rattle.nvme_audit_text.specs.Format.{head_of_line, event_of_line}
+use Rattle.nvme_audit_text.specs.declared.whole.WholeAuditor.{WholeAuditor}
 use Rattle.nvme_audit_text.specs.Audits.{IsLawfulBefore, facts_of, host_breaches, most_told, asked_in}
+use Rattle.nvme_audit_text.specs.WholeAudits.{most_broken, AreTold, asked_whole, IsJudgedBefore}
 
 -- a judge takes an event
 pub record IsTaken (start : Start) (past : Past) (event : Event) (said : Verdict) (old new : Judge) : Type 0 where
@@ -92,3 +94,24 @@ pub record IsAuditedUpTo (view : View) (text rest : List ℕ) (number : ℕ) (he
 abbrev pub AuditedUpTo : View → List ℕ → Option (List ℕ) → ℕ → Head → Auditor → Type 0
 AuditedUpTo view text None number head auditor = ⊥
 AuditedUpTo view text (Some rest) number head auditor = IsAuditedUpTo view text rest number head auditor
+
+-- ---- a whole log
+-- an auditor that goes on stands at a log, with these breaches of the controller, and these of the host
+pub record GoesOn (start : Start) (past : Past) (broken hosts : List Finding) (auditor : WholeAuditor) : Type 0 where
+  pub stands : GoesOnAt start past auditor.judge
+  pub broken_are : AreTold most_broken broken auditor.broken
+  pub hosts_are : AreTold most_told hosts auditor.host
+  pub asked_are : auditor.asked ≡ asked_whole start past
+
+-- it stands where this many lines were read
+pub record IsJudgedUpTo (view : View) (text rest : List ℕ) (number : ℕ) (head : Head) (auditor : WholeAuditor) : Type 0 where
+  pub past : Past
+  pub broken : List Finding
+  pub hosts : List Finding
+  pub in_all : length (lines_of text) ≡ number + length (lines_of rest)
+  pub before : IsJudgedBefore view text (numbered number (lines_of rest)) head past broken hosts
+  pub goes_on : GoesOn head.start past broken hosts auditor
+
+abbrev pub JudgedUpTo : View → List ℕ → Option (List ℕ) → ℕ → Head → WholeAuditor → Type 0
+JudgedUpTo view text None number head auditor = ⊥
+JudgedUpTo view text (Some rest) number head auditor = IsJudgedUpTo view text rest number head auditor
