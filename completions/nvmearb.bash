@@ -30,7 +30,7 @@ _nvmearb() {
                     simulate) words="--seed --commands --time --warm-up --load --sweep --seeds --jobs --points --no-head --class --format --json --bounds --log --trace --chart --output --help" files=toml ;;
                     lint | expand) words="--help" files=toml ;;
                     check) words="--spec --all --quiet --format --json --help" files=any ;;
-                    audit) words="--observer --only --without --coverage --quiet --format --json --help" files=any ;;
+                    audit) words="--observer --only --without --all --coverage --quiet --format --json --help" files=any ;;
                     chart) words="--from --to --no-admin --output --help" files=any ;;
                     stats) words="--from --to --backlogged --window --format --json --help" files=any ;;
                     loaded | live) words="--workers --help" ;;

@@ -32,6 +32,7 @@ complete -c nvmearb -n '__fish_seen_subcommand_from check' -l all -d 'Tell all p
 complete -c nvmearb -n '__fish_seen_subcommand_from audit' -l observer -x -a 'bus host' -d 'Judge as if only that were told'
 complete -c nvmearb -n '__fish_seen_subcommand_from audit' -l only -x -a 'fetch-closed fetch-beyond-tail fetch-slot post-closed slot phase cq-full cq-wrong life sqhd sqdel-unasked abort-unasked abort-untrue status-foreign status-create status-delete features' -d 'Rules to judge by'
 complete -c nvmearb -n '__fish_seen_subcommand_from audit' -l without -x -a 'fetch-beyond-tail fetch-slot slot phase cq-full sqhd' -d 'Rules to leave out'
+complete -c nvmearb -n '__fish_seen_subcommand_from audit' -l all -d 'Tell all breaches of the controller'
 complete -c nvmearb -n '__fish_seen_subcommand_from audit' -l coverage -d 'Tell of each rule of how many events it asked something'
 complete -c nvmearb -n '__fish_seen_subcommand_from check audit' -l quiet -d 'Tell nothing but the status'
 complete -c nvmearb -n '__fish_seen_subcommand_from check audit' -l format -x -a 'text json junit' -d 'How the answer is written'

@@ -9,6 +9,8 @@ TURNS, SET_FEATURES, NUMBER_OF_QUEUES = CREATES | DELETES, 9, 7
 # The command specific statuses of an opcode, below those of the vendor.
 SPECIFIC, VENDOR = {0: {1}, 1: {0, 1, 2}, 4: {1, 0x0C}, 5: {1, 2, 8}, 8: {3}}, 0xC0
 ABORT = 8
+# The rules of rings and of the order of events. The others are of a status alone.
+ORDER = set("fetch-closed fetch-beyond-tail fetch-slot post-closed slot phase cq-full cq-wrong life sqhd".split())
 SUCCESS, ABORTED, ABORTED_BY_DELETION, BAD_CQ, BAD_IDENTIFIER, BAD_DELETION = 0, 0x07, 0x08, 0x100, 0x101, 0x10C
 
 
@@ -363,22 +365,61 @@ class Log:
             return queue != 0 and not self.during(own, n, lambda it: TURNS.get(it[0]) == "sq")
         return status == SUCCESS or status == BAD_IDENTIFIER and queue != 0
 
-    def coverage(self):
+    def names(self, n):
+        """The queues that event n names."""
+        kind, queue, _, rest = self.events[n]
+        if kind == "post":
+            return {("cq", queue), ("sq", rest[0])}
+        return {("cq" if kind == "head" else "sq", queue)}
+
+    def answers(self, n):
+        """The queues that the admin command names which event n answers."""
+        kind, _, _, rest = self.events[n]
+        own = self.outstanding(n, 0, rest[1]) if kind == "post" and rest[0] == 0 else None
+        if own is None:
+            return set()
+        command = self.events[own][3][1:]
+        found = {("sq", command[1] & 0xFFFF)} if command[0] == ABORT else {of_queue(command)} - {None}
+        return found | {("cq", command[2] >> 16)} if command[0] == 1 else found
+
+    def lets_go(self, n):
+        """Whether a breach is told of event n after which nobody knows where its queues stand."""
+        who, rule = self.said(n) or (None, None)
+        return who == "controller" and rule in ORDER
+
+    def is_let_go(self, n, side, queue):
+        """Whether such a breach let a queue go before event n, since that was opened or closed."""
+        since = self.since(n, side, queue)[0]
+        return any((side, queue) in self.names(i) and self.lets_go(i) for i in range(since, n))
+
+    @functools.cache
+    def is_passed_over(self, n):
+        """Whether nothing is said of event n: a queue that it names or answers for was let go, or all were by queue 0."""
+        if any({("sq", 0), ("cq", 0)} & self.names(i) and self.lets_go(i) for i in range(n)):
+            return True
+        return any(self.is_let_go(n, *queue) for queue in self.names(n) | self.answers(n))
+
+    @functools.cache
+    def said(self, n):
+        """Who breaks which rule at event n, where it isn't passed over."""
+        return None if self.is_passed_over(n) else self.verdict(n)
+
+    def coverage(self, whole=False):
         """Of each rule, how many events it asks something of, up to the one at which the controller breaks a rule first."""
         counts = collections.Counter()
         for n in range(len(self.events)):
-            counts.update(self.asks(n))
-            if (self.verdict(n) or ("host",))[0] == "controller":
+            counts.update(self.asks(n) if not whole or not self.is_passed_over(n) else ())
+            if not whole and (self.verdict(n) or ("host",))[0] == "controller":
                 break
         return dict(counts)
 
-    def breaches(self):
-        """The lines of what is broken, up to the controller's first."""
+    def breaches(self, whole=False):
+        """The lines of what is broken, up to the controller's first, or in the whole log."""
         found = []
         for n in range(len(self.events)):
-            broken = self.verdict(n)
+            broken = self.said(n) if whole else self.verdict(n)
             if broken:
                 found.append((self.lines[n], *broken))
-            if broken and broken[0] == "controller":
+            if not whole and broken and broken[0] == "controller":
                 break
         return found

@@ -109,7 +109,7 @@ trace name = with_rule (new_app name) file
 abbrev pub spec : Rule
 spec = record (new_rule (codes "spec")) { long = Some (codes "spec"); action = Some SetTrue }
 
--- all picks that differ are told
+-- all picks that differ are told, or all breaches
 abbrev pub all : Rule
 all = record (new_rule (codes "all")) { long = Some (codes "all"); action = Some SetTrue }
 
@@ -144,7 +144,7 @@ viewed = with_rule (with_rule (with_rule (trace (codes "audit")) (text_option (c
 
 -- and what is told
 abbrev pub audit : App
-audit = with_rule (with_rule (with_rule viewed coverage) quiet) (text_option (codes "format"))
+audit = with_rule (with_rule (with_rule (with_rule viewed all) coverage) quiet) (text_option (codes "format"))
 
 -- a dword, in place of a file
 abbrev pub dword : Rule

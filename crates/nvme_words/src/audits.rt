@@ -15,6 +15,8 @@ pub struct AuditWords<'a> {
     pub only: Option<&'a str>,
     /// The rules to leave out, as they stand there.
     pub without: Option<&'a str>,
+    /// Whether all breaches of the controller are told, not only the first.
+    pub all: bool,
     /// Whether it is told how often each rule asked something.
     pub coverage: bool,
 }
@@ -35,6 +37,7 @@ pub fn audit_asked<'a>(
                 observer: asked.get_str("observer"),
                 only: asked.get_str("only"),
                 without: asked.get_str("without"),
+                all: asked.get_flag("all"),
                 coverage: asked.get_flag("coverage"),
             })),
             _ => Ok(None),

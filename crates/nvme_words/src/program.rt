@@ -264,15 +264,20 @@ fn trace_command<'a>(
     Command::new(alloc, name).about(about).arg(file)
 }
 
-// Whether all picks that differ are told.
-fn all_arg<'a>(alloc: Global) -> Arg<'a>
+// What `--all` says of picks, and of breaches.
+const ALL_PICKS: &str =
+    "Go on after a pick that differs: tell the first ten, and how many there are; not with --spec";
+
+const ALL_BREACHES: &str = "\
+Go on after a breach of the controller, with the queues that it doesn't touch: tell the first 1000";
+
+// Whether all picks that differ are told, or all breaches.
+fn all_arg<'a>(alloc: Global, help: &'a str) -> Arg<'a>
     ensures { HasRule all result }
 {
     Arg::new(alloc, "all")
         .long("all")
-        .help(
-            "Go on after a pick that differs: tell the first ten, and how many there are; not with --spec",
-        )
+        .help(help)
         .action(ArgAction::SetTrue)
 }
 
@@ -306,7 +311,7 @@ fn check_command<'a>(alloc: Global) -> Result<Command<'a>, AllocError>
         .after_help(CHECK_STATUSES)
         .arg(file_arg(alloc, FILES, help))?
         .arg(spec)?
-        .arg(all_arg(alloc))?
+        .arg(all_arg(alloc, ALL_PICKS))?
         .arg(quiet_arg(alloc))?
         .arg(text_arg(alloc, "format", "FORMAT", VERDICT_FORMAT))
 }
@@ -416,8 +421,8 @@ fn viewed_command<'a>(alloc: Global) -> Result<Command<'a>, AllocError>
 fn audit_command<'a>(alloc: Global) -> Result<Command<'a>, AllocError>
     ensures { IfOk result (HasApp audit) }
 {
-    let format = "How the answer is written: text, json or junit; without it text";
     viewed_command(alloc)?
+        .arg(all_arg(alloc, ALL_BREACHES))?
         .arg(coverage_arg(alloc))?
         .arg(quiet_arg(alloc))?
         .arg(text_arg(alloc, "format", "FORMAT", VERDICT_FORMAT))

@@ -4,7 +4,8 @@ ghost use Rattle.std.specs.Prelude.{◌≤◌, IfErr};
 use crate::noted::{Noted, Notes};
 use crate::telling::{failed, no_memory, unwritten};
 use nvme_audit_text::{
-    Audit, Count, LogError, Observer, Rule, View, audit_log, rule_name, rule_named, rules,
+    Audit, Count, LogError, Observer, Rule, View, WholeAudit, audit_log, audit_whole_log,
+    rule_name, rule_named, rules,
 };
 use nvme_program::AuditWords;
 use std::alloc::Global;
@@ -128,33 +129,42 @@ fn put_count<W: Write>(count: &Count, output: &mut W) -> io::Result<()> {
     }
 }
 
-// Writes what was found, and how often each rule asked something where that is wanted.
-fn put_answer<W: Write>(audit: &Audit, coverage: bool, output: &mut W) -> io::Result<()> {
-    writeln!(output, "{audit}")?;
+// Writes how often each rule asked something, where that is wanted.
+fn put_counts<W: Write>(counts: &[Count], coverage: bool, output: &mut W) -> io::Result<()> {
     if coverage {
-        for count in &audit.asked {
+        for count in counts {
             put_count(count, output)?;
         }
     }
     Ok(())
 }
 
-// Writes the answer. The answer is the exit status.
-fn put_audit<W: Write, E: Write>(
-    audit: &Audit,
-    coverage: bool,
-    output: &mut W,
+// Writes what was found.
+fn put_audit<W: Write>(audit: &Audit, coverage: bool, output: &mut W) -> io::Result<()> {
+    writeln!(output, "{audit}")?;
+    put_counts(&audit.asked, coverage, output)
+}
+
+// Writes what was found where all breaches are told.
+fn put_whole_audit<W: Write>(audit: &WholeAudit, coverage: bool, output: &mut W) -> io::Result<()> {
+    writeln!(output, "{audit}")?;
+    put_counts(&audit.asked, coverage, output)
+}
+
+// The exit status of an answer that was written, or not.
+fn status_of<E: Write>(
+    written: io::Result<()>,
+    is_broken: bool,
+    host_breaches: u64,
     errors: &mut E,
 ) -> u8
     ensures { result ≤ 4 }
 {
-    if put_answer(audit, coverage, output).is_err() {
-        return unwritten(errors);
-    }
-    match &audit.broken {
-        Some(_) => BROKEN,
-        None if audit.host_breaches > 0 => HOST,
-        None => 0,
+    match written {
+        Err(_) => unwritten(errors),
+        Ok(()) if is_broken => BROKEN,
+        Ok(()) if host_breaches > 0 => HOST,
+        Ok(()) => 0,
     }
 }
 
@@ -169,7 +179,17 @@ fn put_fault<E: Write>(error: &LogError, errors: &mut E) -> u8
     }
 }
 
-// Audits what is read.
+// Writes why there is no answer. The answer is the exit status.
+fn put_error<E: Write>(error: LogError, errors: &mut E) -> u8
+    ensures { result ≤ 4 }
+{
+    match error {
+        LogError::NoMemory => no_memory(errors),
+        error => put_fault(&error, errors),
+    }
+}
+
+// Audits what is read, to the first breach of the controller.
 fn audited_from<R: Read + Drop, W: Write, E: Write>(
     alloc: Global,
     view: &View,
@@ -181,9 +201,50 @@ fn audited_from<R: Read + Drop, W: Write, E: Write>(
     ensures { result ≤ 4 }
 {
     match audit_log(alloc, view, input) {
-        Ok(answer) => put_audit(&answer, coverage, output, errors),
-        Err(LogError::NoMemory) => no_memory(errors),
-        Err(error) => put_fault(&error, errors),
+        Ok(audit) => {
+            let written = put_audit(&audit, coverage, output);
+            status_of(written, audit.broken.is_some(), audit.host_breaches, errors)
+        }
+        Err(error) => put_error(error, errors),
+    }
+}
+
+// Audits all that is read.
+fn all_audited_from<R: Read + Drop, W: Write, E: Write>(
+    alloc: Global,
+    view: &View,
+    coverage: bool,
+    input: R,
+    output: &mut W,
+    errors: &mut E,
+) -> u8
+    ensures { result ≤ 4 }
+{
+    match audit_whole_log(alloc, view, input) {
+        Ok(audit) => {
+            let written = put_whole_audit(&audit, coverage, output);
+            let (broken, host) = (audit.broken.count, audit.host.count);
+            status_of(written, broken > 0, host, errors)
+        }
+        Err(error) => put_error(error, errors),
+    }
+}
+
+// Audits what is read, as a line asks for it.
+fn audited_as<R: Read + Drop, W: Write, E: Write>(
+    alloc: Global,
+    view: &View,
+    line: &AuditWords,
+    input: R,
+    output: &mut W,
+    errors: &mut E,
+) -> u8
+    ensures { result ≤ 4 }
+{
+    if line.all {
+        all_audited_from(alloc, view, line.coverage, input, output, errors)
+    } else {
+        audited_from(alloc, view, line.coverage, input, output, errors)
     }
 }
 
@@ -202,18 +263,18 @@ pub(crate) fn audited<R: AllocGlobal + Files + Input, W: Write, E: Write>(
         Ok(view) => view,
         Err(status) => return status,
     };
-    let (alloc, coverage) = (rt.alloc(), line.coverage);
+    let alloc = rt.alloc();
     match line.file {
         Some(name) => match fs::open(rt, name) {
             Ok(file) => {
                 let input = Noted::new(file, notes);
-                audited_from(alloc, &view, coverage, input, output, errors)
+                audited_as(alloc, &view, line, input, output, errors)
             }
             Err(error) => failed("open", name, &error, errors),
         },
         None => {
             let input = Noted::new(rt.reader(), notes);
-            audited_from(alloc, &view, coverage, input, output, errors)
+            audited_as(alloc, &view, line, input, output, errors)
         }
     }
 }

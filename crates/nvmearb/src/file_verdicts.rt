@@ -85,6 +85,12 @@ impl Checks {
             || self.unknown.is_some()
     }
 
+    /// Whether all breaches of a log are told.
+    pub(crate) fn tell_all(&self) -> bool {
+        let mut options = self.options.iter();
+        self.task == Task::Audit && options.any(|it| it.as_str() == "--all")
+    }
+
     /// The words for this file.
     pub(crate) fn words_for(&self, alloc: Global, file: &str) -> Result<Vec<String>, AllocError> {
         let mut words = Vec::new(alloc);
@@ -172,6 +178,8 @@ pub(crate) fn asked(alloc: Global, words: &[String]) -> Result<Option<Checks>, A
 #[derive(Drop)]
 pub(crate) struct Judged {
     pub(crate) task: Task,
+    // Whether all breaches of a log are told.
+    pub(crate) tells_all: bool,
     pub(crate) file: String,
     pub(crate) status: u8,
     pub(crate) answer: Kept,
@@ -254,6 +262,41 @@ fn put_lines<W: Write>(text: &[u8], output: &mut W) -> io::Result<()> {
     output.write_all(b"]")
 }
 
+// What begins the lines that tell a breach of the controller, and of the host.
+const BROKEN: &[u8] = b"broken: line ";
+
+const HOST: &[u8] = b"host: line ";
+
+// What is told of a breach of the controller behind the number of its line, with that. `None` where the line tells none.
+fn breach_in(line: &[u8]) -> Option<(&[u8], &[u8])> {
+    if !line.starts_with(BROKEN) {
+        return None;
+    }
+    let mut parts = line.get(BROKEN.len()..)?.split(|byte| *byte == b':');
+    match (parts.next(), parts.next()) {
+        (Some(number), Some([b' ', rule @ ..])) => Some((number, rule)),
+        _ => None,
+    }
+}
+
+// Writes the breaches of the controller that a text tells as an array of JSON.
+fn put_breaches<W: Write>(text: &[u8], output: &mut W) -> io::Result<()> {
+    let mut before: &[u8] = b"";
+    output.write_all(b",\"breaches\":[")?;
+    for line in lines(text).split(|byte| *byte == b'\n') {
+        if let Some((number, rule)) = breach_in(line) {
+            output.write_all(before)?;
+            output.write_all(b"{\"line\":")?;
+            output.write_all(number)?;
+            output.write_all(b",\"rule\":")?;
+            put_string(rule, output)?;
+            output.write_all(b"}")?;
+            before = b",";
+        }
+    }
+    output.write_all(b"]")
+}
+
 /// Writes the answers as an object of JSON.
 pub(crate) fn put_json<W: Write>(answers: &[Judged], output: &mut W) -> io::Result<()> {
     write!(output, "{{\"form\":{JSON_FORM},\"files\":[")?;
@@ -267,6 +310,9 @@ pub(crate) fn put_json<W: Write>(answers: &[Judged], output: &mut W) -> io::Resu
             ",\"status\":{status},\"result\":\"{result}\",\"lines\":"
         )?;
         put_lines(judged.text(), output)?;
+        if judged.tells_all {
+            put_breaches(judged.text(), output)?;
+        }
         output.write_all(b"}")?;
         before = ",";
     }
@@ -316,6 +362,41 @@ const BETWEEN: [&[u8]; 2] = [b"\t", b"\n"];
 
 const IN_ATTRIBUTE: [&[u8]; 2] = [b"&#9;", b"&#10;"];
 
+// Writes what begins a failure, where a line tells a breach. The answer tells whether it does.
+fn begin_failure<W: Write>(line: &[u8], ends_one: bool, output: &mut W) -> io::Result<bool> {
+    let kind = if line.starts_with(BROKEN) {
+        "broken"
+    } else if line.starts_with(HOST) {
+        "host"
+    } else {
+        return Ok(false);
+    };
+    if ends_one {
+        output.write_all(b"</failure>")?;
+    }
+    write!(output, "<failure message=\"{kind}\">")?;
+    Ok(true)
+}
+
+// Writes each breach that a text tells as a failure.
+fn put_failures<W: Write>(text: &[u8], output: &mut W) -> io::Result<()> {
+    let mut is_open = false;
+    for line in lines(text).split(|byte| *byte == b'\n') {
+        if begin_failure(line, is_open, output)? {
+            is_open = true;
+        } else if is_open {
+            output.write_all(b"\n")?;
+        } else {
+            continue;
+        }
+        put_xml(line, BETWEEN, output)?;
+    }
+    if is_open {
+        output.write_all(b"</failure>")?;
+    }
+    Ok(())
+}
+
 // Writes the answer to one file as a test case.
 fn put_case<W: Write>(judged: &Judged, output: &mut W) -> io::Result<()> {
     let word = judged.task.word();
@@ -323,6 +404,11 @@ fn put_case<W: Write>(judged: &Judged, output: &mut W) -> io::Result<()> {
     put_xml(judged.file.as_bytes(), IN_ATTRIBUTE, output)?;
     if judged.status == 0 {
         return output.write_all(b"\"/>\n");
+    }
+    if judged.tells_all && !judged.is_fault() {
+        output.write_all(b"\">")?;
+        put_failures(judged.text(), output)?;
+        return output.write_all(b"</testcase>\n");
     }
     let kind = if judged.is_fault() {
         "error"

@@ -177,6 +177,7 @@ fn judged<R: AllocGlobal + Files + Input + Threads + Wait + Sync>(
     }
     Ok(Judged {
         task: checks.task,
+        tells_all: checks.tell_all(),
         file: String::from_str(alloc, file)?,
         status,
         answer,
