@@ -31,12 +31,16 @@ own_queues =
     ∷ after (stray 2 8 ∷ stray 1 7 ∷ two_pairs) (stray 2 9) Kept
     ∷ []
 
--- after one at queue 0 nothing is said any more
+-- after one at queue 0 nothing is said any more, not even after its Creates
+abbrev pub made_0_again : Past
+made_0_again = reply 6 success ∷ ask 6 (create_cq 0 1) ∷ reply 5 success ∷ ask 5 (create_sq 0 1 0) ∷ stray 0 7 ∷ two_pairs
+
 abbrev pub every_queue : List Case
 every_queue =
     after two_pairs (stray 0 7) (Broken rule.Life)
     ∷ after (stray 0 7 ∷ two_pairs) (stray 1 8) Kept
     ∷ after (stray 0 7 ∷ two_pairs) (stray 2 8) Kept
+    ∷ after made_0_again (stray 1 8) Kept
     ∷ []
 
 -- both queues 1 are deleted after a breach, and created again
