@@ -94,12 +94,11 @@ impl Line {
     }
 
     /// Ends the line and writes it, by one write if the writer takes it all. `WriteFault` as `put`.
-    pub fn write<W: Write>(self, writer: &mut W) -> Result<(), WriteFault>
-        requires { length self < 256 }
-        ensures { Writes (W.contents writer.old) (W.contents writer.new) result (self ++ codes "\n") }
+    pub fn write<W: Write>(&mut self, writer: &mut W) -> Result<(), WriteFault>
+        requires { length self.old < 256 }
+        ensures { Writes (W.contents writer.old) (W.contents writer.new) result (self.old ++ codes "\n") }
     {
-        let mut line = self;
-        line.add(b"\n");
-        put(line.bytes.as_slice(), writer)
+        self.add(b"\n");
+        put(self.bytes.as_slice(), writer)
     }
 }
