@@ -7,6 +7,7 @@ Its WORDs are its own: most take one, PROGRAM, the built program. The OPTIONs be
 `-k TEXT` runs the tests that have it in their names, `-v` lists them. The last line, `N passed, M failed`, and
 `, K skipped` where some were, counts them."""
 import atexit
+import contextlib
 import functools
 import os
 import re
@@ -221,6 +222,16 @@ def all_of(check, items):
     """Checks each item, as many at a time as there are processors, and gives the answers in order."""
     with ThreadPoolExecutor(len(os.sched_getaffinity(0))) as several:
         return list(several.map(check, items))
+
+
+def written_to(terminal):
+    """All that was written to a terminal whose other end is closed."""
+    told = b""
+    # (its end is an error)
+    with contextlib.suppress(OSError):
+        while part := os.read(terminal, 65536):
+            told += part
+    return told.decode()
 
 
 def example(name):

@@ -24,6 +24,7 @@ fn is_of_order(rule: Rule) -> bool
     }
 }
 
+// Whether the queues of an event are let go by what is said of it.
 fn lets_go(verdict: Verdict) -> bool
     ensures { result ≡ lets_go verdict }
 {
@@ -65,7 +66,7 @@ fn cq_in(event: &Event) -> Option<u16>
     }
 }
 
-// The queues of one kind that were let go.
+/// The queues of one kind that were let go, by identifier.
 #[derive(Drop)]
 pub struct Gone {
     pub by_id: HashMap<u16, bool>,

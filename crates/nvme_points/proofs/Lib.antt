@@ -1,2 +1,2 @@
 mod Combinations
-pub mod Standing
+mod Standing

@@ -6,13 +6,16 @@ use toml::{Table, Value};
 /// The key of a sweep that is none of the file: the load to which the gaps of all open queues are scaled.
 pub const LOAD: &str = "load";
 
-/// The keys of a file in whose place an option may stand.
+/// The key of a file for which `--seed` may stand.
 pub const SEED: &str = "simulation.seed";
 
+/// A key for which `--commands` or `--time` may stand.
 pub const COMMANDS: &str = "simulation.commands";
 
+/// The other key for which they may stand.
 pub const TIME: &str = "simulation.time";
 
+/// The key for which `--warm-up` may stand.
 pub const WARM_UP: &str = "simulation.warm_up";
 
 // The weights of a table, in the order in which they are written.
