@@ -157,8 +157,8 @@ model_begins queues before after h g f loads few none begins =
 
 -- one host draws
 pub one_unused : (before after : Hosts) (place : ℕ) (h w : Host) → after.all.items ≡ slice_set before.all.items place w → place < length before.all.items
-    → slice_get before.all.items place ≡ Some h → asking_of w ≡ asking_of h → w.flights ≡ h.flights → StayUnused before after
-one_unused before after place h w items within at asking flights =
+    → slice_get before.all.items place ≡ Some h → asking_of w ≡ asking_of h → w.flights ≡ h.flights → w.head ≡ h.head → StayUnused before after
+one_unused before after place h w items within at asking flights head =
     let found : get_or before.all.items place h ≡ h = get_or_from_slice_get before.all.items place h h at in
     record {
       asking = ap (map asking_of) items ∙ map-set_same asking_of before.all.items place w h (asking ∙ ap asking_of (sym found));
@@ -166,7 +166,7 @@ one_unused before after place h w items within at asking flights =
       none = λ unused.
           let it : IsUnused h = subst IsUnused found (unused place h within) in
           subst (λ (hs : List Host). All IsUnused hs) (sym items)
-          (All-set IsUnused before.all.items place w (subst (λ (f : Flights). none_came f) (sym flights) it) unused);
+          (All-set IsUnused before.all.items place w (record { none = subst (λ (f : Flights). none_came f) (sym flights) it.none; head = head ∙ it.head }) unused);
     }
 
 pub unused_self : (hs : Hosts) → StayUnused hs hs

@@ -9,6 +9,7 @@ use Rattle.nvme_simulation.specs.declared.host.Host.{Host}
 use Rattle.nvme_simulation.specs.declared.hosts.Hosts.{Hosts}
 use Rattle.nvme_simulation.specs.Following.{DrawsNext, IsNextOf}
 use Rattle.nvme_simulation.specs.Moving.{HostMoves, OneMoves}
+use Rattle.nvme_simulation.specs.Rings.{Hears, OneHears}
 use Rattle.nvme_simulation.specs.Progress.{AllGoOn, Between, BetweenOne, HostComesOne, HostEndsOne, HostGoesOn, OneComes, OneEnds}
 use Rattle.nvme_simulation.proofs.Moves.{set_here, set_there}
 use Rattle.nvme_simulation.proofs.Progress.{host_comes_then, host_ends_after, host_ends_before, host_stays, host_then}
@@ -103,6 +104,15 @@ one_moves qid number from now before after place h w queue items within at moves
   place = place;
   queue = queue;
   moves = at_place (HostMoves number from now) before.all.items after.all.items place h w items within at moves;
+  others = others_same before.all.items after.all.items place w items;
+}
+
+pub one_hears : (qid sqhd : ℕ) (before after : Hosts) (place : ℕ) (h w : Host) → qid ≡ place + 1 → after.all.items ≡ slice_set before.all.items place w
+    → place < length before.all.items → slice_get before.all.items place ≡ Some h → Hears sqhd h w → OneHears qid sqhd before after
+one_hears qid sqhd before after place h w queue items within at hears = record {
+  place = place;
+  queue = queue;
+  hears = at_place (Hears sqhd) before.all.items after.all.items place h w items within at hears;
   others = others_same before.all.items after.all.items place w items;
 }
 

@@ -14,3 +14,4 @@ mod Started
 mod Stepping
 mod Taking
 mod Telling
+mod Waiting

@@ -6,12 +6,11 @@ use Rattle.nvme_channels.specs.Steps.{finish_of, pause_of, resume_of}
 use Rattle.nvme_clock.specs.Held.{Held, pushed}
 use Rattle.nvme_simulation.specs.Following.{IsNextOf, PlansIf, PlansNext}
 use Rattle.nvme_simulation.specs.Fronts.{IsFront, StaysFront}
-use Rattle.nvme_simulation.specs.Machines.{EndsAndStarts, Goes, Works}
+use Rattle.nvme_simulation.specs.Machines.{Completes, EndsAndStarts, Goes, Works}
 use Rattle.nvme_simulation.specs.Moving.{StartsIn}
 use Rattle.nvme_simulation.specs.Pausing.{GoesOn, PausesFor}
 use Rattle.nvme_simulation.specs.Plans.{events_of}
 use Rattle.nvme_simulation.specs.Progress.{AllGoOn, OneComes}
-use Rattle.nvme_simulation.specs.Resting.{AllRest}
 use Rattle.nvme_simulation.specs.Starts.{AnswersAs, PlansEnd}
 use Rattle.nvme_simulation.specs.Steps.{cost_at}
 use Rattle.nvme_simulation.specs.Times.{now_of}
@@ -19,10 +18,12 @@ use Rattle.nvme_simulation.specs.declared.agenda.Event.{Event}
 use Rattle.nvme_simulation.specs.declared.agenda.Event.TheVariants.{Arrival, Pause, Resume}
 use Rattle.nvme_simulation.specs.declared.channels.Started.{Started}
 use Rattle.nvme_simulation.specs.declared.front.Front.{Front}
+use Rattle.nvme_simulation.specs.declared.front.Taken.{Taken}
 use Rattle.nvme_simulation.specs.declared.hosts.Hosts.{Hosts}
 use Rattle.nvme_simulation.specs.declared.machine.Machine.{Machine}
 use Rattle.nvme_simulation.proofs.Hosted.{all_stay, all_then}
 use Rattle.nvme_simulation.proofs.Plans.{follows_self, follows_then, follows_time}
+use Rattle.nvme_simulation.proofs.Resting.{all_rest}
 use Rattle.nvme_simulation.proofs.Rooms.{behind_none, behind_then}
 
 pub front_stays : (f : Front) → IsFront f → StaysFront f f
@@ -105,17 +106,31 @@ plans_sum P E None (Ok x) time what a b sum none plans = absurd (cc (none refl))
 plans_sum P E (Some t) (Ok x) time what a b sum none plans = plans ∙ ap (λ (v : ℕ). pushed v what a) sum.1
 
 -- a command ends at a time that is told, and the next one starts
-pub ends_at : (t channel : ℕ) (m n : Machine) (started : Option Started) → t ≡ now_of m.agenda → AnswersAs (finish_of t channel (device_in m.device)).0 started
-    → device_in n.device ≡ (finish_of t channel (device_in m.device)).1 → PlansEnd started (events_of m.agenda) (events_of n.agenda) → (waited : Hosts)
-    → StartsIn started (now_of m.agenda) m.hosts waited → AllRest waited n.hosts → EndsAndStarts channel m n
-ends_at t channel m n started time answers device plans waited starts rests = record {
+pub ends_at : (t channel : ℕ) (taken : Taken) (m n : Machine) (started : Option Started) → t ≡ now_of m.agenda
+    → AnswersAs (finish_of t channel (device_in m.device)).0 started → device_in n.device ≡ (finish_of t channel (device_in m.device)).1
+    → PlansEnd started (events_of m.agenda) (events_of n.agenda) → (waited : Hosts) → StartsIn started (now_of m.agenda) m.hosts waited
+    → Completes taken m.front waited n.hosts → EndsAndStarts channel taken m n
+ends_at t channel taken m n started time answers device plans waited starts completes = record {
   started = started;
   answers = subst (λ (v : ℕ). AnswersAs (finish_of v channel (device_in m.device)).0 started) time answers;
   device = device ∙ ap (λ (v : ℕ). (finish_of v channel (device_in m.device)).1) time;
   plans = plans;
   waited = waited;
   starts = starts;
-  rests = rests;
+  told = n.hosts;
+  completes = completes;
+  rests = all_rest n.hosts;
+}
+
+-- a completion is posted by a controller that stood before
+pub completes_from : (taken : Taken) (f g : Front) (a b : Hosts) → StaysFront f g → Completes taken g a b → Completes taken f a b
+completes_from taken f g a b stays is = record {
+  answered = is.answered;
+  stays = front_then f g is.answered stays is.stays;
+  post = is.post;
+  posts = is.posts;
+  completion = is.completion;
+  hears = is.hears;
 }
 
 -- a channel pauses at a time that is told

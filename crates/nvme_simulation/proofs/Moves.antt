@@ -47,7 +47,7 @@ split [] ys x some head tail = absurd (omega (arith, some))
 split (z ∷ zs) ys x some head tail = ap (λ (y : Flight). y ∷ zs) (sym head) ∙ ap (λ (ws : List Flight). x ∷ ws) (sym tail)
 
 -- the stage of a number that is kept
-kept_at : (f : Flights) (n : ℕ) → f.first ≤ n → stage_at f n ≡ option_map (λ (x : Flight). x.stage) (slice_get f.kept.items (n - f.first))
+pub kept_at : (f : Flights) (n : ℕ) → f.first ≤ n → stage_at f n ≡ option_map (λ (x : Flight). x.stage) (slice_get f.kept.items (n - f.first))
 kept_at f n l = let no : nat_lt n f.first ≡ false = grind (arith, nat_tests) in rw no refl
 
 -- and its command

@@ -15,20 +15,22 @@ use Rattle.nvme_simulation.specs.declared.hosts.Hosts.{Hosts}
 use Rattle.nvme_simulation.proofs.Hosted.{between_both, between_self, one_changes}
 
 pub host_rests : (h : Host) → HostRests h h
-host_rests h = record { picked = λ n l. l; started = λ n l. l; times = refl }
+host_rests h = record { picked = λ n l. l; started = λ n l. l; times = refl; head = refl }
 
 pub rests_then : (a b c : Host) → HostRests a b → HostRests b c → HostRests a c
 rests_then a b c first second = record {
   picked = λ n l. first.picked n (second.picked n l);
   started = λ n l. first.started n (second.started n l);
   times = second.times ∙ first.times;
+  head = second.head ∙ first.head;
 }
 
-pub rests_same : (a b : Host) → b.flights ≡ a.flights → b.streams.arrivals ≡ a.streams.arrivals → HostRests a b
-rests_same a b flights times = record {
+pub rests_same : (a b : Host) → b.flights ≡ a.flights → b.streams.arrivals ≡ a.streams.arrivals → b.head ≡ a.head → HostRests a b
+rests_same a b flights times head = record {
   picked = λ n l. omega (arith, l, ap (λ (f : Flights). rank (stage_at f n)) flights);
   started = λ n l. omega (arith, l, ap (λ (f : Flights). rank (stage_at f n)) flights);
   times = times;
+  head = head;
 }
 
 -- one goes on, but not to these stages
@@ -43,11 +45,13 @@ below r number now from flight a b past m n l = elim (cases_eq n number) [
 ]
 
 pub rests_moved : (number now : ℕ) (from : Stage) (flight : Flight) (a b : Host) → (4 ≤ rank (Some (next_stage from)) → 4 ≤ rank (Some from))
-    → (5 ≤ rank (Some (next_stage from)) → 5 ≤ rank (Some from)) → b.streams.arrivals ≡ a.streams.arrivals → Moves number from now flight a.flights b.flights → HostRests a b
-rests_moved number now from flight a b four five times m = record {
+    → (5 ≤ rank (Some (next_stage from)) → 5 ≤ rank (Some from)) → b.streams.arrivals ≡ a.streams.arrivals → b.head ≡ a.head
+    → Moves number from now flight a.flights b.flights → HostRests a b
+rests_moved number now from flight a b four five times head m = record {
   picked = below 4 number now from flight a.flights b.flights four m;
   started = below 5 number now from flight a.flights b.flights five m;
   times = times;
+  head = head;
 }
 
 come_below : (r now : ℕ) (request : Request) (a b : Flights) → 1 < r → HasCome now request a b → (n : ℕ) → r ≤ rank (stage_at b n) → r ≤ rank (stage_at a n)
@@ -56,18 +60,20 @@ come_below r now request a b more c n l = elim (cases_eq n (came_in a)) [
   | inr other ↦ omega (arith, l, ap rank (c.others n other))
 ]
 
-pub rests_come : (now : ℕ) (request : Request) (a b : Host) → b.streams.arrivals ≡ a.streams.arrivals → HasCome now request a.flights b.flights → HostRests a b
-rests_come now request a b times c = record {
+pub rests_come : (now : ℕ) (request : Request) (a b : Host) → b.streams.arrivals ≡ a.streams.arrivals → b.head ≡ a.head → HasCome now request a.flights b.flights
+    → HostRests a b
+rests_come now request a b times head c = record {
   picked = come_below 4 now request a.flights b.flights (omega arith) c;
   started = come_below 5 now request a.flights b.flights (omega arith) c;
   times = times;
+  head = head;
 }
 
 -- where there is such a command it goes on, and else nothing changes
-pub rests_by : {R : Type 0} (P : R → Type 0) (a b : Host) (o : Option R) → b.streams.arrivals ≡ a.streams.arrivals → (o ≡ None → b.flights ≡ a.flights) → IfSome o P
-    → ((x : R) → P x → HostRests a b) → HostRests a b
-rests_by P a b None times none some moves = rests_same a b (none refl) times
-rests_by P a b (Some x) times none some moves = moves x some
+pub rests_by : {R : Type 0} (P : R → Type 0) (a b : Host) (o : Option R) → b.streams.arrivals ≡ a.streams.arrivals → b.head ≡ a.head → (o ≡ None → b.flights ≡ a.flights)
+    → IfSome o P → ((x : R) → P x → HostRests a b) → HostRests a b
+rests_by P a b None times head none some moves = rests_same a b (none refl) times head
+rests_by P a b (Some x) times head none some moves = moves x some
 
 pub all_rest : (hs : Hosts) → AllRest hs hs
 all_rest hs = record { each = λ k. between_self HostRests host_rests (slice_get hs.all.items k) }

@@ -389,7 +389,7 @@ new_on model first new k h at n f is under =
     let within : k < length (hosts_of first).all.items = slice_get_within (hosts_of first).all.items k h at in
     let found : get_or (hosts_of first).all.items k h ≡ h = get_or_from_slice_get (hosts_of first).all.items k h h at in
     let it : IsUnused h = subst IsUnused found (new.hosts.none k h within) in
-    absurd (cc (sym (it n) ∙ stage_kept h.flights n f is))
+    absurd (cc (sym (it.none n) ∙ stage_kept h.flights n f is))
 
 run_on : (model : Model) (first : Simulation) (past : List Moment) (s : Simulation) → IsNewOf model first → IsRun first past s → Timed past (hosts_of s)
 unfolding IsRun

@@ -8,6 +8,7 @@ use Rattle.nvme_simulation.specs.Planning.{ArrivalPlans, StepPlans}
 use Rattle.nvme_simulation.specs.Passing.{Passes}
 use Rattle.nvme_simulation.specs.Progress.{Between, BetweenOne}
 use Rattle.nvme_simulation.specs.Resting.{HostRests}
+use Rattle.nvme_simulation.specs.Rings.{Hears, OneHears}
 use Rattle.nvme_simulation.specs.Runs.{stages_by}
 use Rattle.nvme_simulation.specs.Simulations.{counts_next, hosts_of, may_come_to, time_of}
 use Rattle.nvme_simulation.specs.Stepping.{HasStepped}
@@ -43,6 +44,11 @@ rest_one n None (Some w) r l = absurd r
 rest_one n (Some h) None r l = absurd r
 rest_one n (Some h) (Some w) r l = r.picked n l
 
+hear_one : (sqhd n : ℕ) (o p : Option Host) → BetweenOne (Hears sqhd) o p → Unpicked n o p
+hear_one sqhd n None p r l = absurd r
+hear_one sqhd n (Some h) None r l = absurd r
+hear_one sqhd n (Some h) (Some w) r l = subst (λ (x : Host). 4 ≤ stages_by (Some x) n) r l
+
 start_one : (number now n : ℕ) (o p : Option Host) → BetweenOne (HostMoves number Picked now) o p → Unpicked n o p
 start_one number now n None p r l = absurd r
 start_one number now n (Some h) None r l = absurd r
@@ -59,6 +65,9 @@ but_one k n place a b one others = elim (cases_eq k place) [
   | inl same ↦ subst (λ (j : ℕ). UnpickedAt j n a b) (sym same) one
   | inr other ↦ same_one n (slice_get a.all.items k) (slice_get b.all.items k) (others k other)
 ]
+
+hears_in : (k n qid sqhd : ℕ) (a b : Hosts) → OneHears qid sqhd a b → UnpickedAt k n a b
+hears_in k n qid sqhd a b h = but_one k n h.place a b (hear_one sqhd n (slice_get a.all.items h.place) (slice_get b.all.items h.place) h.hears) h.others
 
 starts_in : (k n now : ℕ) (started : Option Started) (a b : Hosts) → StartsIn started now a b → UnpickedAt k n a b
 starts_in k n now None a b same = same_all k n a b same
@@ -107,7 +116,8 @@ told_at a b h stepped k n picked = by h stepped.plans stepped.passes where
       absurd (none_told k n a b (λ l.
       let thought = rest_one n (slice_get e.thought.hosts.all.items k) (slice_get (hosts_of b).all.items k) (e.rests.each k) l in
       let ended = follows_in k n _ command.queue _ e.ended e.thought e.thinks thought in
-      let waited = rest_one n (slice_get e.ends.waited.all.items k) (slice_get e.ended.hosts.all.items k) (e.ends.rests.each k) ended in
+      let told = rest_one n (slice_get e.ends.told.all.items k) (slice_get e.ended.hosts.all.items k) (e.ends.rests.each k) ended in
+      let waited = hears_in k n _ _ e.ends.waited e.ends.told e.ends.completes.hears told in
       starts_in k n _ e.ends.started (hosts_of a) e.ends.waited e.ends.starts waited) picked)
   by (told.Picked pick) p passes = elim (cases_eq pick.pick.qid (k + 1)) [
     | inl same ↦ record { pick = pick; told = refl; queue = same }

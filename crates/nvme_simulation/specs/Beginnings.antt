@@ -32,8 +32,10 @@ pub record HasStreams (seed qid : ℕ) (h : Host) : Type 0 where
   pub operations : h.streams.operations ≡ stream_state seed qid Sizes
   pub offsets : h.streams.offsets ≡ stream_state seed qid Offsets
 
-abbrev pub IsUnused : Host → Type 0
-IsUnused h = none_came h.flights
+-- no command came to a host, and no completion: the head of its ring is the first slot
+pub record IsUnused (h : Host) : Type 0 where
+  pub none : none_came h.flights
+  pub head : h.head ≡ 0
 
 -- the identifier of the queue of the host at a place: 1, 2 and so on
 abbrev pub qid_at : (place : ℕ) → ℕ

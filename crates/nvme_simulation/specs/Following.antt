@@ -7,6 +7,7 @@ use Rattle.nvme_simulation.specs.Plans.{events_of}
 use Rattle.nvme_simulation.specs.Progress.{AllGoOn, BetweenOne, OneComes}
 use Rattle.nvme_simulation.specs.Reading.{HasRead}
 use Rattle.nvme_simulation.specs.Resting.{AllRest}
+use Rattle.nvme_simulation.specs.Rings.{HasSubmitted}
 use Rattle.nvme_simulation.specs.Stages.{next_in}
 use Rattle.nvme_simulation.specs.Times.{now_of}
 use Rattle.nvme_simulation.specs.declared.agenda.Event.TheVariants.{Arrival}
@@ -56,7 +57,7 @@ PlansIf true qid time before after = PlansNext qid time before after
 PlansIf false qid time before after = after ≡ before
 
 -- a command of a queue comes now. The next one is planned behind it where more may come, unless it waits for a completion or the list of the queue has ended. No other
--- event is planned, none is picked or starts, and the device isn't called. The controller reads what it may
+-- event is planned, none is picked or starts, and the device isn't called. Its host submits what its ring has room for, and the controller reads what it may
 pub record ComesAndFollows (qid : ℕ) (counts more : Bool) (before after : Machine) : Type 0 where
   pub came : Hosts
   pub comes : OneComes qid (now_of before.agenda) counts before.hosts came
@@ -65,6 +66,7 @@ pub record ComesAndFollows (qid : ℕ) (counts more : Bool) (before after : Mach
   pub plans : PlansIf (more && goes_on came qid) qid (now_of before.agenda) (record before { hosts = came }) followed
   pub goes : AllGoOn (now_of before.agenda) followed.hosts after.hosts
   pub rests : AllRest followed.hosts after.hosts
+  pub submits : HasSubmitted qid after.hosts
   pub reads : HasRead qid after.front
   pub device : after.device ≡ before.device
   pub events : events_of after.agenda ≡ events_of followed.agenda

@@ -21,6 +21,7 @@ pub mod Progress
 pub mod Ranks
 pub mod Reading
 pub mod Resting
+pub mod Rings
 pub mod Runs
 pub mod Simulations
 pub mod Stages
@@ -30,3 +31,4 @@ pub mod Steps
 pub mod Taking
 pub mod Telling
 pub mod Times
+pub mod Waiting

@@ -1,16 +1,20 @@
 -- What a step makes of hosts, controller and device. (profile)
-use Rattle.std.specs.Prelude.{◌≡◌, ℕ, Option}
+use Rattle.std.specs.Prelude.{◌≡◌, ℕ, Option, Some}
 use Rattle.nvme_channels.specs.Steps.{finish_of, take_of}
+use Rattle.nvme_ctrl.specs.Posts.{next_post_of}
+use Rattle.nvme_ctrl.specs.declared.posts.Post.{Post}
 use Rattle.nvme_simulation.specs.Devices.{IsBehind, device_in}
-use Rattle.nvme_simulation.specs.Fronts.{StaysFront}
+use Rattle.nvme_simulation.specs.Fronts.{IsCompletionOf, StaysFront}
 use Rattle.nvme_simulation.specs.Moving.{OneMoves, StartsIn}
 use Rattle.nvme_simulation.specs.Plans.{Follows, events_of}
 use Rattle.nvme_simulation.specs.Progress.{AllGoOn, AsksFor}
 use Rattle.nvme_simulation.specs.Resting.{AllRest}
+use Rattle.nvme_simulation.specs.Rings.{OneHears}
 use Rattle.nvme_simulation.specs.Starts.{AnswersAs, PlansEnd, number_in}
 use Rattle.nvme_simulation.specs.Times.{now_of}
 use Rattle.nvme_simulation.specs.declared.channels.Started.{Started}
 use Rattle.nvme_simulation.specs.declared.flight.Request.{Request}
+use Rattle.nvme_simulation.specs.declared.front.Front.{Front}
 use Rattle.nvme_simulation.specs.declared.flight.Stage.TheVariants.{Fetched}
 use Rattle.nvme_simulation.specs.declared.front.Taken.{Taken}
 use Rattle.nvme_simulation.specs.declared.hosts.Hosts.{Hosts}
@@ -38,15 +42,26 @@ pub record TakesPicked (qid : ℕ) (before after : Machine) : Type 0 where
   pub starts : StartsIn started (now_of before.agenda) picked after.hosts
   pub plans : PlansEnd started (events_of before.agenda) (events_of after.agenda)
 
--- the command that runs on a channel ends now, and the next one starts there, if one does: its end is planned, and nothing else
-pub record EndsAndStarts (channel : ℕ) (before after : Machine) : Type 0 where
+-- the controller posts the completion of a command next, and it comes to the host of its queue, which it tells the head of its ring
+pub record Completes (taken : Taken) (front : Front) (before after : Hosts) : Type 0 where
+  pub answered : Front
+  pub stays : StaysFront front answered
+  pub post : Post
+  pub posts : next_post_of answered.controller answered.pool.items taken.qid ≡ Some post
+  pub completion : IsCompletionOf taken post
+  pub hears : OneHears taken.qid post.cqe.sqhd before after
+
+-- the command that runs on a channel ends now, and the next one starts there, if one does: its end is planned, and nothing else. The completion comes to its host
+pub record EndsAndStarts (channel : ℕ) (taken : Taken) (before after : Machine) : Type 0 where
   pub started : Option Started
   pub answers : AnswersAs (finish_of (now_of before.agenda) channel (device_in before.device)).0 started
   pub device : device_in after.device ≡ (finish_of (now_of before.agenda) channel (device_in before.device)).1
   pub plans : PlansEnd started (events_of before.agenda) (events_of after.agenda)
   pub waited : Hosts
   pub starts : StartsIn started (now_of before.agenda) before.hosts waited
-  pub rests : AllRest waited after.hosts
+  pub told : Hosts
+  pub completes : Completes taken before.front waited told
+  pub rests : AllRest told after.hosts
 
 -- so, but that commands may come and be done
 pub record Works (before after : Machine) : Type 0 where

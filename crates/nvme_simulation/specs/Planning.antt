@@ -8,11 +8,13 @@ use Rattle.nvme_simulation.specs.Plans.{events_of}
 use Rattle.nvme_simulation.specs.Progress.{AllGoOn, OneEnds}
 use Rattle.nvme_simulation.specs.Reading.{HasRead}
 use Rattle.nvme_simulation.specs.Resting.{AllRest}
+use Rattle.nvme_simulation.specs.Rings.{HasSubmitted}
 use Rattle.nvme_simulation.specs.Simulations.{counts_next, may_come_to, time_of}
 use Rattle.nvme_simulation.specs.Taking.{PicksAsTold}
 use Rattle.nvme_simulation.specs.Times.{now_of}
 use Rattle.nvme_simulation.specs.declared.agenda.Agenda.{Agenda}
 use Rattle.nvme_simulation.specs.declared.flight.Flight.{Flight}
+use Rattle.nvme_simulation.specs.declared.front.Taken.{Taken}
 use Rattle.nvme_simulation.specs.declared.happening.Happening.{Happening}
 use Rattle.nvme_simulation.specs.declared.happening.Happening.TheVariants.{Came, Finished, Paused, Resumed}
 use Rattle.nvme_simulation.specs.declared.machine.Machine.{Machine}
@@ -24,16 +26,20 @@ ArrivalPlans true queue counts more before after = ComesAndFollows queue counts 
 ArrivalPlans false queue counts more before after = after ≡ before
 
 -- a command ends on a channel. The end of the one that starts there is planned, and the next command of a closed host, when it thought, where one may come. Nothing
--- else is planned, none is picked, and no other one starts. The controller reads what it may
+-- else is planned, none is picked, and no other one starts. Its host submits what its ring has room for, as far as the completion told it, and the controller reads what it may
 pub record EndPlans (channel queue number : ℕ) (before : Machine) (after : Simulation) : Type 0 where
+  pub taken : Taken
+  pub queue_is : queue ≡ taken.qid
+  pub number_is : number ≡ taken.number
   pub flight : Flight
   pub ended : Machine
   pub done : OneEnds queue number (now_of before.agenda) flight before.hosts ended.hosts
-  pub ends : EndsAndStarts channel before ended
+  pub ends : EndsAndStarts channel taken before ended
   pub thought : Machine
   pub thinks : PlansIf (closed_in ended.hosts queue && may_come_to after (time_of after)) queue (time_of after) ended thought
   pub goes : AllGoOn (now_of before.agenda) thought.hosts after.machine.hosts
   pub rests : AllRest thought.hosts after.machine.hosts
+  pub submits : HasSubmitted queue after.machine.hosts
   pub reads : HasRead queue after.machine.front
   pub device : after.machine.device ≡ ended.device
   pub events : events_of after.machine.agenda ≡ events_of thought.agenda

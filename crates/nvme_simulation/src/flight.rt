@@ -1,4 +1,7 @@
 // The commands of a queue, from when they come until they are done.
+ghost use Rattle.std.specs.Prelude.{◌≡◌, ◌≤◌, ◌<◌, ◌+◌, ℕ, length, nat_le};
+ghost use Rattle.nvme_simulation.specs.Waiting.{waits_at};
+
 use nvme_load::Operation;
 use nvme_model::{Finished, Times};
 use std::alloc::{AllocError, Global};
@@ -44,19 +47,23 @@ pub(crate) struct Flight {
     pub(crate) started: u64,
 }
 
-// The commands of a queue, by their numbers, which count from 0 in the order in which they came.
+// The commands of a queue, by their numbers, which count from 0 in the order in which they came. They are submitted in this order.
 #[derive(Drop)]
 pub(crate) struct Flights {
     // The number of the first one that is kept: those before it are done.
     first: u64,
     kept: VecDeque<Flight>,
-    // The number of the next one to be submitted.
+    // The number of the next one to be submitted. Those from it on wait, and those before it don't.
     next: u64,
+    ghost behind: { first ≤ next },
+    ghost within: { next ≤ first + length kept.items },
+    ghost ordered: { (k : ℕ) → k < length kept.items → waits_at kept.items k ≡ nat_le next (first + k) },
 }
 
 impl Flights {
-    ghost use Rattle.std.specs.Prelude.{◌≡◌, ◌≤◌, ◌<◌, ◌-◌, None, Some, IfOk, IfSome, OnErr, OnOk, true, false};
+    ghost use Rattle.std.specs.Prelude.{◌≢◌, ◌-◌, None, Some, IfOk, IfSome, OnErr, OnOk, true, false};
     ghost use Rattle.std.specs.VecDeque.{deque_len};
+    ghost use Rattle.nvme_simulation.specs.Rings.{NoneWaits, submitted_in};
     ghost use Rattle.nvme_simulation.specs.Stages.{AllDone, HasCome, Moves, MovesOne, MovesWith, Stays, next_in, none_came};
     ghost use Rattle.nvme_simulation.specs.declared.flight.Stage.TheVariants as stage;
 
@@ -97,6 +104,20 @@ impl Flights {
         self.kept.is_empty()
     }
 
+    // How many were submitted.
+    pub(crate) fn submitted(&self) -> u64
+        ensures { result ≡ submitted_in self.now }
+    {
+        self.next
+    }
+
+    // Whether one waits for a slot of the ring.
+    pub(crate) fn wait(&self) -> bool
+        ensures { result ≡ false → NoneWaits self.now }
+    {
+        self.next - self.first < self.kept.len() as u64
+    }
+
     // A command comes.
     pub(crate) fn come(&mut self, now: u64, request: Request) -> Result<(), AllocError>
         ensures ok { OnOk result (HasCome now request self.old self.new) }
@@ -116,8 +137,9 @@ impl Flights {
         }
     }
 
-    // The command of a number goes on from a stage to the next one. None where it isn't at that stage.
+    // The command of a number that was submitted goes on from a stage to the next one. None where it isn't at that stage.
     fn go_on(&mut self, now: u64, number: u64, from: Stage) -> Option<Flight>
+        requires later { from ≢ stage.Came }
         ensures moves { IfSome result (λ flight. Moves number from now flight self.old self.new) }
         ensures none { result ≡ None → self.new ≡ self.old }
     {
@@ -136,8 +158,11 @@ impl Flights {
         ensures none { result ≡ None → self.new ≡ self.old }
     {
         let number = self.next;
-        self.go_on(now, number, Stage::Came)?;
-        self.next = number.saturating_add(1);
+        let next = number.checked_add(1)?;
+        let place = self.place(number)?;
+        let flight = &mut self.kept[place];
+        flight.go_on(now);
+        self.next = next;
         Some(number)
     }
 

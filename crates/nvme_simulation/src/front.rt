@@ -44,6 +44,7 @@ impl Front {
     ghost use Rattle.nvme_ctrl_log.specs.Notes.{Notes};
     ghost use Rattle.nvme_ctrl_log.specs.Observation.{seen_in};
     ghost use Rattle.nvme_ctrl_log.specs.Steps.{IsNextPick, IsNextWithin};
+    ghost use Rattle.nvme_ctrl.specs.Posts.{next_post_of};
     ghost use Rattle.nvme_ctrl.specs.declared.picks.Step.TheVariants as step;
     ghost use Rattle.nvme_simulation.specs.Reading.{HasRead};
     ghost use Rattle.nvme_simulation.specs.Fronts.{HasDepths, IsFront, IsFrontOf, StandsBy, StaysFront};
@@ -142,6 +143,7 @@ impl Front {
     pub(crate) fn post(&mut self, cqid: u16) -> Option<Post>
         requires front { IsFront self.old }
         ensures front { StaysFront self.old self.new }
+        ensures value { result ≡ next_post_of self.old.controller self.old.pool.items cqid }
     {
         self.controller.post(&mut self.pool, cqid)
     }

@@ -1,5 +1,5 @@
 // The host of a queue.
-ghost use Rattle.std.specs.Prelude.{◌≡◌, ◌+◌, ◌*◌, ◌/◌, ◌%◌, ◌^◌};
+ghost use Rattle.std.specs.Prelude.{◌≡◌, ◌<◌, ◌+◌, ◌*◌, ◌/◌, ◌%◌, ◌^◌};
 ghost use Rattle.nvme_simulation.specs.Entries.{IsEntryOf};
 
 use crate::creates::entry;
@@ -30,6 +30,14 @@ struct Asked {
     blocks: u32,
 }
 
+// The slot of a number in a ring, whose slots are filled in order.
+fn slot_of(number: u64, slots: u16) -> u16
+    requires some { 0 < slots }
+    ensures { result ≡ number % slots }
+{
+    (number % u64::from(slots)) as u16
+}
+
 // The slot behind one in a ring.
 fn slot_behind(slot: u16, slots: u16) -> u16 {
     if slot >= slots.saturating_sub(1) {
@@ -52,8 +60,7 @@ pub(crate) struct Host {
     flights: Flights,
     // The numbers of the commands in the slots of the submission ring.
     ring: Vec<u32>,
-    // The next slot of it to be filled, and the first one that the controller hasn't read, as far as the host knows.
-    tail: u16,
+    // The first slot of it that the controller hasn't read, as far as the host knows.
     head: u16,
     // The next slot of the completion ring to be read.
     read: u16,
@@ -70,6 +77,7 @@ impl Host {
     ghost use Rattle.nvme_simulation.specs.Progress.{HasAsked, HostComesOne, HostEndsOne, HostGoesOn};
     ghost use Rattle.nvme_simulation.specs.Moving.{HostMoves};
     ghost use Rattle.nvme_simulation.specs.Resting.{HostRests};
+    ghost use Rattle.nvme_simulation.specs.Rings.{Hears, IsFull, SubmitsAll};
     ghost use Rattle.nvme_simulation.specs.Stages.{AllDone, next_in};
     ghost use Rattle.nvme_simulation.specs.declared.flight.Stage.TheVariants as stage;
 
@@ -111,7 +119,6 @@ impl Host {
             },
             flights: Flights::new(alloc),
             ring,
-            tail: 0,
             head: 0,
             read: 0,
         })
@@ -152,6 +159,32 @@ impl Host {
         self.arrivals.ends_at(self.flights.came())
     }
 
+    // The next slot of the submission ring to be filled: each command is put into the slot behind the one before it.
+    fn tail(&self) -> u16 {
+        if self.slots == 0 {
+            return 0;
+        }
+        slot_of(self.flights.submitted(), self.slots)
+    }
+
+    // Whether the submission ring has no free slot, as far as the host knows.
+    fn is_full(&self) -> bool
+        ensures { result ≡ true → IsFull self.now }
+    {
+        let submitted = self.flights.submitted();
+        if self.slots == 0 || submitted == u64::MAX {
+            return false;
+        }
+        slot_of(submitted + 1, self.slots) == self.head
+    }
+
+    // Whether all commands are submitted that the ring has room for.
+    pub(crate) fn has_submitted(&self) -> bool
+        ensures { result ≡ true → SubmitsAll self.now }
+    {
+        !self.flights.wait() || self.is_full()
+    }
+
     // When the next command comes behind one that came at this time, or behind a completion at this time.
     pub(crate) fn next_after(&mut self, time: u64) -> Option<u64>
         ensures value { (result, words self.new.streams.arrivals) ≡ next_after self.old.arrivals (next_in self.old.flights) time (words self.old.streams.arrivals) }
@@ -172,6 +205,7 @@ impl Host {
         ensures services { self.new.streams.services ≡ self.old.streams.services }
         ensures flights { self.new.flights ≡ self.old.flights }
         ensures times { self.new.streams.arrivals ≡ self.old.streams.arrivals }
+        ensures head { self.new.head ≡ self.old.head }
     {
         if operation == Operation::Flush {
             return (0, 0);
@@ -187,6 +221,7 @@ impl Host {
         ensures services { self.new.streams.services ≡ self.old.streams.services }
         ensures flights { self.new.flights ≡ self.old.flights }
         ensures times { self.new.streams.arrivals ≡ self.old.streams.arrivals }
+        ensures head { self.new.head ≡ self.old.head }
     {
         if let Some(listed) = self.arrivals.request(self.flights.came()) {
             return Asked {
@@ -210,6 +245,7 @@ impl Host {
         ensures counts { IfSome result (λ request. request.counts ≡ counts) }
         ensures flights { self.new.flights ≡ self.old.flights }
         ensures times { self.new.streams.arrivals ≡ self.old.streams.arrivals }
+        ensures head { self.new.head ≡ self.old.head }
     {
         let Asked {
             operation,
@@ -247,16 +283,14 @@ impl Host {
         ensures goes { HostGoesOn now self.old self.new }
         ensures rests { HostRests self.old self.new }
     {
-        let next = slot_behind(self.tail, self.slots);
-        let tail = usize::from(self.tail);
-        if next == self.head || tail >= self.ring.len() {
+        let tail = usize::from(self.tail());
+        if self.is_full() || tail >= self.ring.len() {
             return false;
         }
         let Some(number) = self.flights.submit(now) else {
             return false;
         };
         self.ring[tail] = (number % 0x1_0000_0000) as u32;
-        self.tail = next;
         true
     }
 
@@ -273,7 +307,7 @@ impl Host {
             }
             rings = true;
         }
-        if rings { Some(self.tail) } else { None }
+        if rings { Some(self.tail()) } else { None }
     }
 
     // The controller reads the command in a slot of the ring: its number and its entry.
@@ -324,7 +358,7 @@ impl Host {
     // A completion comes, which tells how far the controller has read. The answer is the new head of its ring.
     pub(crate) fn completed(&mut self, sqhd: u16) -> u16
         ensures goes { (now : ℕ) → HostGoesOn now self.old self.new }
-        ensures rests { HostRests self.old self.new }
+        ensures hears { Hears sqhd self.old self.new }
     {
         self.head = sqhd;
         self.read = slot_behind(self.read, self.slots);

@@ -28,6 +28,7 @@ impl Hosts {
     ghost use Rattle.nvme_simulation.specs.Pausing.{at_end};
     ghost use Rattle.nvme_simulation.specs.Progress.{AllGoOn, AreDone, AsksFor, OneComes, OneEnds};
     ghost use Rattle.nvme_simulation.specs.Resting.{AllRest};
+    ghost use Rattle.nvme_simulation.specs.Rings.{HasSubmitted, OneHears};
     ghost use Rattle.nvme_simulation.specs.declared.flight.Stage.TheVariants as stage;
 
     // The hosts of queues, of the identifiers 1, 2 and so on, which are created.
@@ -191,6 +192,16 @@ impl Hosts {
         self.all[place].submit(now)
     }
 
+    // Whether the host of a queue has submitted all that its ring has room for.
+    pub(crate) fn has_submitted(&self, qid: u16) -> bool
+        ensures { result ≡ true → HasSubmitted qid self.now }
+    {
+        match self.place(qid) {
+            Some(place) => self.all[place].has_submitted(),
+            None => false,
+        }
+    }
+
     // The controller reads the command in a slot of the ring of a queue: its number and its entry.
     pub(crate) fn fetch(&mut self, qid: u16, slot: u16) -> Result<(u32, Sqe), SimulationFault>
         ensures goes { (now : ℕ) → AllGoOn now self.old self.new }
@@ -254,7 +265,7 @@ impl Hosts {
     // A completion of a queue comes, which tells how far the controller has read. The answer is the new head of its ring.
     pub(crate) fn completed(&mut self, qid: u16, sqhd: u16) -> Option<u16>
         ensures goes { (now : ℕ) → AllGoOn now self.old self.new }
-        ensures rests { AllRest self.old self.new }
+        ensures hears { OnSome result (OneHears qid sqhd self.old self.new) }
     {
         let place = self.place(qid)?;
         Some(self.all[place].completed(sqhd))

@@ -32,7 +32,7 @@ impl Machine {
     ghost use Rattle.nvme_simulation.specs.Devices.{room_in};
     ghost use Rattle.nvme_simulation.specs.Following.{ComesAndFollows, PlansNext, goes_on};
     ghost use Rattle.nvme_simulation.specs.Fronts.{IsCompletionOf, IsFront, StandsBy};
-    ghost use Rattle.nvme_simulation.specs.Machines.{EndsAndStarts, Goes, TakesPicked, Works};
+    ghost use Rattle.nvme_simulation.specs.Machines.{Completes, EndsAndStarts, Goes, TakesPicked, Works};
     ghost use Rattle.nvme_simulation.specs.Passing.{Passes};
     ghost use Rattle.nvme_simulation.specs.Moving.{StartsIn};
     ghost use Rattle.nvme_simulation.specs.Pausing.{GoesOn, PausesFor};
@@ -40,6 +40,7 @@ impl Machine {
     ghost use Rattle.nvme_simulation.specs.Progress.{OneComes, OneEnds};
     ghost use Rattle.nvme_simulation.specs.Reading.{HasRead};
     ghost use Rattle.nvme_simulation.specs.Resting.{AllRest};
+    ghost use Rattle.nvme_simulation.specs.Rings.{HasSubmitted};
     ghost use Rattle.nvme_simulation.specs.Starts.{PlansEnd};
     ghost use Rattle.nvme_simulation.specs.Steps.{cost_with, picked_in};
     ghost use Rattle.nvme_simulation.specs.Taking.{PicksAsTold, TakesAll};
@@ -54,10 +55,16 @@ impl Machine {
         ensures agenda { self.new.agenda ≡ self.old.agenda }
         ensures device { self.new.device ≡ self.old.device }
         ensures rests { AllRest self.old.hosts self.new.hosts }
+        ensures submits { OnOk result (HasSubmitted qid self.new.hosts) }
         ensures all { OnOk result (HasRead qid self.new.front) }
     {
         self.ring(qid)?;
-        self.fetch(qid)
+        self.fetch(qid)?;
+        if self.hosts.has_submitted(qid) {
+            Ok(())
+        } else {
+            Err(SimulationFault::Broken(Broken::Slot))
+        }
     }
 
     // A host puts all commands into its ring that it has room for, and rings the doorbell where it did.
@@ -216,14 +223,13 @@ impl Machine {
     }
 
     // The device answers a command, and its completion comes to its host, which reads it.
-    #[tactic(auto, using(crate::proofs::Resting::all_rest, crate::proofs::Resting::all_rest_then))]
     fn collect(&mut self, taken: Taken) -> Result<(), SimulationFault>
         requires front { IsFront self.old.front }
         ensures goes { Goes self.old self.new }
         ensures agenda { self.new.agenda ≡ self.old.agenda }
         ensures device { self.new.device ≡ self.old.device }
         ensures cost { cost_with self.new ≡ cost_with self.old }
-        ensures rests { AllRest self.old.hosts self.new.hosts }
+        ensures completes { OnOk result (Completes taken self.old.front self.old.hosts self.new.hosts) }
     {
         if !self.front.complete(taken.tag) {
             return Err(NO_COMMAND);
@@ -249,7 +255,7 @@ impl Machine {
         requires front { IsFront self.old.front }
         ensures goes { Goes self.old self.new }
         ensures cost { OnOk result (cost_with self.new ≤ cost_with self.old + 5) }
-        ensures plans { OnOk result (EndsAndStarts channel self.old self.new) }
+        ensures plans { IfOk result (λ taken. EndsAndStarts channel taken self.old self.new) }
     {
         let (taken, started) = self.device.finish(self.agenda.now(), channel)?;
         self.start(started)?;
@@ -262,7 +268,7 @@ impl Machine {
         requires front { IsFront self.old.front }
         ensures works { Works self.old self.new }
         ensures cost { OnOk result (cost_with self.new ≤ cost_with self.old + 5) }
-        ensures plans { OnOk result (EndsAndStarts channel self.old self.new) }
+        ensures plans { IfOk result (λ done. EndsAndStarts channel done.0 self.old self.new) }
         ensures ends { IfOk result (λ done. OneEnds done.0.qid done.0.number (now_of self.old.agenda) done.1 self.old.hosts self.new.hosts) }
     {
         let taken = self.end(channel)?;

@@ -1,4 +1,5 @@
-use Rattle.std.proofs.Common.{List, sym, subst}
+use Rattle.std.proofs.Common.{◌∙◌, List, ap, sym, subst}
+use Rattle.nvme_ctrl.specs.Posts.{next_post_of}
 use Rattle.nvme_ctrl.specs.Standing.{IsController}
 use Rattle.nvme_slots.specs.declared.slot.Slot.{Slot}
 use Rattle.nvme_simulation.specs.Fronts.{Arbitrates}
@@ -18,4 +19,5 @@ returns c =
             told m s _ _ _ _ _ c.post.result c.post.ensures.none (c.post.ensures.stands stood.rules stood.late stood.notes stood.stands)
             (λ x h. again m s _ _ _ _ stood _ h.stands) stood);
       };
+      value = c.post.ensures.value ∙ ap (λ (xs : List Slot). next_post_of c.args.self.now.controller xs c.args.cqid) value;
     }

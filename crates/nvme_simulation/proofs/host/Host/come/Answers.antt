@@ -14,6 +14,6 @@ returns-in-Ok c = record {
     draws = c.in-Some.ensures.draws;
     counted = c.in-Some.ensures.counts;
   };
-  rests = rests_come c.args.now c.in-Some.request _ _ c.draw.ensures.times
+  rests = rests_come c.args.now c.in-Some.request _ _ c.draw.ensures.times c.draw.ensures.head
       (subst (λ (f : Flights). HasCome c.args.now c.in-Some.request f c.come.new.self) c.draw.ensures.flights c.in-Ok.ensures.ok);
 }

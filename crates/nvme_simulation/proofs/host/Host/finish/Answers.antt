@@ -16,5 +16,5 @@ returns-clause-none c is now = host_same now _ _ (c.finish.ensures.none is) refl
 
 pub returns-clause-rests : goal.returns-clause-rests
 returns-clause-rests c =
-    rests_by _ _ _ c.finish.result refl c.finish.ensures.none c.finish.ensures.moves
-    (λ flight m. rests_moved _ _ Started flight _ _ (λ l. omega arith) (λ l. omega arith) refl m)
+    rests_by _ _ _ c.finish.result refl refl c.finish.ensures.none c.finish.ensures.moves
+    (λ flight m. rests_moved _ _ Started flight _ _ (λ l. omega arith) (λ l. omega arith) refl refl m)

@@ -1,4 +1,5 @@
-use Rattle.std.proofs.Common.{◌<◌, length, refl, arith}
+use Rattle.std.proofs.Common.{◌<◌, length, refl, ap, arith}
+use Rattle.nvme_simulation.specs.declared.host.Host.{Host}
 use Rattle.nvme_simulation.proofs.Beginnings.{one_unused}
 use Rattle.nvme_simulation.proofs.Hosted.{all_stay, held, on_some, one_draws, one_goes}
 use Rattle.nvme_simulation.proofs.Progress.{host_same}
@@ -21,6 +22,7 @@ returns-clause-unused c =
     let within : c.in_ok-place.place < length hosts.items = omega (arith, c.in_ok-place.ensures.within, hosts.ok.0) in
     let at = held hosts.items c.in_ok-place.place c.index_mut.result.now within c.index_mut.ensures.value in
     one_unused c.args.self.now _ c.in_ok-place.place c.index_mut.result.now c.next_after.new.self refl within at c.next_after.ensures.asking c.next_after.ensures.flights
+    (ap (λ (h : Host). h.head) c.next_after.ensures.rest)
 
 pub returns-clause-next : goal.returns-clause-next
 returns-clause-next c =

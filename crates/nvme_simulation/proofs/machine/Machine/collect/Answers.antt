@@ -1,4 +1,4 @@
-use Rattle.std.proofs.Common.{refl}
+use Rattle.std.proofs.Common.{◌∙◌, refl, sym, arith}
 use Rattle.nvme_simulation.proofs.Machines.{front_then, goes_front}
 use Rattle.nvme_simulation.proofs.Hosted.{all_stay}
 use Rattle.nvme_simulation.proofs.machine.Machine.collect.Goals as goal
@@ -20,3 +20,13 @@ returns-then-read-clause-goes c = goes_front _ _ (c.completed.ensures.goes _) (f
 
 pub returns-else-read-clause-goes : goal.returns-else-read-clause-goes
 returns-else-read-clause-goes c = goes_front _ _ (c.completed.ensures.goes _) (front_then _ _ _ (front_then _ _ _ c.complete.ensures.front c.post.ensures.front) c.read.ensures.front) refl refl
+
+pub returns-then-read-clause-completes : goal.returns-then-read-clause-completes
+returns-then-read-clause-completes c = record {
+  answered = c.complete.new.self;
+  stays = c.complete.ensures.front;
+  post = c.in-Some.post;
+  posts = sym c.post.ensures.value ∙ c.in-Some.is;
+  completion = c.is_completion.ensures (grind (arith, c.if-not-is_completion.false));
+  hears = c.in-Some-completed.ensures.hears;
+}

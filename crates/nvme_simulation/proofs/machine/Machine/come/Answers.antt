@@ -1,11 +1,13 @@
 use Rattle.std.proofs.Common.{◌∙◌, sym, ap, arith}
 use Rattle.nvme_simulation.specs.Plans.{events_of}
 use Rattle.nvme_simulation.specs.Reading.{HasRead}
+use Rattle.nvme_simulation.specs.Rings.{HasSubmitted}
 use Rattle.nvme_simulation.specs.declared.machine.Machine.{Machine}
 use Rattle.nvme_simulation.proofs.Hosted.{come_then}
-use Rattle.nvme_simulation.proofs.Machines.{all_at, comes_at, front_stays, goes_then, on_ok, on_ok_to, plans_if, plans_if_not, works}
+use Rattle.nvme_simulation.proofs.Machines.{all_at, comes_at, front_stays, goes_then, on_ok, plans_if, plans_if_not, works}
 use Rattle.nvme_simulation.proofs.Plans.{follows_self, follows_time}
 use Rattle.nvme_simulation.proofs.Rooms.{behind_none}
+use Rattle.nvme_simulation.proofs.Taking.{on_ok_both}
 use Rattle.nvme_simulation.proofs.machine.Machine.come.Goals as goal
 
 pub returns-in_err-come-clause-works : goal.returns-in_err-come-clause-works
@@ -37,7 +39,7 @@ returns-clause-comes c =
 pub returns-then-not-is_followed-clause-follows : goal.returns-then-not-is_followed-clause-follows
 returns-then-not-is_followed-clause-follows c =
     let mid : Machine = record c.args.self.now { hosts = c.come.new.self } in
-    on_ok_to c.submit.result (λ (reads : HasRead c.args.qid c.submit.new.self.front). record {
+    on_ok_both c.submit.result (λ (submits : HasSubmitted c.args.qid c.submit.new.self.hosts) (reads : HasRead c.args.qid c.submit.new.self.front). record {
       came = c.come.new.self;
       comes = comes_at _ _ _ _ _ _ c.now-now.ensures.value c.in_ok-come.ensures.comes;
       followed = mid;
@@ -47,13 +49,14 @@ returns-then-not-is_followed-clause-follows c =
       rests = c.submit.ensures.rests;
       device = c.submit.ensures.device;
       events = ap events_of c.submit.ensures.agenda;
+      submits = submits;
       reads = reads;
-    }) c.submit.ensures.all
+    }) c.submit.ensures.submits c.submit.ensures.all
 
 pub returns-clause-follows : goal.returns-clause-follows
 returns-clause-follows c =
     let mid : Machine = record c.args.self.now { hosts = c.come.new.self } in
-    on_ok_to c.submit-2.result (λ (reads : HasRead c.args.qid c.submit-2.new.self.front). record {
+    on_ok_both c.submit-2.result (λ (submits : HasSubmitted c.args.qid c.submit-2.new.self.hosts) (reads : HasRead c.args.qid c.submit-2.new.self.front). record {
       came = c.come.new.self;
       comes = comes_at _ _ _ _ _ _ c.now-now.ensures.value c.in_ok-come.ensures.comes;
       followed = c.follow.new.self;
@@ -64,5 +67,6 @@ returns-clause-follows c =
       device = c.submit-2.ensures.device ∙ c.follow.ensures.device;
       goes = all_at _ _ _ _ (follows_time _ _ c.follow.ensures.goes.events) c.submit-2.ensures.goes.hosts;
       events = ap events_of c.submit-2.ensures.agenda;
+      submits = submits;
       reads = reads;
-    }) c.submit-2.ensures.all
+    }) c.submit-2.ensures.submits c.submit-2.ensures.all

@@ -4,7 +4,7 @@ use Rattle.nvme_simulation.specs.Plans.{events_of}
 use Rattle.nvme_simulation.specs.Starts.{PlansEnd}
 use Rattle.nvme_simulation.specs.declared.agenda.Agenda.{Agenda}
 use Rattle.nvme_simulation.proofs.Hosted.{all_stay}
-use Rattle.nvme_simulation.proofs.Machines.{ends_at, front_stays, goes_then}
+use Rattle.nvme_simulation.proofs.Machines.{completes_from, ends_at, front_stays, goes_then}
 use Rattle.nvme_simulation.proofs.Plans.{follows_self}
 use Rattle.nvme_simulation.proofs.machine.Machine.end.Goals as goal
 
@@ -41,7 +41,8 @@ returns-clause-goes c = goes_then _ _ _ (goes_then _ _ _ (record {
 }) c.start.ensures.goes) c.collect.ensures.goes
 
 pub returns-clause-plans : goal.returns-clause-plans
-returns-clause-plans c = ends_at c.now.result _ c.args.self.now _ c.in_ok-taken.started c.now.ensures.value c.in_ok-taken.ensures.starts
+returns-clause-plans c = ends_at c.now.result _ c.in_ok-taken.taken c.args.self.now _ c.in_ok-taken.started c.now.ensures.value c.in_ok-taken.ensures.starts
     (ap device_in (c.collect.ensures.device ∙ c.start.ensures.device) ∙ c.in_ok-taken.ensures.ends)
     (subst (λ (a : Agenda). PlansEnd c.in_ok-taken.started (events_of c.args.self.now.agenda) (events_of a)) (sym c.collect.ensures.agenda) c.in_ok-start.ensures.plans)
-    c.start.new.self.hosts c.in_ok-start.ensures.starts c.collect.ensures.rests
+    c.start.new.self.hosts c.in_ok-start.ensures.starts
+    (completes_from _ _ _ _ _ c.start.ensures.goes.front c.in_ok-collect.ensures.completes)

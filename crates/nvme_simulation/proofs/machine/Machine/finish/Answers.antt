@@ -27,5 +27,7 @@ returns-clause-plans c =
       plans = ends.plans;
       waited = ends.waited;
       starts = ends.starts;
+      told = ends.told;
+      completes = ends.completes;
       rests = all_rest_then _ _ _ ends.rests c.in_ok-flight.ensures.rests;
     }
