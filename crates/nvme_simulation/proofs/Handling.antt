@@ -33,6 +33,7 @@ use Rattle.nvme_simulation.specs.declared.hosts.Hosts.{Hosts}
 use Rattle.nvme_simulation.specs.declared.machine.Machine.{Machine}
 use Rattle.nvme_simulation.specs.declared.simulation.Simulation.{Simulation}
 use Rattle.nvme_simulation.proofs.Machines.{goes_self, works, works_then, works_time}
+use Rattle.nvme_simulation.proofs.Quiet.{stays_front}
 use Rattle.nvme_simulation.proofs.Rooms.{device_then}
 
 works_self : (m : Machine) → IsFront m.front → Works m m
@@ -160,7 +161,7 @@ below_end false m n is = absurd (cc is)
 
 pub same_model : (a b : Simulation) → Stays a b → IsSameModel a b
 same_model a b s = record {
-  front = s.works.front;
+  front = stays_front a.machine.front b.machine.front s.works.front;
   device = s.works.device;
   end = ap (λ (x : Simulation). x.end) s.rest;
   pauses = ap (λ (x : Simulation). x.pauses) s.rest;

@@ -7,6 +7,7 @@ mod Moves
 mod Plans
 mod Pools
 mod Progress
+mod Quiet
 mod Resting
 mod Rooms
 mod Runs
@@ -15,3 +16,4 @@ mod Stepping
 mod Taking
 mod Telling
 mod Waiting
+mod Waits

@@ -6,11 +6,13 @@ use Rattle.nvme_channels.specs.Steps.{finish_of, pause_of, resume_of}
 use Rattle.nvme_clock.specs.Held.{Held, pushed}
 use Rattle.nvme_simulation.specs.Following.{IsNextOf, PlansIf, PlansNext}
 use Rattle.nvme_simulation.specs.Fronts.{IsFront, StaysFront}
-use Rattle.nvme_simulation.specs.Machines.{Completes, EndsAndStarts, Goes, Works}
+use Rattle.nvme_simulation.specs.Machines.{Completes, EndsAndStarts, Goes, Works, Acts}
 use Rattle.nvme_simulation.specs.Moving.{StartsIn}
 use Rattle.nvme_simulation.specs.Pausing.{GoesOn, PausesFor}
 use Rattle.nvme_simulation.specs.Plans.{events_of}
 use Rattle.nvme_simulation.specs.Progress.{AllGoOn, OneComes}
+use Rattle.nvme_simulation.specs.Quiet.{GoesFront}
+use Rattle.nvme_simulation.specs.Resting.{AllRest}
 use Rattle.nvme_simulation.specs.Starts.{AnswersAs, PlansEnd}
 use Rattle.nvme_simulation.specs.Steps.{cost_at}
 use Rattle.nvme_simulation.specs.Times.{now_of}
@@ -24,6 +26,7 @@ use Rattle.nvme_simulation.specs.declared.machine.Machine.{Machine}
 use Rattle.nvme_simulation.proofs.Hosted.{all_stay, all_then}
 use Rattle.nvme_simulation.proofs.Plans.{follows_self, follows_then, follows_time}
 use Rattle.nvme_simulation.proofs.Resting.{all_rest}
+use Rattle.nvme_simulation.proofs.Quiet.{front_goes, front_rests, stays_front}
 use Rattle.nvme_simulation.proofs.Rooms.{behind_none, behind_then}
 
 pub front_stays : (f : Front) → IsFront f → StaysFront f f
@@ -32,7 +35,7 @@ front_stays f is = record { is = is; depths = refl; arbitrates = λ m s a. a }
 pub front_then : (a b c : Front) → StaysFront a b → StaysFront b c → StaysFront a c
 front_then a b c first second = record { is = second.is; depths = second.depths ∙ first.depths; arbitrates = λ m s it. second.arbitrates m s (first.arbitrates m s it) }
 
-pub goes_front : (a b : Machine) → AllGoOn (now_of a.agenda) a.hosts b.hosts → StaysFront a.front b.front → b.agenda ≡ a.agenda → b.device ≡ a.device → Goes a b
+pub goes_front : (a b : Machine) → AllGoOn (now_of a.agenda) a.hosts b.hosts → GoesFront a.front b.front → b.agenda ≡ a.agenda → b.device ≡ a.device → Goes a b
 goes_front a b hosts front agenda device = record {
   front = front;
   hosts = hosts;
@@ -42,7 +45,7 @@ goes_front a b hosts front agenda device = record {
 
 pub goes_self : (a : Machine) → IsFront a.front → Goes a a
 goes_self a is = record {
-  front = front_stays a.front is;
+  front = front_rests a.front is;
   hosts = all_stay (now_of a.agenda) a.hosts;
   events = follows_self (events_of a.agenda);
   device = behind_none (device_in a.device);
@@ -50,7 +53,28 @@ goes_self a is = record {
 
 pub goes_then : (a b c : Machine) → Goes a b → Goes b c → Goes a c
 goes_then a b c first second = record {
-  front = front_then a.front b.front c.front first.front second.front;
+  front = front_goes a.front b.front c.front first.front second.front;
+  hosts = all_then (now_of a.agenda) a.hosts b.hosts c.hosts first.hosts
+      (subst (λ (t : ℕ). AllGoOn t b.hosts c.hosts) (follows_time (events_of a.agenda) (events_of b.agenda) first.events) second.hosts);
+  events = follows_then (events_of a.agenda) (events_of b.agenda) (events_of c.agenda) first.events second.events;
+  device = behind_then (device_in a.device) (device_in b.device) (device_in c.device) first.device second.device;
+}
+
+-- so where a command may be picked
+pub acts : (a b : Machine) → Goes a b → Acts a b
+acts a b g = record { front = stays_front a.front b.front g.front; hosts = g.hosts; events = g.events; device = g.device }
+
+pub acts_front : (a b : Machine) → AllGoOn (now_of a.agenda) a.hosts b.hosts → StaysFront a.front b.front → b.agenda ≡ a.agenda → b.device ≡ a.device → Acts a b
+acts_front a b hosts front agenda device = record {
+  front = front;
+  hosts = hosts;
+  events = rw agenda (follows_self (events_of a.agenda));
+  device = rw device (behind_none (device_in a.device));
+}
+
+pub acts_then : (a b c : Machine) → Acts a b → Goes b c → Acts a c
+acts_then a b c first second = record {
+  front = front_then a.front b.front c.front first.front (stays_front b.front c.front second.front);
   hosts = all_then (now_of a.agenda) a.hosts b.hosts c.hosts first.hosts
       (subst (λ (t : ℕ). AllGoOn t b.hosts c.hosts) (follows_time (events_of a.agenda) (events_of b.agenda) first.events) second.hosts);
   events = follows_then (events_of a.agenda) (events_of b.agenda) (events_of c.agenda) first.events second.events;
@@ -69,7 +93,7 @@ works a b g = record { front = g.front; events = g.events; device = g.device }
 
 pub works_then : (a b c : Machine) → Works a b → Works b c → Works a c
 works_then a b c first second = record {
-  front = front_then a.front b.front c.front first.front second.front;
+  front = front_goes a.front b.front c.front first.front second.front;
   events = follows_then (events_of a.agenda) (events_of b.agenda) (events_of c.agenda) first.events second.events;
   device = behind_then (device_in a.device) (device_in b.device) (device_in c.device) first.device second.device;
 }

@@ -33,7 +33,7 @@ at_pool P pool old slots value size is =
 pub again : (mechanism : Mechanism) (settings : ArbitrationFields) (before after : Controller) (old slots : List Slot)
     (a : Arbitrates mechanism settings before old) (notes : Notes) → Stands a.rules a.late notes after slots → Arbitrates mechanism settings after slots
 again mechanism settings before after old slots a notes s =
-    record { rules = a.rules; late = a.late; notes = notes; stands = s; mechanism_is = a.mechanism_is; settings_are = a.settings_are }
+    record { rules = a.rules; late = a.late; notes = notes; stands = s; in_time = a.in_time; mechanism_is = a.mechanism_is; settings_are = a.settings_are }
 
 -- an admin command leaves the mechanism and the first settings
 placed_mechanism : (p : Option Placing) (v : Verdict) (e : Sqe) (rules : FrontRules) → (placed_by p v e rules).mechanism ≡ rules.mechanism
@@ -61,6 +61,7 @@ stepped mechanism settings before after old slots a room (Done effect entry) h =
   late = a.late;
   notes = _;
   stands = h.carried_out.stands;
+  in_time = a.in_time;
   mechanism_is = placed_mechanism _ h.verdict entry a.rules ∙ a.mechanism_is;
   settings_are = placed_settings _ h.verdict entry a.rules ∙ a.settings_are;
 }

@@ -1,5 +1,5 @@
 -- A controller with its slots. (profile)
-use Rattle.std.specs.Prelude.{◌≡◌, ℕ, Bool, List}
+use Rattle.std.specs.Prelude.{◌≡◌, ℕ, Bool, false, List}
 use Rattle.nvme_arbiter.specs.Settings.{ArbitrationFields}
 use Rattle.nvme_arbiter.specs.declared.settings.Mechanism.{Mechanism}
 use Rattle.nvme_log.specs.Rules.{FrontRules}
@@ -26,12 +26,13 @@ IsFront f = IsController f.controller f.pool.items
 abbrev pub StandsBy : FrontRules → Bool → Notes → Front → Type 0
 StandsBy rules late notes f = Stands rules late notes f.controller f.pool.items
 
--- a controller stands at some notes, and arbitrates by this mechanism with these first settings
+-- a controller stands at some notes, of which it keeps an account, and arbitrates by this mechanism with these first settings
 pub record Arbitrates (mechanism : Mechanism) (settings : ArbitrationFields) (c : Controller) (slots : List Slot) : Type 0 where
   pub rules : FrontRules
   pub late : Bool
   pub notes : Notes
   pub stands : Stands rules late notes c slots
+  pub in_time : late ≡ false
   pub mechanism_is : rules.mechanism ≡ mechanism
   pub settings_are : rules.start.settings ≡ settings
 

@@ -18,6 +18,7 @@ pub mod Picks
 pub mod Planning
 pub mod Plans
 pub mod Progress
+pub mod Quiet
 pub mod Ranks
 pub mod Reading
 pub mod Resting
@@ -32,3 +33,4 @@ pub mod Taking
 pub mod Telling
 pub mod Times
 pub mod Waiting
+pub mod Waits

@@ -8,6 +8,7 @@ use Rattle.nvme_simulation.specs.Fronts.{IsCompletionOf, StaysFront}
 use Rattle.nvme_simulation.specs.Moving.{OneMoves, StartsIn}
 use Rattle.nvme_simulation.specs.Plans.{Follows, events_of}
 use Rattle.nvme_simulation.specs.Progress.{AllGoOn, AsksFor}
+use Rattle.nvme_simulation.specs.Quiet.{GoesFront}
 use Rattle.nvme_simulation.specs.Resting.{AllRest}
 use Rattle.nvme_simulation.specs.Rings.{OneHears}
 use Rattle.nvme_simulation.specs.Starts.{AnswersAs, PlansEnd, number_in}
@@ -21,8 +22,15 @@ use Rattle.nvme_simulation.specs.declared.hosts.Hosts.{Hosts}
 use Rattle.nvme_simulation.specs.declared.machine.Machine.{Machine}
 
 -- the controller stands, commands go on now and none comes or is done, events are planned and none comes, and the device is called
-pub record Goes (before after : Machine) : Type 0 where
+pub record Acts (before after : Machine) : Type 0 where
   pub front : StaysFront before.front after.front
+  pub hosts : AllGoOn (now_of before.agenda) before.hosts after.hosts
+  pub events : Follows (events_of before.agenda) (events_of after.agenda)
+  pub device : IsBehind (device_in before.device) (device_in after.device)
+
+-- so, and none is picked
+pub record Goes (before after : Machine) : Type 0 where
+  pub front : GoesFront before.front after.front
   pub hosts : AllGoOn (now_of before.agenda) before.hosts after.hosts
   pub events : Follows (events_of before.agenda) (events_of after.agenda)
   pub device : IsBehind (device_in before.device) (device_in after.device)
@@ -65,6 +73,6 @@ pub record EndsAndStarts (channel : ℕ) (taken : Taken) (before after : Machine
 
 -- so, but that commands may come and be done
 pub record Works (before after : Machine) : Type 0 where
-  pub front : StaysFront before.front after.front
+  pub front : GoesFront before.front after.front
   pub events : Follows (events_of before.agenda) (events_of after.agenda)
   pub device : IsBehind (device_in before.device) (device_in after.device)

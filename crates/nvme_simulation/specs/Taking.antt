@@ -8,7 +8,7 @@ use Rattle.nvme_simulation.specs.Resting.{AllRest}
 use Rattle.nvme_simulation.specs.Times.{now_of}
 use Rattle.nvme_simulation.specs.declared.front.Front.{Front}
 use Rattle.nvme_simulation.specs.declared.happening.Happening.{Happening}
-use Rattle.nvme_simulation.specs.declared.happening.Happening.TheVariants.{Picked, Settled}
+use Rattle.nvme_simulation.specs.declared.happening.Happening.TheVariants.{Over, Picked, Settled}
 use Rattle.nvme_simulation.specs.declared.machine.Machine.{Machine}
 
 -- the device takes so many commands of a queue, one after another
@@ -31,8 +31,9 @@ pub record TakesPick (pick : Pick) (before after : Machine) : Type 0 where
   pub reads : Reads taken after
   pub all : HasRead pick.qid after.front
 
--- what is picked is what is told. Where none is, nothing but the controller changes
+-- what is picked is what is told. Where none is, nothing but the controller changes, and at the end nothing but the agenda
 abbrev pub PicksAsTold : (before after : Machine) → Happening → Type 0
 PicksAsTold before after (Picked p) = TakesPick p.pick before after
 PicksAsTold before after Settled = after ≡ record before { front = after.front }
+PicksAsTold before after Over = after ≡ record before { agenda = after.agenda }
 PicksAsTold before after h = Unit {0}

@@ -43,9 +43,10 @@ impl Front {
     ghost use Rattle.nvme_log.specs.Rules.{FrontRules};
     ghost use Rattle.nvme_ctrl_log.specs.Notes.{Notes};
     ghost use Rattle.nvme_ctrl_log.specs.Observation.{seen_in};
-    ghost use Rattle.nvme_ctrl_log.specs.Steps.{IsNextPick, IsNextWithin};
+    ghost use Rattle.nvme_ctrl_log.specs.Steps.{IsNextPick, IsNextWithin, picked_notes};
     ghost use Rattle.nvme_ctrl.specs.Posts.{next_post_of};
     ghost use Rattle.nvme_ctrl.specs.declared.picks.Step.TheVariants as step;
+    ghost use Rattle.nvme_simulation.specs.Quiet.{Quietly};
     ghost use Rattle.nvme_simulation.specs.Reading.{HasRead};
     ghost use Rattle.nvme_simulation.specs.Fronts.{HasDepths, IsFront, IsFrontOf, StandsBy, StaysFront};
 
@@ -84,6 +85,7 @@ impl Front {
     pub(crate) fn submit(&mut self, qid: u16, tail: u16) -> bool
         requires front { IsFront self.old }
         ensures front { StaysFront self.old self.new }
+        ensures quiet { Quietly self.old self.new }
     {
         self.controller.sq_tail(qid, tail)
     }
@@ -99,6 +101,7 @@ impl Front {
     pub(crate) fn fetched(&mut self, qid: u16, entry: &Sqe, cookie: u32) -> bool
         requires front { IsFront self.old }
         ensures front { StaysFront self.old self.new }
+        ensures quiet { Quietly self.old self.new }
     {
         self.controller.fetched(&mut self.pool, qid, entry, cookie)
     }
@@ -116,6 +119,8 @@ impl Front {
         ensures front { StaysFront self.old self.new }
         ensures idle { result ≡ step.Idle → (rules : FrontRules) (late : Bool) (notes : Notes) → StandsBy rules late notes self.old → IsNextPick rules notes None }
         ensures picked { (pick : Pick) → result ≡ step.Picked pick → (rules : FrontRules) (late : Bool) (notes : Notes) → StandsBy rules late notes self.old → IsNextWithin rules notes room (Some pick) }
+        ensures still { result ≡ step.Idle → Quietly self.old self.new }
+        ensures noted { (pick : Pick) → result ≡ step.Picked pick → (rules : FrontRules) (late : Bool) (notes : Notes) → StandsBy rules late notes self.old → StandsBy rules late (picked_notes notes pick) self.new }
     {
         self.controller.pick(&mut self.pool, room)
     }
@@ -124,6 +129,7 @@ impl Front {
     pub(crate) fn take(&mut self, qid: u16) -> Option<Taken>
         requires front { IsFront self.old }
         ensures front { StaysFront self.old self.new }
+        ensures quiet { Quietly self.old self.new }
         ensures queue { IfSome result (λ taken. taken.qid ≡ qid) }
     {
         let tag = self.controller.take(&mut self.pool)?;
@@ -135,6 +141,7 @@ impl Front {
     pub(crate) fn complete(&mut self, tag: u16) -> bool
         requires front { IsFront self.old }
         ensures front { StaysFront self.old self.new }
+        ensures quiet { Quietly self.old self.new }
     {
         self.controller.complete(&mut self.pool, tag, DONE)
     }
@@ -144,6 +151,7 @@ impl Front {
         requires front { IsFront self.old }
         ensures front { StaysFront self.old self.new }
         ensures value { result ≡ next_post_of self.old.controller self.old.pool.items cqid }
+        ensures quiet { Quietly self.old self.new }
     {
         self.controller.post(&mut self.pool, cqid)
     }
@@ -152,6 +160,7 @@ impl Front {
     pub(crate) fn read(&mut self, cqid: u16, head: u16) -> bool
         requires front { IsFront self.old }
         ensures front { StaysFront self.old self.new }
+        ensures quiet { Quietly self.old self.new }
     {
         self.controller.cq_head(cqid, head)
     }

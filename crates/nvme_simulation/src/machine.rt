@@ -32,12 +32,13 @@ impl Machine {
     ghost use Rattle.nvme_simulation.specs.Devices.{room_in};
     ghost use Rattle.nvme_simulation.specs.Following.{ComesAndFollows, PlansNext, goes_on};
     ghost use Rattle.nvme_simulation.specs.Fronts.{IsCompletionOf, IsFront, StandsBy};
-    ghost use Rattle.nvme_simulation.specs.Machines.{Completes, EndsAndStarts, Goes, TakesPicked, Works};
+    ghost use Rattle.nvme_simulation.specs.Machines.{Completes, EndsAndStarts, Goes, TakesPicked, Works, Acts};
     ghost use Rattle.nvme_simulation.specs.Passing.{Passes};
     ghost use Rattle.nvme_simulation.specs.Moving.{StartsIn};
     ghost use Rattle.nvme_simulation.specs.Pausing.{GoesOn, PausesFor};
     ghost use Rattle.nvme_simulation.specs.Plans.{IsOfPicks, events_of};
     ghost use Rattle.nvme_simulation.specs.Progress.{OneComes, OneEnds};
+    ghost use Rattle.nvme_simulation.specs.Quiet.{NotesAs};
     ghost use Rattle.nvme_simulation.specs.Reading.{HasRead};
     ghost use Rattle.nvme_simulation.specs.Resting.{AllRest};
     ghost use Rattle.nvme_simulation.specs.Rings.{HasSubmitted};
@@ -182,12 +183,13 @@ impl Machine {
     // command can be picked: none waits, or the device has no room.
     pub(crate) fn pick(&mut self) -> Result<Happening, SimulationFault>
         requires front { IsFront self.old.front }
-        ensures goes { Goes self.old self.new }
+        ensures goes { Acts self.old self.new }
         ensures cost { IfOk result (λ h. cost_with self.new + picked_in h ≤ cost_with self.old) }
         ensures of_picks { IfOk result IsOfPicks }
         ensures timed { IfOk result (IsTimed (now_of self.old.agenda)) }
         ensures counts { (end : End) (now : ℕ) (occupancy : Occupancy) → IfOk result (Counts end now occupancy occupancy) }
         ensures lawful { (rules : FrontRules) (late : Bool) (notes : Notes) → StandsBy rules late notes self.old.front → IfOk result (IsLawful rules notes (room_in self.old.device)) }
+        ensures notes { IfOk result (λ h. NotesAs h self.old.front self.new.front) }
         ensures passes { (may counts : Bool) → IfOk result (Passes may counts (now_of self.old.agenda) self.old.hosts self.new.hosts) }
         ensures picks { IfOk result (PicksAsTold self.old self.new) }
     {

@@ -1,9 +1,11 @@
 use Rattle.std.proofs.Common.{List, inl, inr, sym, subst}
 use Rattle.std.proofs.lemmas.Bool.{cases_Bool}
-use Rattle.nvme_ctrl.specs.Standing.{IsController}
+use Rattle.nvme_ctrl.specs.Standing.{IsController, Stands}
 use Rattle.nvme_slots.specs.declared.slot.Slot.{Slot}
 use Rattle.nvme_simulation.specs.Fronts.{Arbitrates}
+use Rattle.nvme_simulation.specs.Quiet.{StandsBehind}
 use Rattle.nvme_simulation.proofs.Pools.{answered, at_pool, unchanged}
+use Rattle.nvme_simulation.proofs.Quiet.{behind_answer, behind_same}
 use Rattle.nvme_simulation.proofs.front.Front.complete.Goals as goal
 
 pub returns : goal.returns
@@ -22,4 +24,11 @@ returns c =
               | inr refused ↦ unchanged m s _ _ _ _ (c.complete.ensures.refused refused) stood
             ]);
       };
+      quiet = λ rules late notes s.
+          at_pool (λ (xs : List Slot). StandsBehind rules late notes made xs) c.args.self.now.pool _ c.complete.new.slots value c.complete.ensures.size
+          (let stood = subst (λ (xs : List Slot). Stands rules late notes c.args.self.now.controller xs) (sym value) s in
+          elim (cases_Bool c.complete.result) [
+            | inl done ↦ behind_answer rules late notes _ _ _ _ _ (c.complete.ensures.stands rules late notes stood done)
+            | inr refused ↦ behind_same rules late notes _ _ _ _ (c.complete.ensures.refused refused) stood
+          ]);
     }

@@ -1,9 +1,11 @@
 use Rattle.std.proofs.Common.{List, inl, inr, sym, subst}
 use Rattle.std.proofs.lemmas.Bool.{cases_Bool}
-use Rattle.nvme_ctrl.specs.Standing.{IsController}
+use Rattle.nvme_ctrl.specs.Standing.{IsController, Stands}
 use Rattle.nvme_slots.specs.declared.slot.Slot.{Slot}
 use Rattle.nvme_simulation.specs.Fronts.{Arbitrates}
+use Rattle.nvme_simulation.specs.Quiet.{StandsBehind}
 use Rattle.nvme_simulation.proofs.Pools.{fetched, at_pool, unchanged}
+use Rattle.nvme_simulation.proofs.Quiet.{behind_fetch, behind_same}
 use Rattle.nvme_simulation.proofs.front.Front.fetched.Goals as goal
 
 pub returns : goal.returns
@@ -22,4 +24,11 @@ returns c =
               | inr refused ↦ unchanged m s _ _ _ _ (c.fetched.ensures.refused refused) stood
             ]);
       };
+      quiet = λ rules late notes s.
+          at_pool (λ (xs : List Slot). StandsBehind rules late notes made xs) c.args.self.now.pool _ c.fetched.new.slots value c.fetched.ensures.size
+          (let stood = subst (λ (xs : List Slot). Stands rules late notes c.args.self.now.controller xs) (sym value) s in
+          elim (cases_Bool c.fetched.result) [
+            | inl done ↦ behind_fetch rules late notes _ _ _ _ _ (c.fetched.ensures.stands rules late notes stood done)
+            | inr refused ↦ behind_same rules late notes _ _ _ _ (c.fetched.ensures.refused refused) stood
+          ]);
     }

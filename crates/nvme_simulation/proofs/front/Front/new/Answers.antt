@@ -13,6 +13,7 @@ returns-in-Ok c = record {
         late = _;
         notes = [];
         stands = c.in-Ok.ensures.stands [];
+        in_time = refl;
         mechanism_is = refl;
         settings_are = refl;
       });

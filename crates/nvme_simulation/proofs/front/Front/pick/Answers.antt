@@ -4,8 +4,11 @@ use Rattle.nvme_ctrl.specs.Steps.{HasStepped}
 use Rattle.nvme_ctrl.specs.declared.picks.Step.{Step}
 use Rattle.nvme_slots.specs.declared.slot.Slot.{Slot}
 use Rattle.nvme_ctrl.proofs.MayPick.{arbiter_there}
+use Rattle.nvme_ctrl_log.specs.Steps.{picked_notes}
 use Rattle.nvme_simulation.specs.Fronts.{Arbitrates}
+use Rattle.nvme_simulation.specs.Quiet.{StandsBehind}
 use Rattle.nvme_simulation.proofs.Pools.{at_pool, stepped}
+use Rattle.nvme_simulation.proofs.Quiet.{behind_none}
 use Rattle.nvme_simulation.proofs.front.Front.pick.Goals as goal
 
 pub pick-requires : goal.pick-requires
@@ -32,3 +35,18 @@ pub returns-clause-picked : goal.returns-clause-picked
 returns-clause-picked c pick is rules late notes s =
     let stood = subst (λ (xs : List Slot). Stands rules late notes c.args.self.now.controller xs) (sym c.deref_mut.ensures.value) s in
     (subst (λ (st : Step). HasStepped rules late notes c.args.room st c.pick.new.self c.pick.new.slots) is (c.pick.ensures.stands rules late notes stood)).0
+
+pub returns-clause-still : goal.returns-clause-still
+returns-clause-still c is rules late notes s =
+    let value = c.deref_mut.ensures.value in
+    at_pool (λ (xs : List Slot). StandsBehind rules late notes c.pick.new.self xs) c.args.self.now.pool _ c.pick.new.slots value c.pick.ensures.size
+    (let stood = subst (λ (xs : List Slot). Stands rules late notes c.args.self.now.controller xs) (sym value) s in
+    behind_none rules late notes _ _
+    (subst (λ (st : Step). HasStepped rules late notes c.args.room st c.pick.new.self c.pick.new.slots) is (c.pick.ensures.stands rules late notes stood)).0)
+
+pub returns-clause-noted : goal.returns-clause-noted
+returns-clause-noted c pick is rules late notes s =
+    let value = c.deref_mut.ensures.value in
+    at_pool (λ (xs : List Slot). Stands rules late (picked_notes notes pick) c.pick.new.self xs) c.args.self.now.pool _ c.pick.new.slots value c.pick.ensures.size
+    (let stood = subst (λ (xs : List Slot). Stands rules late notes c.args.self.now.controller xs) (sym value) s in
+    (subst (λ (st : Step). HasStepped rules late notes c.args.room st c.pick.new.self c.pick.new.slots) is (c.pick.ensures.stands rules late notes stood)).1)

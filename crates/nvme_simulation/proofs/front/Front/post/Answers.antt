@@ -1,9 +1,11 @@
-use Rattle.std.proofs.Common.{◌∙◌, List, ap, sym, subst}
+use Rattle.std.proofs.Common.{◌∙◌, List, ap, sym, subst, refl}
 use Rattle.nvme_ctrl.specs.Posts.{next_post_of}
-use Rattle.nvme_ctrl.specs.Standing.{IsController}
+use Rattle.nvme_ctrl.specs.Standing.{IsController, Stands}
 use Rattle.nvme_slots.specs.declared.slot.Slot.{Slot}
 use Rattle.nvme_simulation.specs.Fronts.{Arbitrates}
+use Rattle.nvme_simulation.specs.Quiet.{StandsBehind}
 use Rattle.nvme_simulation.proofs.Pools.{again, at_pool, told}
+use Rattle.nvme_simulation.proofs.Quiet.{behind_one, behind_told}
 use Rattle.nvme_simulation.proofs.front.Front.post.Goals as goal
 
 pub returns : goal.returns
@@ -20,4 +22,9 @@ returns c =
             (λ x h. again m s _ _ _ _ stood _ h.stands) stood);
       };
       value = c.post.ensures.value ∙ ap (λ (xs : List Slot). next_post_of c.args.self.now.controller xs c.args.cqid) value;
+      quiet = λ rules late notes s.
+          at_pool (λ (xs : List Slot). StandsBehind rules late notes c.post.new.self xs) c.args.self.now.pool _ c.post.new.slots value c.post.ensures.size
+          (let stood = subst (λ (xs : List Slot). Stands rules late notes c.args.self.now.controller xs) (sym value) s in
+          behind_told rules late notes _ _ _ _ _ c.post.result c.post.ensures.none (c.post.ensures.stands rules late notes stood)
+          (λ x h. behind_one rules late notes _ _ _ refl h.stands) stood);
     }

@@ -1,8 +1,9 @@
-use Rattle.std.proofs.Common.{inl, inr, sym, subst}
+use Rattle.std.proofs.Common.{inl, inr, refl, sym, subst}
 use Rattle.std.proofs.lemmas.Bool.{cases_Bool}
 use Rattle.nvme_ctrl.specs.declared.state.Controller.{Controller}
 use Rattle.nvme_simulation.specs.Fronts.{Arbitrates}
 use Rattle.nvme_simulation.proofs.Pools.{again}
+use Rattle.nvme_simulation.proofs.Quiet.{behind_one, behind_same}
 use Rattle.nvme_simulation.proofs.front.Front.submit.Goals as goal
 
 pub returns : goal.returns
@@ -15,4 +16,8 @@ returns c = record {
       | inr refused ↦ subst (λ (x : Controller). Arbitrates m s x c.args.self.now.pool.items) (sym (c.sq_tail.ensures.refused refused)) a
     ];
   };
+  quiet = λ rules late notes s. elim (cases_Bool c.sq_tail.result) [
+    | inl rung ↦ behind_one rules late notes _ _ _ refl (c.sq_tail.ensures.stands rules late notes c.args.self.now.pool.items s rung).stands
+    | inr refused ↦ behind_same rules late notes _ _ _ _ (c.sq_tail.ensures.refused refused, refl) s
+  ];
 }

@@ -4,14 +4,15 @@ use Rattle.nvme_simulation.specs.Reading.{HasRead}
 use Rattle.nvme_simulation.specs.Rings.{HasSubmitted}
 use Rattle.nvme_simulation.specs.declared.machine.Machine.{Machine}
 use Rattle.nvme_simulation.proofs.Hosted.{come_then}
-use Rattle.nvme_simulation.proofs.Machines.{all_at, comes_at, front_stays, goes_then, on_ok, plans_if, plans_if_not, works}
+use Rattle.nvme_simulation.proofs.Machines.{all_at, comes_at, front_stays, goes_then, on_ok, plans_if, plans_if_not, works, on_ok_to}
+use Rattle.nvme_simulation.proofs.Quiet.{front_rests}
 use Rattle.nvme_simulation.proofs.Plans.{follows_self, follows_time}
 use Rattle.nvme_simulation.proofs.Rooms.{behind_none}
 use Rattle.nvme_simulation.proofs.Taking.{on_ok_both}
 use Rattle.nvme_simulation.proofs.machine.Machine.come.Goals as goal
 
 pub returns-in_err-come-clause-works : goal.returns-in_err-come-clause-works
-returns-in_err-come-clause-works c = record { front = front_stays _ c.requires.front; events = follows_self _; device = behind_none _ }
+returns-in_err-come-clause-works c = record { front = front_rests _ c.requires.front; events = follows_self _; device = behind_none _ }
 
 pub returns-then-not-is_followed-clause-works : goal.returns-then-not-is_followed-clause-works
 returns-then-not-is_followed-clause-works c =

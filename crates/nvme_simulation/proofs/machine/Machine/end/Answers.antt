@@ -5,12 +5,13 @@ use Rattle.nvme_simulation.specs.Starts.{PlansEnd}
 use Rattle.nvme_simulation.specs.declared.agenda.Agenda.{Agenda}
 use Rattle.nvme_simulation.proofs.Hosted.{all_stay}
 use Rattle.nvme_simulation.proofs.Machines.{completes_from, ends_at, front_stays, goes_then}
+use Rattle.nvme_simulation.proofs.Quiet.{front_rests}
 use Rattle.nvme_simulation.proofs.Plans.{follows_self}
 use Rattle.nvme_simulation.proofs.machine.Machine.end.Goals as goal
 
 pub returns-in_err-taken-clause-goes : goal.returns-in_err-taken-clause-goes
 returns-in_err-taken-clause-goes c = record {
-  front = front_stays _ c.requires.front;
+  front = front_rests _ c.requires.front;
   hosts = all_stay _ _;
   events = follows_self _;
   device = c.finish.ensures.behind;
@@ -18,7 +19,7 @@ returns-in_err-taken-clause-goes c = record {
 
 pub returns-in_err-start-clause-goes : goal.returns-in_err-start-clause-goes
 returns-in_err-start-clause-goes c = goes_then _ _ _ (record {
-  front = front_stays _ c.requires.front;
+  front = front_rests _ c.requires.front;
   hosts = all_stay _ _;
   events = follows_self _;
   device = c.finish.ensures.behind;
@@ -26,7 +27,7 @@ returns-in_err-start-clause-goes c = goes_then _ _ _ (record {
 
 pub returns-in_err-collect-clause-goes : goal.returns-in_err-collect-clause-goes
 returns-in_err-collect-clause-goes c = goes_then _ _ _ (goes_then _ _ _ (record {
-  front = front_stays _ c.requires.front;
+  front = front_rests _ c.requires.front;
   hosts = all_stay _ _;
   events = follows_self _;
   device = c.finish.ensures.behind;
@@ -34,7 +35,7 @@ returns-in_err-collect-clause-goes c = goes_then _ _ _ (goes_then _ _ _ (record 
 
 pub returns-clause-goes : goal.returns-clause-goes
 returns-clause-goes c = goes_then _ _ _ (goes_then _ _ _ (record {
-  front = front_stays _ c.requires.front;
+  front = front_rests _ c.requires.front;
   hosts = all_stay _ _;
   events = follows_self _;
   device = c.finish.ensures.behind;

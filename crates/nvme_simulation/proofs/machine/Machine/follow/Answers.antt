@@ -1,11 +1,12 @@
 use Rattle.std.proofs.Common.{arith}
-use Rattle.nvme_simulation.proofs.Machines.{arrival_costs, front_stays, plans_next}
+use Rattle.nvme_simulation.proofs.Machines.{arrival_costs, plans_next}
+use Rattle.nvme_simulation.proofs.Quiet.{front_rests}
 use Rattle.nvme_simulation.proofs.Rooms.{behind_none}
 use Rattle.nvme_simulation.proofs.machine.Machine.follow.Goals as goal
 
 pub returns-clause-goes : goal.returns-clause-goes
 returns-clause-goes c = record {
-  front = front_stays _ c.requires.front;
+  front = front_rests _ c.requires.front;
   hosts = c.next_after-next.ensures.goes _;
   events = c.plan.ensures.follows;
   device = behind_none _;

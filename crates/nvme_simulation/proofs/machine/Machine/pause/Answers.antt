@@ -1,12 +1,13 @@
 use Rattle.std.proofs.Common.{refl}
-use Rattle.nvme_simulation.proofs.Machines.{front_stays, pauses_at, plans_sum}
+use Rattle.nvme_simulation.proofs.Machines.{pauses_at, plans_sum}
+use Rattle.nvme_simulation.proofs.Quiet.{front_rests}
 use Rattle.nvme_simulation.proofs.Hosted.{all_stay}
 use Rattle.nvme_simulation.proofs.Plans.{follows_self}
 use Rattle.nvme_simulation.proofs.machine.Machine.pause.Goals as goal
 
 pub returns-in_err-pause-clause-goes : goal.returns-in_err-pause-clause-goes
 returns-in_err-pause-clause-goes c = record {
-  front = front_stays _ c.requires.front;
+  front = front_rests _ c.requires.front;
   hosts = all_stay _ _;
   events = follows_self _;
   device = c.pause.ensures.behind;
@@ -14,7 +15,7 @@ returns-in_err-pause-clause-goes c = record {
 
 pub returns-clause-goes : goal.returns-clause-goes
 returns-clause-goes c = record {
-  front = front_stays _ c.requires.front;
+  front = front_rests _ c.requires.front;
   hosts = all_stay _ _;
   events = c.plan.ensures.follows;
   device = c.pause.ensures.behind;

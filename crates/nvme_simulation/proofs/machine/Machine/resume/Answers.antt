@@ -1,6 +1,7 @@
 use Rattle.std.proofs.Common.{◌∙◌, ap}
 use Rattle.nvme_simulation.specs.Devices.{device_in}
-use Rattle.nvme_simulation.proofs.Machines.{front_stays, goes_on_at, goes_then}
+use Rattle.nvme_simulation.proofs.Machines.{goes_on_at, goes_then}
+use Rattle.nvme_simulation.proofs.Quiet.{front_rests}
 use Rattle.nvme_simulation.proofs.Hosted.{all_stay}
 use Rattle.nvme_simulation.proofs.Plans.{follows_self}
 use Rattle.nvme_simulation.proofs.Taking.{on_ok_both}
@@ -8,7 +9,7 @@ use Rattle.nvme_simulation.proofs.machine.Machine.resume.Goals as goal
 
 pub returns-in_err-started-clause-goes : goal.returns-in_err-started-clause-goes
 returns-in_err-started-clause-goes c = record {
-  front = front_stays _ c.requires.front;
+  front = front_rests _ c.requires.front;
   hosts = all_stay _ _;
   events = follows_self _;
   device = c.resume.ensures.behind;
@@ -16,7 +17,7 @@ returns-in_err-started-clause-goes c = record {
 
 pub returns-clause-goes : goal.returns-clause-goes
 returns-clause-goes c = goes_then _ _ _ (record {
-  front = front_stays _ c.requires.front;
+  front = front_rests _ c.requires.front;
   hosts = all_stay _ _;
   events = follows_self _;
   device = c.resume.ensures.behind;

@@ -5,17 +5,18 @@ use Rattle.nvme_simulation.specs.Devices.{device_in}
 use Rattle.nvme_simulation.proofs.Hosted.{all_stay}
 use Rattle.nvme_simulation.proofs.Plans.{follows_self}
 use Rattle.nvme_simulation.proofs.Taking.{moves_at, on_ok_both}
+use Rattle.nvme_simulation.proofs.Quiet.{front_by}
 use Rattle.nvme_simulation.proofs.machine.Machine.take.Goals as goal
 
 pub returns-in_default-clause-goes : goal.returns-in_default-clause-goes
-returns-in_default-clause-goes c = goes_front _ _ (all_stay _ _) c.take.ensures.front refl refl
+returns-in_default-clause-goes c = goes_front _ _ (all_stay _ _) (front_by _ _ c.take.ensures.front c.take.ensures.quiet) refl refl
 
 pub returns-in_err-request-clause-goes : goal.returns-in_err-request-clause-goes
-returns-in_err-request-clause-goes c = goes_front _ _ (all_at _ _ _ _ c.now-now.ensures.value c.pick.ensures.goes) c.take.ensures.front refl refl
+returns-in_err-request-clause-goes c = goes_front _ _ (all_at _ _ _ _ c.now-now.ensures.value c.pick.ensures.goes) (front_by _ _ c.take.ensures.front c.take.ensures.quiet) refl refl
 
 pub returns-in_err-started-clause-goes : goal.returns-in_err-started-clause-goes
 returns-in_err-started-clause-goes c = record {
-  front = c.take.ensures.front;
+  front = front_by _ _ c.take.ensures.front c.take.ensures.quiet;
   hosts = all_at _ _ _ _ c.now-now.ensures.value c.pick.ensures.goes;
   events = follows_self _;
   device = c.take-2.ensures.behind;
@@ -23,7 +24,7 @@ returns-in_err-started-clause-goes c = record {
 
 pub returns-clause-goes : goal.returns-clause-goes
 returns-clause-goes c = goes_then _ _ _ (record {
-  front = c.take.ensures.front;
+  front = front_by _ _ c.take.ensures.front c.take.ensures.quiet;
   hosts = all_at _ _ _ _ c.now-now.ensures.value c.pick.ensures.goes;
   events = follows_self _;
   device = c.take-2.ensures.behind;

@@ -10,7 +10,7 @@ returns-in_default-clause-same c = record { front = front_stays _ c.requires.fro
 
 pub returns-in_default-clause-steps : goal.returns-in_default-clause-steps
 returns-in_default-clause-steps c =
-    if_ok _ _ c.over.result (λ h. over_steps c.args.self.now c.pop.new.self h c.requires.no_picks (c.pop.ensures.value ∙ c.in_default.is) c.pop.ensures.rest) c.over.ensures
+    if_ok _ _ c.over.result (λ h. over_steps c.args.self.now c.pop.new.self h c.requires.front c.requires.no_picks (c.pop.ensures.value ∙ c.in_default.is) c.pop.ensures.rest c.pop.ensures.forward) c.over.ensures
 
 pub returns-in_default-clause-lawful : goal.returns-in_default-clause-lawful
 returns-in_default-clause-lawful c rules late notes s = if_ok _ _ c.over.result (λ h is. over_lawful h is.0 rules notes _) c.over.ensures
@@ -26,7 +26,7 @@ returns-clause-forward c = omega (arith, c.pop.ensures.forward, stays_time (reac
 pub returns-clause-steps : goal.returns-clause-steps
 returns-clause-steps c =
     let costs = c.pop.ensures.cost c.in-Some.event c.in-Some.is in
-    if_ok _ _ c.come.result (λ h. event_steps c.args.self.now c.come.new.self c.pop.new.self c.in-Some.event h c.requires.no_picks (c.pop.ensures.value ∙ c.in-Some.is) c.pop.ensures.rest costs c.come.ensures.stays) c.come.ensures.handles
+    if_ok _ _ c.come.result (λ h. event_steps c.args.self.now c.come.new.self c.pop.new.self c.in-Some.event h c.requires.no_picks (c.pop.ensures.value ∙ c.in-Some.is) c.pop.ensures.rest c.pop.ensures.forward costs c.come.ensures.stays) c.come.ensures.handles
 
 pub returns-clause-lawful : goal.returns-clause-lawful
 returns-clause-lawful c rules late notes s = if_ok _ _ c.come.result (λ h handles. event_lawful c.in-Some.event h handles.tells rules notes _) c.come.ensures.handles

@@ -25,4 +25,4 @@ returns-clause-steps c =
     let passes : Passes may (counts_next old) (now_of c.pick.new.self.agenda) old.machine.hosts c.pick.new.self.hosts h =
     subst (λ (t : ℕ). Passes may (counts_next old) t old.machine.hosts c.pick.new.self.hosts h) (sym now) (told.passes may (counts_next old)) in
     subst (λ (b : Bool). HasStepped old (record old { machine = c.pick.new.self; picks = b }) h) (sym c.is_pick-self.ensures)
-    (pick_steps old c.pick.new.self h c.requires.picks c.pick.ensures.goes told.cost told.of_picks timed (told.counts old.end _ old.occupancy) passes told.picks)
+    (pick_steps old c.pick.new.self h c.requires.picks c.pick.ensures.goes told.cost told.of_picks timed (told.counts old.end _ old.occupancy) passes told.picks told.lawful told.notes)

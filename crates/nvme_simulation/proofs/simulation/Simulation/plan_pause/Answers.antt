@@ -1,6 +1,7 @@
 use Rattle.std.proofs.Common.{◌∙◌, sym, arith}
 use Rattle.nvme_simulation.proofs.Hosted.{all_stay}
-use Rattle.nvme_simulation.proofs.Machines.{front_stays, goes_self, on_ok, pause_costs, plans_sum}
+use Rattle.nvme_simulation.proofs.Machines.{goes_self, on_ok, pause_costs, plans_sum}
+use Rattle.nvme_simulation.proofs.Quiet.{front_rests}
 use Rattle.nvme_simulation.proofs.Handling.{next_none, next_over, next_pause}
 use Rattle.nvme_simulation.specs.Simulations.{time_of}
 use Rattle.nvme_simulation.proofs.Rooms.{behind_none}
@@ -14,7 +15,7 @@ returns-then-is_over-clause-goes c = goes_self _ c.requires.front
 
 pub returns-clause-goes : goal.returns-clause-goes
 returns-clause-goes c = record {
-  front = front_stays _ c.requires.front;
+  front = front_rests _ c.requires.front;
   hosts = all_stay _ _;
   events = c.plan.ensures.follows;
   device = behind_none _;
