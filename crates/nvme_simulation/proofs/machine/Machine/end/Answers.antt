@@ -5,7 +5,7 @@ use Rattle.nvme_simulation.specs.Starts.{PlansEnd}
 use Rattle.nvme_simulation.specs.declared.agenda.Agenda.{Agenda}
 use Rattle.nvme_simulation.proofs.Hosted.{all_stay}
 use Rattle.nvme_simulation.proofs.Machines.{completes_from, ends_at, front_stays, goes_then}
-use Rattle.nvme_simulation.proofs.Quiet.{front_rests}
+use Rattle.nvme_simulation.proofs.Quiet.{front_rests, stays_front}
 use Rattle.nvme_simulation.proofs.Plans.{follows_self}
 use Rattle.nvme_simulation.proofs.machine.Machine.end.Goals as goal
 
@@ -46,4 +46,4 @@ returns-clause-plans c = ends_at c.now.result _ c.in_ok-taken.taken c.args.self.
     (ap device_in (c.collect.ensures.device ∙ c.start.ensures.device) ∙ c.in_ok-taken.ensures.ends)
     (subst (λ (a : Agenda). PlansEnd c.in_ok-taken.started (events_of c.args.self.now.agenda) (events_of a)) (sym c.collect.ensures.agenda) c.in_ok-start.ensures.plans)
     c.start.new.self.hosts c.in_ok-start.ensures.starts
-    (completes_from _ _ _ _ _ c.start.ensures.goes.front c.in_ok-collect.ensures.completes)
+    (completes_from _ _ _ _ _ (stays_front _ _ c.start.ensures.goes.front) c.in_ok-collect.ensures.completes)
