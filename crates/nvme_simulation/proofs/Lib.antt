@@ -1,4 +1,5 @@
 mod Beginnings
+mod Creating
 mod First
 mod Handling
 mod Hosted

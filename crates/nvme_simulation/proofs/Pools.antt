@@ -36,13 +36,13 @@ again mechanism settings before after old slots a notes s =
     record { rules = a.rules; late = a.late; notes = notes; stands = s; in_time = a.in_time; mechanism_is = a.mechanism_is; settings_are = a.settings_are }
 
 -- an admin command leaves the mechanism and the first settings
-placed_mechanism : (p : Option Placing) (v : Verdict) (e : Sqe) (rules : FrontRules) → (placed_by p v e rules).mechanism ≡ rules.mechanism
+pub placed_mechanism : (p : Option Placing) (v : Verdict) (e : Sqe) (rules : FrontRules) → (placed_by p v e rules).mechanism ≡ rules.mechanism
 placed_mechanism None v e rules = refl
 placed_mechanism (Some p) (verdict.OpenSq qid region cqid class) e rules = refl
 placed_mechanism (Some p) (verdict.OpenCq qid region) e rules = refl
 placed_mechanism (Some p) v e rules = refl
 
-placed_settings : (p : Option Placing) (v : Verdict) (e : Sqe) (rules : FrontRules) → (placed_by p v e rules).start.settings ≡ rules.start.settings
+pub placed_settings : (p : Option Placing) (v : Verdict) (e : Sqe) (rules : FrontRules) → (placed_by p v e rules).start.settings ≡ rules.start.settings
 placed_settings None v e rules = refl
 placed_settings (Some p) (verdict.OpenSq qid region cqid class) e rules = refl
 placed_settings (Some p) (verdict.OpenCq qid region) e rules = refl

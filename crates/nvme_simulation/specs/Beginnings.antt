@@ -12,6 +12,7 @@ use Rattle.nvme_model.specs.declared.model.Model.{Model}
 use Rattle.nvme_model.specs.declared.queue.Queue.{Queue}
 use Rattle.nvme_occupancy.specs.Occupancies.{IsEmpty}
 use Rattle.nvme_simulation.specs.Asking.{asking_of}
+use Rattle.nvme_simulation.specs.Creating.{HasDone, creates_from}
 use Rattle.nvme_simulation.specs.Devices.{device_in}
 use Rattle.nvme_simulation.specs.First.{BeginsPauses, BeginsQueues}
 use Rattle.nvme_simulation.specs.Fronts.{HasDepths, IsFrontOf, StandsBy}
@@ -88,13 +89,14 @@ pub record IsBegun (model : Model) (s : Simulation) : Type 0 where
   pub queues : BeginsQueues (length model.queues.items) hosts s.machine.hosts nothing events
   pub pauses : BeginsPauses model.device.pauses model.device.channels events (events_of s.machine.agenda)
 
--- a simulation of a model, at time 0: its controller arbitrates by the model's mechanism and settings and has its queues, each in its class, its device is the
--- model's, where nothing runs, and its hosts are those of the model's queues, which draw from the streams of seed and queue
+-- a simulation of a model, at time 0: its controller arbitrates by the model's mechanism and settings and has its queues, each in its class, which it made by the Creates of the
+-- model's queues, with their slots, one after another: it answered each with success. Its device is the model's, where nothing runs, and its hosts are those of the model's queues, which draw from the streams of seed and queue
 pub record IsNewOf (model : Model) (s : Simulation) : Type 0 where
   pub front : IsFrontOf model.mechanism model.settings s.machine.front
   pub depths : HasDepths s.machine.front
   pub device : device_in s.machine.device ≡ new_device model.device.placement model.device.depth model.device.channels
   pub queues : ShowsQueues s.machine.front model.queues.items
+  pub creates : HasDone model.mechanism model.settings (creates_from 1 (map load_in model.queues.items)) s.machine.front
   pub hosts : AreHostsOf model.queues.items s.machine.hosts.all.items
   pub streams : DrawAsking model.seed s.machine.hosts.all.items
   pub begins : IsBegun model s

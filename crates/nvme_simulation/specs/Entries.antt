@@ -1,7 +1,7 @@
 -- The entries of hosts. (NVM Command Set Specification, Flush, Write, Read; Base Specification, Create I/O Submission Queue; identifiers: profile)
 use Rattle.std.specs.Prelude.{◌≡◌, ℕ, ◌-◌, ◌%◌}
 use Rattle.nvme_arbiter.specs.declared.settings.Class.{Class}
-use Rattle.nvme_arbiter.specs.declared.settings.Class.TheVariants.{Admin, Urgent}
+use Rattle.nvme_arbiter.specs.declared.settings.Class.TheVariants.{Admin, Urgent, High, Medium, Low}
 use Rattle.nvme_entry.specs.Submission.{slba_of}
 use Rattle.nvme_entry.specs.declared.submission.Sqe.{Sqe}
 use Rattle.nvme_load.specs.declared.mix.Operation.{Operation}
@@ -24,6 +24,14 @@ pub record IsEntryOf (number : ℕ) (request : Request) (entry : Sqe) : Type 0 w
   pub identifier : entry.cid ≡ number % 65_536
   pub namespace : entry.nsid ≡ 1
   pub blocks : HasBlocks request.operation request.block request.blocks entry
+
+-- QPRIO of a class. (Create I/O Submission Queue, Queue Priority)
+abbrev pub priority_of : Class → ℕ
+priority_of Urgent = 0
+priority_of High = 1
+priority_of Medium = 2
+priority_of Low = 3
+priority_of Admin = 0
 
 -- the class in which a Create asks for an I/O queue: none is the admin queue
 abbrev pub asked_class : Class → Class

@@ -1,6 +1,7 @@
 pub mod Asking
 pub mod Beginnings
 pub mod Counts
+pub mod Creating
 pub mod Devices
 pub mod Entries
 pub mod Examples

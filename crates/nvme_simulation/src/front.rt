@@ -38,7 +38,11 @@ pub(crate) struct Front {
 }
 
 impl Front {
-    ghost use Rattle.std.specs.Prelude.{◌≡◌, Bool, IfOk, IfSome, None, Some};
+    ghost use Rattle.std.specs.Prelude.{◌≡◌, [], ◌∷◌, Bool, IfOk, IfSome, None, Some, true};
+    ghost use Rattle.nvme_admin.specs.declared.effect.Effect.{Effect};
+    ghost use Rattle.nvme_entry.specs.AdminCommand.{admin_command_of};
+    ghost use Rattle.nvme_entry.specs.declared.submission.Sqe.{Sqe};
+    ghost use Rattle.nvme_simulation.specs.Creating.{Does, KeepsDone, opens};
     ghost use Rattle.nvme_arbiter.specs.declared.pick.Pick.{Pick};
     ghost use Rattle.nvme_log.specs.Rules.{FrontRules};
     ghost use Rattle.nvme_ctrl_log.specs.Notes.{Notes};
@@ -84,6 +88,7 @@ impl Front {
     // The host rings a submission doorbell. False where the controller refuses it.
     pub(crate) fn submit(&mut self, qid: u16, tail: u16) -> bool
         requires front { IsFront self.old }
+        ensures keeps { KeepsDone self.old self.new }
         ensures front { StaysFront self.old self.new }
         ensures quiet { Quietly self.old self.new }
     {
@@ -100,6 +105,7 @@ impl Front {
     // That slot was read.
     pub(crate) fn fetched(&mut self, qid: u16, entry: &Sqe, cookie: u32) -> bool
         requires front { IsFront self.old }
+        ensures keeps { KeepsDone self.old self.new }
         ensures front { StaysFront self.old self.new }
         ensures quiet { Quietly self.old self.new }
     {
@@ -116,6 +122,7 @@ impl Front {
     // The next pick, where the device has room for so many commands.
     pub(crate) fn pick(&mut self, room: u16) -> Step
         requires front { IsFront self.old }
+        ensures done { (effect : Effect) (entry : Sqe) → result ≡ step.Done effect entry → opens effect ≡ true → Does (admin_command_of entry ∷ []) self.old self.new }
         ensures front { StaysFront self.old self.new }
         ensures idle { result ≡ step.Idle → (rules : FrontRules) (late : Bool) (notes : Notes) → StandsBy rules late notes self.old → IsNextPick rules notes None }
         ensures picked { (pick : Pick) → result ≡ step.Picked pick → (rules : FrontRules) (late : Bool) (notes : Notes) → StandsBy rules late notes self.old → IsNextWithin rules notes room (Some pick) }
@@ -149,6 +156,7 @@ impl Front {
     // The next completion of a completion queue is posted.
     pub(crate) fn post(&mut self, cqid: u16) -> Option<Post>
         requires front { IsFront self.old }
+        ensures keeps { KeepsDone self.old self.new }
         ensures front { StaysFront self.old self.new }
         ensures value { result ≡ next_post_of self.old.controller self.old.pool.items cqid }
         ensures quiet { Quietly self.old self.new }
@@ -159,6 +167,7 @@ impl Front {
     // The host rings a completion doorbell. False where the controller refuses it.
     pub(crate) fn read(&mut self, cqid: u16, head: u16) -> bool
         requires front { IsFront self.old }
+        ensures keeps { KeepsDone self.old self.new }
         ensures front { StaysFront self.old self.new }
         ensures quiet { Quietly self.old self.new }
     {

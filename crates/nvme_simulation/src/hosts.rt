@@ -1,5 +1,5 @@
 // The hosts of all queues, by the identifiers of their queues.
-ghost use Rattle.std.specs.Prelude.{◌≡◌, ◌≤◌, ◌<◌, ◌+◌, ◌-◌, ◌%◌, ℕ, None, length, IfOk, IfSome, OnOk, OnSome, option_map, slice_get, true, vec_len};
+ghost use Rattle.std.specs.Prelude.{◌≡◌, ◌≤◌, ◌<◌, ◌+◌, ◌-◌, ◌%◌, ℕ, None, length, IfOk, IfSome, OnOk, OnSome, map, option_map, slice_get, true, vec_len};
 ghost use Rattle.nvme_simulation.specs.Fronts.{IsFront, StaysFront};
 
 use crate::creates::AdminHost;
@@ -22,8 +22,10 @@ const NO_COMMAND: SimulationFault = SimulationFault::Broken(Broken::Command);
 
 impl Hosts {
     ghost use Rattle.nvme_simulation.specs.Beginnings.{AreHostsOf, DrawTheirStreams, Shows, ShowsAll, StayUnused, qid_at};
+    ghost use Rattle.nvme_simulation.specs.Creating.{Does, creates_from};
     ghost use Rattle.nvme_simulation.specs.First.{starting};
     ghost use Rattle.nvme_simulation.specs.Following.{IsNextOf, closed_in, goes_on, host_of};
+    ghost use Rattle.nvme_simulation.specs.Loads.{load_of};
     ghost use Rattle.nvme_simulation.specs.Moving.{OneMoves};
     ghost use Rattle.nvme_simulation.specs.Pausing.{at_end};
     ghost use Rattle.nvme_simulation.specs.Progress.{AllGoOn, AreDone, AsksFor, OneComes, OneEnds};
@@ -43,6 +45,7 @@ impl Hosts {
         ensures hosts { IfOk result (λ h. AreHostsOf queues.items h.all.items) }
         ensures streams { IfOk result (λ h. DrawTheirStreams seed h.all.items) }
         ensures shows { IfOk result (λ h. ShowsAll front.new h.all.items) }
+        ensures creates { IfOk result (λ h. length h.all.items ≤ 65_535 → Does (creates_from 1 (map load_of h.all.items)) front.old front.new) }
     {
         let mut all = Vec::new(alloc);
         let mut admin = AdminHost::new();

@@ -1,4 +1,4 @@
-use Rattle.std.proofs.Common.{List, sym, subst}
+use Rattle.std.proofs.Common.{[], ◌∷◌, ◌++◌, List, sym, subst}
 use Rattle.nvme_ctrl.specs.Standing.{IsController, Stands}
 use Rattle.nvme_ctrl.specs.Steps.{HasStepped}
 use Rattle.nvme_ctrl.specs.declared.picks.Step.{Step}
@@ -9,10 +9,22 @@ use Rattle.nvme_simulation.specs.Fronts.{Arbitrates}
 use Rattle.nvme_simulation.specs.Quiet.{StandsBehind}
 use Rattle.nvme_simulation.proofs.Pools.{at_pool, stepped}
 use Rattle.nvme_simulation.proofs.Quiet.{behind_none}
+use Rattle.nvme_entry.specs.AdminCommand.{admin_command_of}
+use Rattle.nvme_simulation.specs.Creating.{StandsAfter}
+use Rattle.nvme_simulation.proofs.Creating.{made}
 use Rattle.nvme_simulation.proofs.front.Front.pick.Goals as goal
 
 pub pick-requires : goal.pick-requires
 pick-requires c = record { arbiter = arbiter_there c.args.self.now.controller c.args.self.now.pool.items c.requires.front }
+
+pub returns-clause-done : goal.returns-clause-done
+returns-clause-done c effect entry is opens m s done h =
+    let value = c.deref_mut.ensures.value in
+    at_pool (λ (xs : List Slot). StandsAfter m s (done ++ admin_command_of entry ∷ []) c.pick.new.self xs) c.args.self.now.pool _ c.pick.new.slots value c.pick.ensures.size
+    (let stood = subst (λ (xs : List Slot). StandsAfter m s done c.args.self.now.controller xs) (sym value) h in
+    made m s done _ _ _ _ stood effect entry opens
+    (subst (λ (st : Step). HasStepped stood.rules stood.late stood.notes c.args.room st c.pick.new.self c.pick.new.slots) is
+    (c.pick.ensures.stands stood.rules stood.late stood.notes stood.stands)))
 
 pub returns-clause-front : goal.returns-clause-front
 returns-clause-front c =

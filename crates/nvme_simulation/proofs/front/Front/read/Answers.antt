@@ -4,10 +4,17 @@ use Rattle.nvme_ctrl.specs.declared.state.Controller.{Controller}
 use Rattle.nvme_simulation.specs.Fronts.{Arbitrates}
 use Rattle.nvme_simulation.proofs.Pools.{again}
 use Rattle.nvme_simulation.proofs.Quiet.{behind_one, behind_same}
+use Rattle.nvme_simulation.specs.Creating.{StandsAfter}
+use Rattle.nvme_simulation.proofs.Creating.{head_done, noted}
 use Rattle.nvme_simulation.proofs.front.Front.read.Goals as goal
 
 pub returns : goal.returns
 returns c = record {
+  keeps = λ m s done h. elim (cases_Bool c.cq_head.result) [
+    | inl rung ↦
+        noted m s done _ _ _ _ h _ (c.cq_head.ensures.stands h.rules h.late h.notes c.args.self.now.pool.items h.stands rung).stands (head_done _ _ _)
+    | inr refused ↦ subst (λ (x : Controller). StandsAfter m s done x c.args.self.now.pool.items) (sym (c.cq_head.ensures.refused refused)) h
+  ];
   front = record {
     is = c.cq_head.ensures.front c.args.self.now.pool.items c.requires.front;
     depths = c.cq_head.ensures.depths;
