@@ -1,6 +1,6 @@
 -- How machines go on.
 use Rattle.std.proofs.Common.{◌≡◌, ◌∙◌, ◌≤◌, ◌<◌, ℕ, ◌+◌, ◌-◌, ◌*◌, Bool, true, false, Option, Some, None, Result, Ok, Err, refl, sym, ap, subst, arith}
-use Rattle.std.specs.Prelude.{IfSome, IsErr, OnOk, OnSome, SomeIff}
+use Rattle.std.specs.Prelude.{IfSome, IsErr, OnOk, OnSome, SomeIff, slice_get}
 use Rattle.nvme_simulation.specs.Devices.{device_in}
 use Rattle.nvme_channels.specs.Steps.{finish_of, pause_of, resume_of}
 use Rattle.nvme_clock.specs.Held.{Held, pushed}
@@ -13,7 +13,7 @@ use Rattle.nvme_simulation.specs.Plans.{events_of}
 use Rattle.nvme_simulation.specs.Progress.{AllGoOn, OneComes}
 use Rattle.nvme_simulation.specs.Quiet.{GoesFront}
 use Rattle.nvme_simulation.specs.Resting.{AllRest}
-use Rattle.nvme_simulation.specs.Starts.{AnswersAs, PlansEnd}
+use Rattle.nvme_simulation.specs.Starts.{AnswersAs, PlansEnd, StartsOn, started_in}
 use Rattle.nvme_simulation.specs.Steps.{cost_at}
 use Rattle.nvme_simulation.specs.Times.{now_of}
 use Rattle.nvme_simulation.specs.declared.agenda.Event.{Event}
@@ -132,10 +132,12 @@ plans_sum P E (Some t) (Ok x) time what a b sum none plans = plans ∙ ap (λ (v
 -- a command ends at a time that is told, and the next one starts
 pub ends_at : (t channel : ℕ) (taken : Taken) (m n : Machine) (started : Option Started) → t ≡ now_of m.agenda
     → AnswersAs (finish_of t channel (device_in m.device)).0 started → device_in n.device ≡ (finish_of t channel (device_in m.device)).1
-    → PlansEnd started (events_of m.agenda) (events_of n.agenda) → (waited : Hosts) → StartsIn started (now_of m.agenda) m.hosts waited
-    → Completes taken m.front waited n.hosts → EndsAndStarts channel taken m n
-ends_at t channel taken m n started time answers device plans waited starts completes = record {
+    → PlansEnd started (events_of m.agenda) (events_of n.agenda) → slice_get (started_in m.device) channel ≡ Some (Some taken) → StartsOn started m.device n.device
+    → (waited : Hosts) → StartsIn started (now_of m.agenda) m.hosts waited → Completes taken m.front waited n.hosts → EndsAndStarts channel taken m n
+ends_at t channel taken m n started time answers device plans ran on waited starts completes = record {
+  ran = ran;
   started = started;
+  on = on;
   answers = subst (λ (v : ℕ). AnswersAs (finish_of v channel (device_in m.device)).0 started) time answers;
   device = device ∙ ap (λ (v : ℕ). (finish_of v channel (device_in m.device)).1) time;
   plans = plans;
@@ -159,21 +161,23 @@ completes_from taken f g a b stays is = record {
 
 -- a channel pauses at a time that is told
 pub pauses_at : {E : Type 0} (t channel length : ℕ) (m n : Machine) (r : Result Unit E) → t ≡ now_of m.agenda
-    → device_in n.device ≡ (pause_of channel (device_in m.device)).1 → n.hosts ≡ m.hosts
+    → device_in n.device ≡ (pause_of channel (device_in m.device)).1 → started_in n.device ≡ started_in m.device → n.hosts ≡ m.hosts
     → OnOk r (events_of n.agenda ≡ pushed (t + length) (Resume channel) (events_of m.agenda)) → OnOk r (PausesFor channel length m n)
-pauses_at t channel length m n (Err e) time device hosts plans = tt
-pauses_at t channel length m n (Ok x) time device hosts plans = record {
+pauses_at t channel length m n (Err e) time device same hosts plans = tt
+pauses_at t channel length m n (Ok x) time device same hosts plans = record {
   device = device;
+  same = same;
   hosts = hosts;
   plans = plans ∙ ap (λ (v : ℕ). pushed (v + length) (Resume channel) (events_of m.agenda)) time;
 }
 
 -- a channel goes on at a time that is told
 pub goes_on_at : (t channel : ℕ) (m n : Machine) (started : Option Started) → t ≡ now_of m.agenda → AnswersAs (resume_of t channel (device_in m.device)).0 started
-    → device_in n.device ≡ (resume_of t channel (device_in m.device)).1 → StartsIn started (now_of m.agenda) m.hosts n.hosts
+    → device_in n.device ≡ (resume_of t channel (device_in m.device)).1 → StartsOn started m.device n.device → StartsIn started (now_of m.agenda) m.hosts n.hosts
     → PlansEnd started (events_of m.agenda) (events_of n.agenda) → GoesOn channel m n
-goes_on_at t channel m n started time answers device starts plans = record {
+goes_on_at t channel m n started time answers device on starts plans = record {
   started = started;
+  on = on;
   answers = subst (λ (v : ℕ). AnswersAs (resume_of v channel (device_in m.device)).0 started) time answers;
   device = device ∙ ap (λ (v : ℕ). (resume_of v channel (device_in m.device)).1) time;
   starts = starts;

@@ -1,5 +1,5 @@
 -- How a simulation begins. (profile)
-use Rattle.std.specs.Prelude.{◌≡◌, ℕ, ◌+◌, ◌%◌, Bool, false, List, Some, IfSome, length, map, slice_get, All}
+use Rattle.std.specs.Prelude.{◌≡◌, ℕ, ◌+◌, ◌%◌, Bool, false, List, None, Some, IfSome, length, map, replicate, slice_get, All}
 use Rattle.nvme_arbiter.specs.declared.settings.Class.{Class}
 use Rattle.nvme_channels.specs.Devices.{new_device}
 use Rattle.nvme_clock.specs.Held.{Held, nothing}
@@ -20,6 +20,7 @@ use Rattle.nvme_simulation.specs.Loads.{load_in, load_of}
 use Rattle.nvme_simulation.specs.Plans.{events_of}
 use Rattle.nvme_simulation.specs.Simulations.{time_of}
 use Rattle.nvme_simulation.specs.Stages.{none_came}
+use Rattle.nvme_simulation.specs.Starts.{started_in}
 use Rattle.nvme_simulation.specs.declared.agenda.Event.{Event}
 use Rattle.nvme_simulation.specs.declared.front.Front.{Front}
 use Rattle.nvme_simulation.specs.declared.host.Host.{Host}
@@ -95,6 +96,7 @@ pub record IsNewOf (model : Model) (s : Simulation) : Type 0 where
   pub front : IsFrontOf model.mechanism model.settings s.machine.front
   pub depths : HasDepths s.machine.front
   pub device : device_in s.machine.device ≡ new_device model.device.placement model.device.depth model.device.channels
+  pub started : started_in s.machine.device ≡ replicate model.device.channels None
   pub queues : ShowsQueues s.machine.front model.queues.items
   pub creates : HasDone model.mechanism model.settings (creates_from 1 (map load_in model.queues.items)) s.machine.front
   pub hosts : AreHostsOf model.queues.items s.machine.hosts.all.items

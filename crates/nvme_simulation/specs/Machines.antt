@@ -1,5 +1,5 @@
 -- What a step makes of hosts, controller and device. (profile)
-use Rattle.std.specs.Prelude.{◌≡◌, ℕ, Option, Some}
+use Rattle.std.specs.Prelude.{◌≡◌, ℕ, Option, Some, slice_get}
 use Rattle.nvme_channels.specs.Steps.{finish_of, take_of}
 use Rattle.nvme_ctrl.specs.Posts.{next_post_of}
 use Rattle.nvme_ctrl.specs.declared.posts.Post.{Post}
@@ -11,7 +11,7 @@ use Rattle.nvme_simulation.specs.Progress.{AllGoOn, AsksFor}
 use Rattle.nvme_simulation.specs.Quiet.{GoesFront}
 use Rattle.nvme_simulation.specs.Resting.{AllRest}
 use Rattle.nvme_simulation.specs.Rings.{OneHears}
-use Rattle.nvme_simulation.specs.Starts.{AnswersAs, PlansEnd, number_in}
+use Rattle.nvme_simulation.specs.Starts.{AnswersAs, PlansEnd, StartsOn, number_in, started_in}
 use Rattle.nvme_simulation.specs.Times.{now_of}
 use Rattle.nvme_simulation.specs.declared.channels.Started.{Started}
 use Rattle.nvme_simulation.specs.declared.flight.Request.{Request}
@@ -47,6 +47,7 @@ pub record TakesPicked (qid : ℕ) (before after : Machine) : Type 0 where
   pub picks : OneMoves qid taken.number Fetched (now_of before.agenda) before.hosts picked
   pub started : Option Started
   pub answers : AnswersAs (take_of (now_of before.agenda) (number_in taken) request.block request.service (device_in before.device)).0 started
+  pub on : StartsOn started before.device after.device
   pub starts : StartsIn started (now_of before.agenda) picked after.hosts
   pub plans : PlansEnd started (events_of before.agenda) (events_of after.agenda)
 
@@ -59,9 +60,12 @@ pub record Completes (taken : Taken) (front : Front) (before after : Hosts) : Ty
   pub completion : IsCompletionOf taken post
   pub hears : OneHears taken.qid post.cqe.sqhd before after
 
--- the command that runs on a channel ends now, and the next one starts there, if one does: its end is planned, and nothing else. The completion comes to its host
+-- the command that started last on a channel ends now, and the next one starts there, if one does: its end is planned, and nothing else. The completion of the one that ends
+-- comes to its host
 pub record EndsAndStarts (channel : ℕ) (taken : Taken) (before after : Machine) : Type 0 where
+  pub ran : slice_get (started_in before.device) channel ≡ Some (Some taken)
   pub started : Option Started
+  pub on : StartsOn started before.device after.device
   pub answers : AnswersAs (finish_of (now_of before.agenda) channel (device_in before.device)).0 started
   pub device : device_in after.device ≡ (finish_of (now_of before.agenda) channel (device_in before.device)).1
   pub plans : PlansEnd started (events_of before.agenda) (events_of after.agenda)

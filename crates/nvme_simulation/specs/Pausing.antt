@@ -10,7 +10,7 @@ use Rattle.nvme_simulation.specs.Moving.{StartsIn}
 use Rattle.nvme_simulation.specs.Plans.{events_of}
 use Rattle.nvme_simulation.specs.Simulations.{hosts_of, may_come_to, time_of}
 use Rattle.nvme_simulation.specs.Stages.{next_in}
-use Rattle.nvme_simulation.specs.Starts.{AnswersAs, PlansEnd}
+use Rattle.nvme_simulation.specs.Starts.{AnswersAs, PlansEnd, StartsOn, started_in}
 use Rattle.nvme_simulation.specs.Times.{now_of}
 use Rattle.nvme_simulation.specs.declared.agenda.Event.{Event}
 use Rattle.nvme_simulation.specs.declared.agenda.Event.TheVariants.{Pause, Resume}
@@ -22,6 +22,7 @@ use Rattle.nvme_simulation.specs.declared.simulation.Simulation.{Simulation}
 -- a channel of the device pauses. It goes on so much later, which is planned, and nothing else changes
 pub record PausesFor (channel length : ℕ) (before after : Machine) : Type 0 where
   pub device : device_in after.device ≡ (pause_of channel (device_in before.device)).1
+  pub same : started_in after.device ≡ started_in before.device
   pub hosts : after.hosts ≡ before.hosts
   pub plans : events_of after.agenda ≡ pushed (now_of before.agenda + length) (Resume channel) (events_of before.agenda)
 
@@ -36,6 +37,7 @@ pub record GoesOn (channel : ℕ) (before after : Machine) : Type 0 where
   pub started : Option Started
   pub answers : AnswersAs (resume_of (now_of before.agenda) channel (device_in before.device)).0 started
   pub device : device_in after.device ≡ (resume_of (now_of before.agenda) channel (device_in before.device)).1
+  pub on : StartsOn started before.device after.device
   pub starts : StartsIn started (now_of before.agenda) before.hosts after.hosts
   pub plans : PlansEnd started (events_of before.agenda) (events_of after.agenda)
 

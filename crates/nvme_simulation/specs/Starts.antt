@@ -1,10 +1,11 @@
 -- Which commands start in the device. (profile)
-use Rattle.std.specs.Prelude.{◌≡◌, ℕ, ◌+◌, ◌*◌, Option, Some, None, Result, Ok, Err}
+use Rattle.std.specs.Prelude.{◌≡◌, ℕ, ◌+◌, ◌*◌, List, Option, Some, None, Result, Ok, Err, slice_set}
 use Rattle.nvme_channels.specs.declared.channel.StepFault.{StepFault}
 use Rattle.nvme_channels.specs.declared.channels.Start.{Start}
 use Rattle.nvme_clock.specs.Held.{Held, pushed}
 use Rattle.nvme_simulation.specs.declared.agenda.Event.{Event}
 use Rattle.nvme_simulation.specs.declared.agenda.Event.TheVariants.{End}
+use Rattle.nvme_simulation.specs.declared.channels.Runs.{Runs}
 use Rattle.nvme_simulation.specs.declared.channels.Started.{Started}
 use Rattle.nvme_simulation.specs.declared.front.Taken.{Taken}
 
@@ -22,6 +23,15 @@ StartsAs start told = ⊥
 abbrev pub AnswersAs : Result (Option Start) StepFault → Option Started → Type 0
 AnswersAs (Ok start) told = StartsAs start told
 AnswersAs (Err fault) told = ⊥
+
+-- the commands that started last on the channels of the device, by the numbers of the channels
+abbrev pub started_in : Runs → List (Option Taken)
+started_in r = r.running.items
+
+-- a command that starts is the one that started last on its channel, and those of all other channels are the same
+abbrev pub StartsOn : Option Started → (before after : Runs) → Type 0
+StartsOn None before after = started_in after ≡ started_in before
+StartsOn (Some s) before after = started_in after ≡ slice_set (started_in before) s.channel (Some s.command)
 
 -- the end of a command that starts is planned, and nothing else
 abbrev pub PlansEnd : Option Started → (before after : Held Event) → Type 0

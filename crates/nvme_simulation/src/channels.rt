@@ -19,7 +19,7 @@ pub(crate) struct Started {
 #[derive(Drop)]
 pub(crate) struct Runs {
     channels: Channels,
-    // The command that runs on each channel.
+    // The command that started last on each channel.
     running: Vec<Option<Taken>>,
 }
 
@@ -52,15 +52,16 @@ fn taken_of(number: u64) -> Taken
 }
 
 impl Runs {
-    ghost use Rattle.std.specs.Prelude.{◌≤◌, ◌+◌, IfOk, OnOk};
+    ghost use Rattle.std.specs.Prelude.{◌≤◌, ◌+◌, IfOk, None, OnOk, Some, replicate, slice_get};
     ghost use Rattle.nvme_channels.specs.Devices.{new_device};
     ghost use Rattle.nvme_channels.specs.Steps.{finish_of, pause_of, resume_of, take_of};
     ghost use Rattle.nvme_simulation.specs.Devices.{IsBehind, device_in, room_in};
-    ghost use Rattle.nvme_simulation.specs.Starts.{AnswersAs, StartsAs};
+    ghost use Rattle.nvme_simulation.specs.Starts.{AnswersAs, StartsAs, StartsOn, started_in};
 
     // A device whose channels are idle.
     pub(crate) fn new(alloc: Global, device: &Device) -> Result<Runs, SimulationFault>
-        ensures { IfOk result (λ r. device_in r ≡ new_device device.now.placement device.now.depth device.now.channels) }
+        ensures device { IfOk result (λ r. device_in r ≡ new_device device.now.placement device.now.depth device.now.channels) }
+        ensures started { IfOk result (λ r. started_in r ≡ replicate device.now.channels None) }
     {
         let channels = match Channels::new(alloc, device.channels, device.placement, device.depth) {
             Ok(channels) => channels,
@@ -92,6 +93,7 @@ impl Runs {
     fn note(&mut self, start: Option<Start>) -> Option<Started>
         ensures same { self.new.channels ≡ self.old.channels }
         ensures starts { StartsAs start result }
+        ensures on { StartsOn result self.old self.new }
     {
         let start = start?;
         let taken = taken_of(start.number);
@@ -117,6 +119,7 @@ impl Runs {
         ensures room { OnOk result (room_in self.new + 1 ≡ room_in self.old) }
         ensures takes { device_in self.new ≡ (take_of now (number_in taken) block service (device_in self.old)).1 }
         ensures starts { IfOk result (AnswersAs (take_of now (number_in taken) block service (device_in self.old)).0) }
+        ensures on { IfOk result (λ s. StartsOn s self.old self.new) }
     {
         match self.channels.take(now, number_of(taken), block, service) {
             Ok(start) => Ok(self.note(start)),
@@ -134,6 +137,8 @@ impl Runs {
         ensures room { room_in self.new ≤ room_in self.old + 1 }
         ensures ends { OnOk result (device_in self.new ≡ (finish_of now channel (device_in self.old)).1) }
         ensures starts { IfOk result (λ done. AnswersAs (finish_of now channel (device_in self.old)).0 done.1) }
+        ensures ran { IfOk result (λ done. slice_get (started_in self.old) channel ≡ Some (Some done.0)) }
+        ensures on { IfOk result (λ done. StartsOn done.1 self.old self.new) }
     {
         let Some(Some(taken)) = self.running.get(channel).copied() else {
             return Err(SimulationFault::Broken(Broken::Command));
@@ -149,6 +154,7 @@ impl Runs {
         ensures behind { IsBehind (device_in self.old) (device_in self.new) }
         ensures room { room_in self.new ≤ room_in self.old }
         ensures pauses { device_in self.new ≡ (pause_of channel (device_in self.old)).1 }
+        ensures same { started_in self.new ≡ started_in self.old }
     {
         match self.channels.pause(channel) {
             Ok(()) => Ok(()),
@@ -166,6 +172,7 @@ impl Runs {
         ensures room { room_in self.new ≤ room_in self.old }
         ensures resumes { OnOk result (device_in self.new ≡ (resume_of now channel (device_in self.old)).1) }
         ensures starts { IfOk result (AnswersAs (resume_of now channel (device_in self.old)).0) }
+        ensures on { IfOk result (λ s. StartsOn s self.old self.new) }
     {
         match self.channels.resume(now, channel) {
             Ok(start) => Ok(self.note(start)),

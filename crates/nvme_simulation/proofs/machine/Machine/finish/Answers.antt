@@ -21,7 +21,9 @@ pub returns-clause-plans : goal.returns-clause-plans
 returns-clause-plans c =
     let ends = c.in_ok-taken.ensures.plans in
     record {
+      ran = ends.ran;
       started = ends.started;
+      on = ends.on;
       answers = ends.answers;
       device = ends.device;
       plans = ends.plans;

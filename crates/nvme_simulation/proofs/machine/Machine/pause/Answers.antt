@@ -23,5 +23,5 @@ returns-clause-goes c = record {
 
 pub returns-clause-pauses : goal.returns-clause-pauses
 returns-clause-pauses c =
-    pauses_at c.now.result c.args.channel c.args.length c.args.self.now _ c.plan.result c.now.ensures.value c.pause.ensures.pauses refl
+    pauses_at c.now.result c.args.channel c.args.length c.args.self.now _ c.plan.result c.now.ensures.value c.pause.ensures.pauses c.pause.ensures.same refl
     (plans_sum _ _ c.checked_add-end.result c.plan.result _ _ _ _ c.checked_add-end.ensures c.plan.ensures.some c.plan.ensures.plans)

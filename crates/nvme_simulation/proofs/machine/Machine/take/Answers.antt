@@ -1,7 +1,9 @@
-use Rattle.std.proofs.Common.{◌∙◌, ap, refl, arith}
+use Rattle.std.proofs.Common.{◌∙◌, ap, refl, sym, subst, arith}
 use Rattle.nvme_simulation.proofs.Machines.{all_at, goes_front, goes_then, on_ok}
 use Rattle.nvme_simulation.proofs.Started.{answers_now, at_now}
 use Rattle.nvme_simulation.specs.Devices.{device_in}
+use Rattle.nvme_simulation.specs.Starts.{StartsOn}
+use Rattle.nvme_simulation.specs.declared.channels.Runs.{Runs}
 use Rattle.nvme_simulation.proofs.Hosted.{all_stay}
 use Rattle.nvme_simulation.proofs.Plans.{follows_self}
 use Rattle.nvme_simulation.proofs.Taking.{moves_at, on_ok_both}
@@ -42,6 +44,7 @@ returns-clause-takes c =
       picks = moves_at _ _ _ _ _ _ _ c.now-now.ensures.value c.in_ok-request.ensures.moves;
       started = c.in_ok-started.started;
       answers = answers_now c.in-Some.taken c.in_ok-request.request _ _ (device_in c.args.self.now.device) _ c.now-now.ensures.value c.in_ok-started.ensures.starts;
+      on = subst (λ (r : Runs). StartsOn c.in_ok-started.started c.args.self.now.device r) (sym c.start.ensures.device) c.in_ok-started.ensures.on;
       starts = starts;
       plans = plans;
     }) c.start.ensures.starts c.start.ensures.plans

@@ -10,7 +10,7 @@ use Rattle.nvme_simulation.proofs.simulation.Simulation.new.Goals as goal
 pub returns-clause-stands : goal.returns-clause-stands
 returns-clause-stands c = record {
   front = c.new-3.ensures.front.is;
-  device = new_is _ _ _ _ c.args.model.device.some c.in_ok-device.ensures;
+  device = new_is _ _ _ _ c.args.model.device.some c.in_ok-device.ensures.device;
 }
 
 pub returns-clause-begins : goal.returns-clause-begins
@@ -19,7 +19,8 @@ returns-clause-begins c =
     record {
       front = c.new-3.ensures.front.arbitrates _ _ c.in_ok-front.ensures.front;
       depths = c.new-3.ensures.front.depths ∙ c.in_ok-front.ensures.depths;
-      device = c.in_ok-device.ensures;
+      device = c.in_ok-device.ensures.device;
+      started = c.in_ok-device.ensures.started;
       queues = shows_queues c.new-3.new.front _ _ hosts.loads c.args.model.at_most c.in_ok-hosts.ensures.shows;
       creates =
           let few : length c.in_ok-hosts.hosts.all.items ≤ 65_535 = few_hosts _ _ _ hosts.loads (omega (arith, c.args.model.at_most)) in
