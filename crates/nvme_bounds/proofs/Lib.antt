@@ -6,3 +6,4 @@ pub mod Totals
 pub mod Composed
 pub mod Pools
 pub mod Refills
+pub mod DeviceRuns

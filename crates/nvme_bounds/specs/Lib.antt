@@ -1,5 +1,6 @@
 pub mod Before
 pub mod Pools
+pub mod DeviceRuns
 pub mod Refills
 pub mod Runs
 pub mod Stretches

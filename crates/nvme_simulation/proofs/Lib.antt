@@ -1,20 +1,20 @@
 mod Beginnings
 mod Creating
 mod First
-mod Handling
+pub mod Handling
 mod Hosted
 mod Machines
 mod Moves
-mod Plans
+pub mod Plans
 mod Pools
 mod Progress
 mod Quiet
 mod Resting
-mod Rooms
+pub mod Rooms
 mod Runs
 mod Started
 mod Stepping
 mod Taking
 mod Telling
 mod Waiting
-mod Waits
+pub mod Waits

@@ -1,5 +1,5 @@
 -- Controllers that note nothing that arbitration goes by.
-use Rattle.std.proofs.Common.{◌≡◌, ◌∙◌, ◌++◌, ◌∷◌, [], ℕ, Bool, true, false, List, Option, Some, None, refl, sym, subst}
+use Rattle.std.proofs.Common.{◌≡◌, ◌∙◌, ◌++◌, ◌∷◌, [], ℕ, Bool, true, List, Option, Some, None, refl, sym, subst}
 use Rattle.std.specs.Prelude.{IfSome}
 use Rattle.std.proofs.lemmas.List.{append_assoc}
 use Rattle.std.proofs.lemmas.List.Elements.{All-append, All-cons, All-nil}
@@ -7,13 +7,12 @@ use Rattle.nvme_log.specs.Rules.{FrontRules}
 use Rattle.nvme_log.specs.Answers.{Answer}
 use Rattle.nvme_entry.specs.declared.submission.Sqe.{Sqe}
 use Rattle.nvme_ctrl_log.specs.Notes.{Note, Notes}
-use Rattle.nvme_ctrl_log.specs.Steps.{picked_notes}
 use Rattle.nvme_ctrl_log.specs.declared.status_flags.StatusFlags.{StatusFlags}
 use Rattle.nvme_ctrl.specs.Calls.{HasAnswered, HasFetched}
 use Rattle.nvme_ctrl.specs.Standing.{Stands}
 use Rattle.nvme_ctrl.specs.declared.state.Controller.{Controller}
 use Rattle.nvme_slots.specs.declared.slot.Slot.{Slot}
-use Rattle.nvme_simulation.specs.Fronts.{IsFront, StandsBy, StaysFront}
+use Rattle.nvme_simulation.specs.Fronts.{IsFront, StaysFront}
 use Rattle.nvme_simulation.specs.Quiet.{AreQuiet, GoesFront, NotesAs, Quietly, StandsBehind, is_quiet}
 use Rattle.nvme_simulation.specs.declared.agenda.Event.{Event}
 use Rattle.nvme_simulation.specs.declared.front.Front.{Front}

@@ -1,5 +1,5 @@
 -- Queues that wait for arbitration fill the device.
-use Rattle.std.proofs.Common.{◌≡◌, ◌∙◌, ◌≤◌, ℕ, ◌+◌, ◌&&◌, ◌==◌, ◌∷◌, [], Bool, true, false, nat_lt, cond, min, List, Option, Some, None, inl, inr, refl, sym, ap, subst, arith}
+use Rattle.std.proofs.Common.{◌≡◌, ◌∙◌, ◌≤◌, ℕ, ◌+◌, ◌&&◌, ◌==◌, ◌∷◌, [], Bool, true, false, nat_lt, min, List, Option, Some, None, inl, inr, refl, sym, ap, arith}
 use Rattle.std.specs.Prelude.{is_some, option_map}
 use Rattle.std.specs.List.{list_any}
 use Rattle.std.proofs.lemmas.Bool.{cond-false, true≢false}

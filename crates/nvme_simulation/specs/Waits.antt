@@ -1,5 +1,5 @@
 -- Queues that wait for arbitration. (Base Specification, Command Arbitration; the device's room: profile)
-use Rattle.std.specs.Prelude.{◌≡◌, ◌≤◌, ℕ, ◌+◌, ◌==◌, Bool, true}
+use Rattle.std.specs.Prelude.{◌≡◌, ◌≤◌, ℕ, ◌==◌, Bool, true}
 use Rattle.std.specs.List.{list_any}
 use Rattle.nvme_arbiter.specs.Observation.{ready_of}
 use Rattle.nvme_arbiter.specs.declared.settings.Class.{Class}

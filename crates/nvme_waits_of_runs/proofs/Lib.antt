@@ -1,0 +1,7 @@
+mod Calls
+mod Ends
+mod Histories
+mod Services
+mod Steps
+mod Tracks
+mod Waits
