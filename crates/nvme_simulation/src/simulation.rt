@@ -335,6 +335,7 @@ impl Simulation {
     pub fn go_on(&mut self) -> Result<Happening, SimulationFault>
         requires stands { IsSimulation self.old }
         ensures stands { IsSimulation self.new }
+        ensures forward { time_of self.old ≤ time_of self.new }
         ensures goes { IfOk result (GoesOn self.old self.new) }
     {
         if !self.picks {
