@@ -45,11 +45,12 @@ use Rattle.nvme_simulation.specs.declared.agenda.Event.{Event}
 use Rattle.nvme_simulation.specs.declared.agenda.Event.TheVariants as event
 use Rattle.nvme_simulation.specs.declared.happening.Happening.{Happening}
 use Rattle.nvme_simulation.specs.declared.happening.Happening.TheVariants.{Came, Picked, Settled, Finished, Paused, Resumed, Over}
+use Rattle.nvme_simulation.specs.declared.machine.Machine.{Machine}
 use Rattle.nvme_simulation.specs.declared.simulation.Simulation.{Simulation}
 use Rattle.nvme_simulation.proofs.Handling.{stands_on}
 use Rattle.nvme_simulation.proofs.Plans.{follows_time}
 use Rattle.nvme_simulation.proofs.Waits.{picks_have_room, settled_is_full}
-use Rattle.nvme_waits_of_runs.specs.Waits.{AllRunAtMost, PassesBy, SeesAmong, WaitsIn, WaitsOfRunsAreShort}
+use Rattle.nvme_waits_of_runs.specs.Waits.{AllRunAtMost, PassesBy, SeesAmong, WaitsIn, WaitsOfRunsAreShort, settles}
 use Rattle.nvme_waits_of_runs.proofs.Calls.{IsPlanned}
 use Rattle.nvme_waits_of_runs.proofs.Ends.{Ascending, EndIn, agenda_ascends, first_before, none_in}
 use Rattle.nvme_waits_of_runs.proofs.Histories.{pick_history, quiet_history}
@@ -329,15 +330,25 @@ stretch_begins model rules late old ids class qid longest s r stands full = reco
   busy = λ t from to. absurd (omega (arith, from, to));
 }
 
+-- the device is full behind a step that tells that none can be picked
+full_where_settled : (model : Model) (longest : ℕ) (class : Class) (qid : ℕ) (a b : Simulation) → Run model longest a → HasStepped a b Settled → IsReady class qid a → room_at b ≡ 0
+full_where_settled model longest class qid a b r s ready =
+    ap (λ (m : Machine). room_of (device_in m.device)) s.plans ∙ settled_is_full a b r.sim s class qid ready
+
 pub waits_of_runs_are_short : WaitsOfRunsAreShort
+unfolding IsRun
 waits_of_runs_are_short model ids class qid longest first from to next past steps w bound most =
-    let r = run_goes model longest first from past (run_begins model longest first w.new w.pool w.goes_on) w.before
-    (all_second (λ (m : Moment). AllRunAtMost longest (hosts_of m.before)) steps past w.short) in
+    let settled : Moment = settles w.begin from in
+    let old_short = all_second (λ (m : Moment). AllRunAtMost longest (hosts_of m.before)) steps (settled ∷ past) w.short in
+    let begun_run = run_goes model longest first w.begin past (run_begins model longest first w.new w.pool w.goes_on) w.before.1.1
+    (All-tail (λ (m : Moment). AllRunAtMost longest (hosts_of m.before)) settled past old_short) in
+    let r = run_steps model longest w.begin from Settled w.before.1.0 (All-head (λ (m : Moment). AllRunAtMost longest (hosts_of m.before)) settled past old_short) begun_run in
+    let full : room_at from ≡ 0 = full_where_settled model longest class qid w.begin from begun_run w.before.1.0 w.ready in
     let f = r.front in
     let stands : StandsAt f.rules false f.notes from = subst (λ (late : Bool). StandsAt f.rules late f.notes from) f.in_time f.stands in
-    let begun = stretch_begins model f.rules false f.notes ids class qid longest from r stands w.full in
+    let begun = stretch_begins model f.rules false f.notes ids class qid longest from r stands full in
     let s = stretch_goes model f.rules false f.notes ids class qid longest (time_of from) r.calls from to steps begun w.run w.waits
-    (all_first (λ (m : Moment). AllRunAtMost longest (hosts_of m.before)) steps past w.short) in
+    (all_first (λ (m : Moment). AllRunAtMost longest (hosts_of m.before)) steps (settled ∷ past) w.short) in
     let start : Device = pool_of model in
     let history : History = arbitration_of (logged f.notes) in
     let lawful : IsLimitedRun f.rules.mechanism f.rules.start.settings (arbitration_of (logged s.noted.notes)) = (s.noted.stands.account refl).lawful in
@@ -347,7 +358,7 @@ waits_of_runs_are_short model ids class qid longest first from to next past step
     (subst (λ (x : ArbitrationFields). IsLimitedRun model.mechanism x (arbitration_of (logged s.noted.notes))) f.settings_are
     (subst (λ (m : Mechanism). IsLimitedRun m f.rules.start.settings (arbitration_of (logged s.noted.notes))) f.mechanism_is lawful)) in
     let ends = none_ends to next w.event w.comes w.still s.tracks.planned in
-    let old_full : room_of (device_after start r.calls) ≡ 0 = ap room_of (sym r.tracks.device) ∙ w.full in
+    let old_full : room_of (device_after start r.calls) ≡ 0 = ap room_of (sym r.tracks.device) ∙ full in
     let new_full : room_of (device_after start (s.calls ++ r.calls)) ≡ 0 = ap room_of (sym s.tracks.device) ∙ s.full w.still in
     let room = ends_make_room Pool (depth_of model) (count_of model) r.calls s.calls model.device.some old_full new_full in
     let ended = refilled_by Pool (depth_of model) (count_of model) (time_of from) (time_of next) r.calls s.calls model.device.some r.tracks.past

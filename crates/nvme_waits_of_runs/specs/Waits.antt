@@ -1,5 +1,5 @@
 -- How long a queue waits for arbitration in a run of a simulation. (Base Specification, Command Arbitration; device and time: profile)
-use Rattle.std.specs.Prelude.{◌≡◌, ◌≢◌, ◌≤◌, ◌+◌, ◌++◌, ℕ, Bool, false, min, All, IfSome, List, None, Some, slice_get}
+use Rattle.std.specs.Prelude.{◌≡◌, ◌≢◌, ◌≤◌, ◌+◌, ◌++◌, ◌∷◌, ℕ, Bool, false, min, All, IfSome, List, None, Some, slice_get}
 use Rattle.nvme_arbiter.specs.History.{settings_after}
 use Rattle.nvme_arbiter.specs.Settings.{ArbitrationFields}
 use Rattle.nvme_arbiter.specs.declared.settings.Class.{Class}
@@ -15,11 +15,11 @@ use Rattle.nvme_model.specs.declared.model.Model.{Model}
 use Rattle.nvme_simulation.specs.Beginnings.{IsNewOf}
 use Rattle.nvme_simulation.specs.Marks.{flight_at}
 use Rattle.nvme_simulation.specs.Runs.{IsRun, Moment}
-use Rattle.nvme_simulation.specs.Simulations.{StandsAt, hosts_of, picks_of, room_at, time_of}
+use Rattle.nvme_simulation.specs.Simulations.{StandsAt, hosts_of, picks_of, time_of}
 use Rattle.nvme_simulation.specs.Stepping.{HasStepped}
 use Rattle.nvme_simulation.specs.Waits.{IsReady}
 use Rattle.nvme_simulation.specs.declared.happening.Happening.{Happening}
-use Rattle.nvme_simulation.specs.declared.happening.Happening.TheVariants.{Picked}
+use Rattle.nvme_simulation.specs.declared.happening.Happening.TheVariants.{Picked, Settled}
 use Rattle.nvme_simulation.specs.declared.host.Host.{Host}
 use Rattle.nvme_simulation.specs.declared.hosts.Hosts.{Hosts}
 use Rattle.nvme_simulation.specs.declared.simulation.Simulation.{Simulation}
@@ -51,16 +51,20 @@ RunsAtMost longest h = (n : ℕ) → IfSome (flight_at h.flights n) (λ f. f.req
 abbrev pub AllRunAtMost : (longest : ℕ) → Hosts → Type 0
 AllRunAtMost longest hosts = (k : ℕ) → IfSome (slice_get hosts.all.items k) (RunsAtMost longest)
 
+-- the step that tells that none can be picked
+abbrev pub settles : (before after : Simulation) → Moment
+settles before after = record { before = before; told = Settled; after = after }
+
 -- a queue waits in a run of a model, in some steps and until the event behind them
 pub record IsWaitOf (model : Model) (ids : Class → List ℕ) (class : Class) (qid longest : ℕ) (first from to next : Simulation) (past steps : List Moment) : Type 0 where
   -- the device is a pool that doesn't pause
   pub pool : model.device.placement ≡ Pool
   pub goes_on : model.device.pauses ≡ None
-  -- a run of the model, until it is told that none can be picked, where the device is full
+  -- a run of the model, until it is told that none can be picked, while the queue is ready
   pub new : IsNewOf model first
-  pub before : IsRun first past from
-  pub settled : picks_of from ≡ false
-  pub full : room_at from ≡ 0
+  pub begin : Simulation
+  pub before : IsRun first (settles begin from ∷ past) from
+  pub ready : IsReady class qid begin
   pub settings : HasSettings model.settings from
   -- the steps in which the queue waits, until it is told so again
   pub run : IsRun from steps to
@@ -70,7 +74,7 @@ pub record IsWaitOf (model : Model) (ids : Class → List ℕ) (class : Class) (
   pub event : Happening
   pub comes : HasStepped to next event
   -- no command runs longer
-  pub short : All (λ m. AllRunAtMost longest (hosts_of m.before)) (steps ++ past)
+  pub short : All (λ m. AllRunAtMost longest (hosts_of m.before)) (steps ++ settles begin from ∷ past)
 
 -- it waits no longer than the bounds say, where a pick takes one command
 abbrev pub WaitsOfRunsAreShort : Type 0
