@@ -36,7 +36,7 @@ use Rattle.nvme_simulation.specs.Beginnings.{IsNewOf}
 use Rattle.nvme_simulation.specs.Devices.{device_in}
 use Rattle.nvme_simulation.specs.Fronts.{IsFrontOf}
 use Rattle.nvme_simulation.specs.Plans.{IsFirst, IsNext, events_of}
-use Rattle.nvme_simulation.specs.Quiet.{Quietly}
+use Rattle.nvme_simulation.specs.Quiet.{Quietly, StandsBehind}
 use Rattle.nvme_simulation.specs.Runs.{IsRun, Moment}
 use Rattle.nvme_simulation.specs.Simulations.{IsSimulation, StandsAt, hosts_of, picks_of, room_at, time_of}
 use Rattle.nvme_simulation.specs.Stepping.{HasStepped}
@@ -50,7 +50,7 @@ use Rattle.nvme_simulation.specs.declared.simulation.Simulation.{Simulation}
 use Rattle.nvme_simulation.proofs.Handling.{stands_on}
 use Rattle.nvme_simulation.proofs.Plans.{follows_time}
 use Rattle.nvme_simulation.proofs.Waits.{picks_have_room, settled_is_full}
-use Rattle.nvme_waits_of_runs.specs.Waits.{AllRunAtMost, PassesBy, SeesAmong, WaitsIn, WaitsOfRunsAreShort, settles}
+use Rattle.nvme_waits_of_runs.specs.Waits.{AllRunAtMost, HasSettings, PassesBy, SeesAmong, WaitsIn, WaitsOfRunsAreShort, settles}
 use Rattle.nvme_waits_of_runs.proofs.Calls.{IsPlanned}
 use Rattle.nvme_waits_of_runs.proofs.Ends.{Ascending, EndIn, agenda_ascends, first_before, none_in}
 use Rattle.nvme_waits_of_runs.proofs.Histories.{pick_history, quiet_history}
@@ -93,10 +93,47 @@ none_ends a b h s picks planned = channel_ends (time_of b) (device_in a.machine.
         omega (arith, time, before)
 
 -- ---- a run
+-- a controller stands at notes at which the model's settings are in force
+record Arranged (model : Model) (s : Simulation) : Type 0 where
+  pub front : IsFrontOf model.mechanism model.settings s.machine.front
+  pub settings : settings_after front.rules.start.settings (arbitration_of (logged front.notes)) ≡ model.settings
+
+arranged_behind : (model : Model) (b : Simulation) (rules : FrontRules) (late : Bool) (notes : Notes)
+    → StandsBehind rules late notes b.machine.front.controller b.machine.front.pool.items → late ≡ false → rules.mechanism ≡ model.mechanism
+    → rules.start.settings ≡ model.settings → settings_after rules.start.settings (arbitration_of (logged notes)) ≡ model.settings → Arranged model b
+arranged_behind model b rules late notes later in_time mechanism first settings = record {
+  front = record {
+    rules = rules;
+    late = late;
+    notes = later.later ++ notes;
+    stands = later.stands;
+    in_time = in_time;
+    mechanism_is = mechanism;
+    settings_are = first;
+  };
+  settings = ap (λ (past : History). settings_after rules.start.settings past) (quiet_history later.later notes later.quiet) ∙ settings;
+}
+
+quiet_arranged : (model : Model) (a b : Simulation) → Quietly a.machine.front b.machine.front → Arranged model a → Arranged model b
+quiet_arranged model a b quiet r =
+    let f = r.front in
+    arranged_behind model b f.rules f.late f.notes (quiet f.rules f.late f.notes f.stands) f.in_time f.mechanism_is f.settings_are r.settings
+
+arranged_step : (model : Model) (a b : Simulation) (h : Happening) → HasStepped a b h → Arranged model a → Arranged model b
+arranged_step model a b (Came queue) s r = quiet_arranged model a b s.notes r
+arranged_step model a b Settled s r = quiet_arranged model a b s.notes r
+arranged_step model a b (Finished command counted) s r = quiet_arranged model a b s.notes r
+arranged_step model a b (Paused channel) s r = quiet_arranged model a b s.notes r
+arranged_step model a b (Resumed channel) s r = quiet_arranged model a b s.notes r
+arranged_step model a b Over s r = quiet_arranged model a b s.notes r
+arranged_step model a b (Picked p) s r =
+    let f = r.front in
+    arranged_behind model b f.rules f.late (picked_notes f.notes p.pick) (s.notes f.rules f.late f.notes f.stands) f.in_time f.mechanism_is f.settings_are r.settings
+
 record Run (model : Model) (longest : ℕ) (s : Simulation) : Type 0 where
   pub sim : IsSimulation s
   pub pauses : s.pauses ≡ None
-  pub front : IsFrontOf model.mechanism model.settings s.machine.front
+  pub arranged : Arranged model s
   pub calls : List Step
   pub tracks : Tracks (depth_of model) (count_of model) longest (device_in s.machine.device) (events_of s.machine.agenda) calls
 
@@ -105,9 +142,9 @@ idle_at zero k on = true≢false (sym on)
 idle_at (suc count) zero on = true≢false (sym on)
 idle_at (suc count) (suc k) on = idle_at count k on
 
-run_begins : (model : Model) (longest : ℕ) (s : Simulation) → IsNewOf model s → model.device.placement ≡ Pool → model.device.pauses ≡ None → Run model longest s
+run_begins : (model : Model) (longest : ℕ) (s : Simulation) → IsNewOf model s → model.device.placement ≡ Pool → model.device.pauses ≡ None → HasSettings model.settings s → Run model longest s
 unfolding device_after
-run_begins model longest s new pool pauses =
+run_begins model longest s new pool pauses settings =
     let device : device_in s.machine.device ≡ pool_of model = new.device ∙ ap (λ (p : Placement). new_device p (depth_of model) (count_of model)) pool in
     record {
       sim = record {
@@ -115,7 +152,7 @@ run_begins model longest s new pool pauses =
         device = record { placement = Pool; depth = depth_of model; channels = count_of model; some = model.device.some; calls = []; is = device };
       };
       pauses = new.pauses ∙ pauses;
-      front = new.front;
+      arranged = record { front = new.front; settings = settings new.front.rules new.front.late new.front.notes new.front.stands };
       calls = [];
       tracks = record {
         device = device;
@@ -132,7 +169,7 @@ run_steps model longest a b h s short r =
     record {
       sim = stands_on a b s.same r.sim;
       pauses = s.same.pauses ∙ r.pauses;
-      front = s.same.front.arbitrates model.mechanism model.settings r.front;
+      arranged = arranged_step model a b h s r.arranged;
       calls = step.later ++ r.calls;
       tracks = step.tracks;
     }
@@ -340,11 +377,11 @@ unfolding IsRun
 waits_of_runs_are_short model ids class qid longest first from to next past steps w bound most =
     let settled : Moment = settles w.begin from in
     let old_short = all_second (λ (m : Moment). AllRunAtMost longest (hosts_of m.before)) steps (settled ∷ past) w.short in
-    let begun_run = run_goes model longest first w.begin past (run_begins model longest first w.new w.pool w.goes_on) w.before.1.1
+    let begun_run = run_goes model longest first w.begin past (run_begins model longest first w.new w.pool w.goes_on w.settings) w.before.1.1
     (All-tail (λ (m : Moment). AllRunAtMost longest (hosts_of m.before)) settled past old_short) in
     let r = run_steps model longest w.begin from Settled w.before.1.0 (All-head (λ (m : Moment). AllRunAtMost longest (hosts_of m.before)) settled past old_short) begun_run in
     let full : room_at from ≡ 0 = full_where_settled model longest class qid w.begin from begun_run w.before.1.0 w.ready in
-    let f = r.front in
+    let f = r.arranged.front in
     let stands : StandsAt f.rules false f.notes from = subst (λ (late : Bool). StandsAt f.rules late f.notes from) f.in_time f.stands in
     let begun = stretch_begins model f.rules false f.notes ids class qid longest from r stands full in
     let s = stretch_goes model f.rules false f.notes ids class qid longest (time_of from) r.calls from to steps begun w.run w.waits
@@ -352,7 +389,7 @@ waits_of_runs_are_short model ids class qid longest first from to next past step
     let start : Device = pool_of model in
     let history : History = arbitration_of (logged f.notes) in
     let lawful : IsLimitedRun f.rules.mechanism f.rules.start.settings (arbitration_of (logged s.noted.notes)) = (s.noted.stands.account refl).lawful in
-    let settings : settings_after model.settings history ≡ model.settings = ap (λ (x : ArbitrationFields). settings_after x history) (sym f.settings_are) ∙ w.settings f.rules false f.notes stands in
+    let settings : settings_after model.settings history ≡ model.settings = ap (λ (x : ArbitrationFields). settings_after x history) (sym f.settings_are) ∙ r.arranged.settings in
     let run : IsLimitedRun model.mechanism model.settings (events_in s.noted.turns ++ history) =
     subst (λ (h : History). IsLimitedRun model.mechanism model.settings h) s.noted.history
     (subst (λ (x : ArbitrationFields). IsLimitedRun model.mechanism x (arbitration_of (logged s.noted.notes))) f.settings_are

@@ -60,12 +60,12 @@ pub record IsWaitOf (model : Model) (ids : Class → List ℕ) (class : Class) (
   -- the device is a pool that doesn't pause
   pub pool : model.device.placement ≡ Pool
   pub goes_on : model.device.pauses ≡ None
-  -- a run of the model, until it is told that none can be picked, while the queue is ready
+  -- a run of the model, under its settings, until it is told that none can be picked, while the queue is ready
   pub new : IsNewOf model first
+  pub settings : HasSettings model.settings first
   pub begin : Simulation
   pub before : IsRun first (settles begin from ∷ past) from
   pub ready : IsReady class qid begin
-  pub settings : HasSettings model.settings from
   -- the steps in which the queue waits, until it is told so again
   pub run : IsRun from steps to
   pub waits : All (WaitsIn ids class qid) steps
