@@ -36,7 +36,7 @@ far_fits n s h far some fits cases = elim cases [
   )
 ]
 
-next_of : (qsize n head : ℕ) → head ≤ qsize → (head ≡ (n + gap (slots_of qsize) (n % slots_of qsize) head) % slots_of qsize) × ((t : ℕ) → n ≤ t → head ≡ t % slots_of qsize → n + gap (slots_of qsize) (n % slots_of qsize) head ≤ t)
+pub next_of : (qsize n head : ℕ) → head ≤ qsize → (head ≡ (n + gap (slots_of qsize) (n % slots_of qsize) head) % slots_of qsize) × ((t : ℕ) → n ≤ t → head ≡ t % slots_of qsize → n + gap (slots_of qsize) (n % slots_of qsize) head ≤ t)
 next_of qsize n head fits =
     far_fits n (qsize + 1) head _ (omega arith) (omega (arith, fits))
     (far_is n (qsize + 1) head _ (omega arith) (gap_case (nat_le (n % (qsize + 1)) head) (qsize + 1) (n % (qsize + 1)) head (leb-true _ _) (leb-false _ _)))

@@ -7,3 +7,8 @@ pub mod OnceLemmas
 pub mod RunLemmas
 pub mod HeadLemmas
 pub mod RepairLemmas
+pub mod KeptLemmas
+pub mod SeenLemmas
+pub mod MilderLemmas
+pub mod ShowsLemmas
+pub mod LateLemmas

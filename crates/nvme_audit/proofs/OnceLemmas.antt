@@ -44,7 +44,7 @@ checks_free false true out r s t h = cc
 checks_free false false true r s t h = cc
 checks_free false false false r s t h = refl
 
-rules_free : (tells : Tells) (sq : Sq) (ring : Option Ring) (slot : Option ℕ) (out : Bool) → fetch_rules tells sq ring slot out ≡ Kept → out ≡ false
+pub rules_free : (tells : Tells) (sq : Sq) (ring : Option Ring) (slot : Option ℕ) (out : Bool) → fetch_rules tells sq ring slot out ≡ Kept → out ≡ false
 rules_free tells sq None slot out h = cc
 rules_free tells sq (Some ring) slot out h = checks_free (tells.tails && nat_le sq.submitted sq.fetched) (is_other slot (sq.fetched % slots_of ring.qsize)) out FetchBeyondTail FetchSlot CidReused h
 

@@ -15,6 +15,8 @@ pub mod Coverage
 pub mod Examples
 pub mod StatusExamples
 pub mod Repairs
+pub mod Shows
+pub mod LateReads
 pub mod CoverageLaws
 pub mod CoverageExamples
 pub mod RepairLaws

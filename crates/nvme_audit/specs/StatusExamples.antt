@@ -227,6 +227,9 @@ untrue_aborts =
     -- it ended in the time of the Abort
     ∷ after (ends aborted ∷ ask 3 (Abort 1 7) ∷ read ∷ opened) (says_so 3) Kept
     ∷ after (ends success ∷ ask 3 (Abort 1 7) ∷ read ∷ opened) (says_so 3) (Broken rule.AbortUntrue)
+    -- or another of its queue did, by another Abort: which of them isn't looked at. Told in the other order, as a host may read them, it counts
+    ∷ after (ends aborted ∷ ask 4 (Abort 1 7) ∷ ask 3 (Abort 1 9) ∷ read ∷ opened) (says_so 3) Kept
+    ∷ after (ask 4 (Abort 1 7) ∷ ask 3 (Abort 1 9) ∷ read ∷ opened) (says_so 3) (Broken rule.AbortUntrue)
     ∷ after (ask 3 (Abort 1 7) ∷ ends aborted ∷ ask 4 (Abort 1 7) ∷ read ∷ opened) (says_so 3) (Broken rule.AbortUntrue)
     ∷ after (says_so 3 ∷ read ∷ ends aborted ∷ ask 3 (Abort 1 7) ∷ read ∷ opened) (ends success) Kept
     ∷ after (reply 4 success ∷ ask 4 (DeleteSq 1) ∷ ask 3 (Abort 1 7) ∷ read ∷ opened) (says_so 3) Kept

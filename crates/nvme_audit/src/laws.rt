@@ -5,6 +5,8 @@ ghost use Rattle.nvme_audit.specs.StatusExamples.{by_name, as_read_by_name, crea
 ghost use Rattle.nvme_audit.specs.CoverageLaws.{BrokenIsAsked};
 ghost use Rattle.nvme_audit.specs.CoverageExamples.{AreAsked, on_rings, of_names, of_statuses, of_queues, of_late_reads};
 ghost use Rattle.nvme_audit.specs.RepairLaws.{FirstBreachIsTold};
+ghost use Rattle.nvme_audit.specs.Shows.{LessIsFaultless};
+ghost use Rattle.nvme_audit.specs.LateReads.{LateIsFaultless, ProjectionsAreLawful};
 ghost use Rattle.nvme_audit.specs.RepairExamples.{AreSaid, own_queues, every_queue, queues_created_again, wrong_statuses, aborts};
 
 /// In a log without faults each fetched command is answered once, but for the outstanding ones.
@@ -65,4 +67,22 @@ pub fn worked_repairs()
     ensures queues_created_again { AreSaid by_name queues_created_again }
     ensures wrong_statuses { AreSaid by_name wrong_statuses }
     ensures aborts { AreSaid by_name aborts }
+{}
+
+/// Where neither the controller nor the host breaks a rule, neither does for an observer who sees less: fields of
+/// events are left out, and writes of doorbells.
+pub fn less_is_faultless()
+    ensures { LessIsFaultless }
+{}
+
+/// Where neither the controller nor the host breaks a rule, neither does where completions are told later, as hosts may
+/// read them.
+pub fn late_is_faultless()
+    ensures { LateIsFaultless }
+{}
+
+/// What a log in which nobody breaks a rule shows to an observer is lawful for it. It may see less, and may tell
+/// completions where the host reads them, later than the controller wrote them.
+pub fn projections_are_lawful()
+    ensures { ProjectionsAreLawful }
 {}

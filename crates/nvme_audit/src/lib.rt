@@ -17,8 +17,9 @@ pub use event::{Completion, Event};
 pub use facts::{Admin, Command, Cq, Ring, Sq, Start, Tells};
 pub use judge::{AuditError, Judge};
 pub use laws::{
-    answered_once, broken_is_asked, first_breach_is_told, heads_are_counts, worked_coverage,
-    worked_repairs, worked_statuses, worked_verdicts,
+    answered_once, broken_is_asked, first_breach_is_told, heads_are_counts, late_is_faultless,
+    less_is_faultless, projections_are_lawful, worked_coverage, worked_repairs, worked_statuses,
+    worked_verdicts,
 };
 pub use repair::WholeJudge;
 pub use scene::{Count, FetchScene, PostScene, Scene, count_asked};
