@@ -1,0 +1,14 @@
+mod ExampleLogs
+mod OwnRegions
+mod Agreeing
+mod Answered
+mod Steps
+mod Verdicts
+mod EachEvent
+mod AdminQueues
+mod AdminTurns
+mod Phases
+mod PhaseSteps
+mod Queues
+mod IoQueues
+mod Fetches

@@ -1,0 +1,38 @@
+-- Laws of what the accounts of a controller show.
+use Rattle.std.specs.Prelude.{◌≡◌, None, is_some}
+use Rattle.nvme_log.specs.Rules.{FrontRules}
+use Rattle.nvme_ctrl_log.specs.Notes.{Notes}
+use Rattle.nvme_log.specs.Laws.{StartsWithAdmin}
+use Rattle.nvme_ctrl_log.specs.Making.{placing_in}
+use Rattle.nvme_ctrl_log.specs.Account.{IsAccount}
+use Rattle.nvme_audit.specs.declared.event.Event.{Event}
+use Rattle.nvme_audit.specs.declared.event.Event.TheVariants.{Fetch, Post}
+use Rattle.nvme_audit.specs.declared.facts.Start.{Start}
+use Rattle.nvme_audit.specs.declared.verdict.Verdict.TheVariants.{Kept}
+use Rattle.nvme_audit.specs.Lives.{Past}
+use Rattle.nvme_audit.specs.Facts.{sq_after, cq_after, outstanding}
+use Rattle.nvme_audit.specs.Rules.{fetch_verdict, post_verdict}
+use Rattle.nvme_own_log.specs.Shown.{start_of, shown, EachShown}
+use Rattle.nvme_own_log.specs.Duties.{NamesAreFree, KeepsDuties}
+
+-- a fetch from the admin queue, and a completion of one of its commands, keep all rules of rings and of names
+abbrev pub IsKeptByAdmin : Start → Past → Event → Type 0
+IsKeptByAdmin start past (Fetch sq slot cid command) = sq ≡ 0 → fetch_verdict start.tells (sq_after start past sq) slot (is_some (outstanding past sq cid)) ≡ Kept
+IsKeptByAdmin start past (Post cq slot completion) =
+    completion.sq ≡ 0
+    → post_verdict start.tells cq (cq_after start past cq) (sq_after start past completion.sq) (outstanding past completion.sq completion.cid) slot completion ≡ Kept
+IsKeptByAdmin start past e = Unit {0}
+
+-- so it is of what an account shows, where the host keeps names apart
+abbrev pub AdminQueuesAreLawful : Type 0
+AdminQueuesAreLawful = (rules : FrontRules) (notes : Notes) → IsAccount rules notes → NamesAreFree (shown rules notes) → EachShown (IsKeptByAdmin (start_of rules)) (shown rules notes)
+
+-- a fetch from any queue keeps the rules of fetches: the queue is open, the tail doorbell announced the command, and its slot is the next
+abbrev pub IsFetchKept : Start → Past → Event → Type 0
+IsFetchKept start past (Fetch sq slot cid command) = fetch_verdict start.tells (sq_after start past sq) slot (is_some (outstanding past sq cid)) ≡ Kept
+IsFetchKept start past e = Unit {0}
+
+-- so it is of what an account shows, where queues lie on regions, at the start just the admin queues, and the host waits for completions
+abbrev pub FetchesAreLawful : Type 0
+FetchesAreLawful = (rules : FrontRules) (notes : Notes) → StartsWithAdmin rules → placing_in rules ≡ None → IsAccount rules notes → KeepsDuties (start_of rules) (shown rules notes)
+    → EachShown (IsFetchKept (start_of rules)) (shown rules notes)

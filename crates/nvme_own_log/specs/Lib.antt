@@ -1,0 +1,4 @@
+pub mod Shown
+pub mod Duties
+pub mod Examples
+pub mod Laws

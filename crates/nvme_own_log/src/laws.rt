@@ -1,0 +1,32 @@
+//! Laws of what the notes of a controller show, over the definitions alone. Each function does nothing: its contract is the
+//! law.
+ghost use Rattle.std.specs.Prelude.{◌≡◌};
+ghost use Rattle.nvme_log.specs.Examples.{one_deletion, two_slots};
+ghost use Rattle.nvme_ctrl_log.specs.Examples.{deletion_noted, two_passes};
+ghost use Rattle.nvme_audit.specs.Lawful.{IsFaultlessLog};
+ghost use Rattle.nvme_own_log.specs.Shown.{shown, start_of};
+ghost use Rattle.nvme_own_log.specs.Examples.{deletion_shown, passes_shown};
+ghost use Rattle.nvme_own_log.specs.Laws.{AdminQueuesAreLawful, FetchesAreLawful};
+
+/// Worked: what two logs of a controller show, and that the judge finds no fault with them.
+pub fn worked_logs_are_shown()
+    ensures deletion { shown one_deletion deletion_noted ≡ deletion_shown }
+    ensures two_passes { shown two_slots two_passes ≡ passes_shown }
+    ensures deletion_faultless { IsFaultlessLog (start_of one_deletion) deletion_shown }
+    ensures passes_faultless { IsFaultlessLog (start_of two_slots) passes_shown }
+{}
+
+/// What an account shows of the admin queues keeps all rules of rings and of names: commands are fetched that were
+/// submitted, slot by slot; completions are written slot by slot, with the phase tag of their pass, into a slot that is
+/// free; and each is of an outstanding command, with a head after it. The host keeps the identifiers of outstanding
+/// commands apart.
+pub fn admin_queues_are_lawful()
+    ensures { AdminQueuesAreLawful }
+{}
+
+/// What an account shows of fetches, from any queue, keeps the rules of fetches: the queue is open, the tail doorbell
+/// announced the command, and its slot is the next. Queues lie on regions that were added, just the admin queues are there at
+/// the start, and the host waits for completions (`KeepsDuties`).
+pub fn fetches_are_lawful()
+    ensures { FetchesAreLawful }
+{}
