@@ -1,2 +1,3 @@
 pub mod Nearest
+mod Rising
 pub mod Turns

@@ -2,11 +2,13 @@
 use Rattle.std.specs.Prelude.{ℕ, ◌&&◌, nat_lt, min, if◌then◌else◌, codes, List, Option, Some, None}
 use Rattle.toml.specs.Data.{Data, Members, as_str, as_table}
 use Rattle.nvme_channels.specs.declared.channels.TheConstants.{MAX_CHANNELS}
+use Rattle.nvme_load.specs.declared.mix.Operation.TheVariants as operation
 use Rattle.nvme_model.specs.declared.device.TheConstants.{MAX_DEPTH}
 use Rattle.nvme_short_form.specs.Commands.{is_named}
 use Rattle.nvme_model_form.specs.declared.key.Key.TheVariants as key
 use Rattle.nvme_model_form.specs.Keys.{device_keys, pause_keys}
 use Rattle.nvme_model_form.specs.Readings.{◌>>=◌, ◌>>◌, only_keys, value_in, number_or}
+use Rattle.nvme_model_form.specs.Services.{checked_service}
 use Rattle.nvme_model_form.specs.Times.{duration_at}
 use Rattle.nvme_model_form.specs.Views.{Placing, Anywhere, InStripes, Resting, Running}
 
@@ -67,5 +69,9 @@ device_of device = do
   channels ← number_or key.Channels 1 1 MAX_CHANNELS device
   depth ← depth_in channels device
   placing ← placing_in device
+  size_in device
+  checked_service operation.Read device
+  checked_service operation.Write device
+  checked_service operation.Flush device
   rest ← optional_resting (value_in key.Pauses device)
   Some (record { channels = channels; depth = depth; placing = placing; resting = rest })

@@ -1,12 +1,12 @@
 -- The queues, by what a file says. (profile)
-use Rattle.std.specs.Prelude.{ℕ, ◌+◌, ◌==◌, nat_le, nat_lt, is_some, if◌then◌else◌, codes, List, [], ◌∷◌, ◌++◌, Option, Some, None}
+use Rattle.std.specs.Prelude.{ℕ, ◌+◌, ◌==◌, ◌&&◌, nat_le, nat_lt, is_some, if◌then◌else◌, codes, List, [], ◌∷◌, ◌++◌, Option, Some, None}
 use Rattle.toml.specs.Data.{Data, Members, as_str, as_array, as_table}
 use Rattle.nvme_arbiter.specs.declared.settings.Class.{Class}
 use Rattle.nvme_arbiter.specs.declared.settings.Class.TheVariants as class
 use Rattle.nvme_load.specs.declared.places.Order.{Order}
 use Rattle.nvme_load.specs.declared.places.Order.TheVariants.{Uniform, Sequential}
 use Rattle.nvme_load.specs.declared.places.TheConstants.{MAX_BLOCKS}
-use Rattle.nvme_load.specs.declared.mix.Operation.TheVariants as operation
+use Rattle.nvme_model.specs.declared.model.TheConstants.{MAX_QUEUES}
 use Rattle.nvme_model.specs.declared.queue.TheConstants.{MIN_SLOTS, MAX_SLOTS}
 use Rattle.nvme_short_form.specs.declared.place.Place.TheVariants as place
 use Rattle.nvme_short_form.specs.Commands.{is_named}
@@ -16,7 +16,7 @@ use Rattle.nvme_model_form.specs.declared.key.Key.TheVariants as key
 use Rattle.nvme_model_form.specs.Keys.{queue_keys, mix_keys}
 use Rattle.nvme_model_form.specs.Readings.{◌>>=◌, ◌>>◌, accepted, in_turn, item_count, only_keys, value_in, number_or}
 use Rattle.nvme_model_form.specs.Arrivals.{arrivals_at}
-use Rattle.nvme_model_form.specs.Services.{service_for, flush_for, needed}
+use Rattle.nvme_model_form.specs.Services.{services_for}
 use Rattle.nvme_model_form.specs.Views.{Coming, ByPoisson, ByGap, InBursts, BehindOthers, Replayed, Shares, Asking}
 
 -- QPRIO: Base Specification, Create I/O Submission Queue, CDW11 02:01
@@ -91,10 +91,8 @@ queue_in number size device queue = do
   shares ← mix_in queue
   blocks ← blocks_in size queue
   order ← order_in queue
-  read ← service_for operation.Read (needed coming shares.read) queue device
-  write ← service_for operation.Write (needed coming shares.write) queue device
-  flush ← flush_for (needed coming shares.flush) queue device
-  Some (record { class = class; slots = slots; coming = coming; shares = shares; size = size; blocks = blocks; order = order; read = read; write = write; flush = flush })
+  serving ← services_for coming shares queue device
+  Some (record { class = class; slots = slots; coming = coming; shares = shares; size = size; blocks = blocks; order = order; read = serving.read; write = serving.write; flush = serving.flush })
 
 -- the queues before, with one more
 unfoldable pub with_queue : ℕ → Members → ℕ → List Asking → Data → Option (List Asking)
@@ -103,10 +101,15 @@ with_queue size device index before d = do
   asking ← queue_in (index + 1) size device queue
   Some (before ++ asking ∷ [])
 
+-- 1 to 64 of them
+abbrev pub few : ℕ → Option (Unit {0})
+few count = if nat_lt 0 count && nat_le count MAX_QUEUES then Some tt else None
+
 unfoldable pub queues_in : ℕ → (device file : Members) → Option (List Asking)
 queues_in size device file = do
   d ← value_in key.Queue file
   items ← as_array d
+  few (item_count items)
   in_turn (with_queue size device) 0 [] items
 
 -- how many tables the array of queues has

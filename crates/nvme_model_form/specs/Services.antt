@@ -1,5 +1,5 @@
 -- How long a device takes for commands, by what a file says. (profile)
-use Rattle.std.specs.Prelude.{ℕ, ◌+◌, ◌==◌, if◌then◌else◌, List, [], ◌∷◌, ◌++◌, Option, Some, None}
+use Rattle.std.specs.Prelude.{ℕ, ◌+◌, ◌==◌, ◌&&◌, Bool, true, nat_le, if◌then◌else◌, List, [], ◌∷◌, ◌++◌, length, Option, Some, None}
 use Rattle.toml.specs.Data.{Data, Members, as_array, as_table}
 use Rattle.nvme_load.specs.declared.mix.Operation.{Operation}
 use Rattle.nvme_load.specs.declared.mix.Operation.TheVariants.{Read, Write, Flush}
@@ -8,14 +8,27 @@ use Rattle.nvme_model_form.specs.declared.key.Key.TheVariants as key
 use Rattle.nvme_model_form.specs.Keys.{service_keys, flush_keys}
 use Rattle.nvme_model_form.specs.Readings.{◌>>=◌, ◌>>◌, in_turn, only_keys, value_in, whole}
 use Rattle.nvme_model_form.specs.Times.{duration_of, duration_at, duration_or_none, mean_of}
-use Rattle.nvme_model_form.specs.Views.{Coming, ByPoisson, ByGap, InBursts, BehindOthers, Replayed, Spread, Always, Exponentially, OneOfTwo, ByQuantiles, Taking}
+use Rattle.nvme_model_form.specs.Views.{Coming, ByPoisson, ByGap, InBursts, BehindOthers, Replayed, Shares, Spread, Always, Exponentially, OneOfTwo, ByQuantiles, Taking, Serving}
 
 -- the durations of an array, with those before them
 unfoldable pub with_time : ℕ → List ℕ → Data → Option (List ℕ)
 with_time index before d = duration_of d >>= (λ time. Some (before ++ time ∷ []))
 
+-- none is below the one before it
+abbrev pub rises : List ℕ → Bool
+rises [] = true
+rises (a ∷ []) = true
+rises (a ∷ b ∷ times) = nat_le a b && rises (b ∷ times)
+
+-- two quantiles or more, which don't fall
+abbrev pub table_of : List ℕ → Option (List ℕ)
+table_of times = if nat_le 2 (length times) && rises times then Some times else None
+
 unfoldable pub quantiles_of : Data → Option (List ℕ)
-quantiles_of d = as_array d >>= in_turn with_time 0 []
+quantiles_of d = do
+  items ← as_array d
+  times ← in_turn with_time 0 [] items
+  table_of times
 
 unfoldable pub exponential_of : Data → Option Spread
 exponential_of d = do
@@ -88,3 +101,19 @@ service_for operation share queue device = service_by operation share (value_in 
 
 abbrev pub flush_for : ℕ → (queue device : Members) → Option Spread
 flush_for share queue device = service_for Flush share queue device >>= (λ taking. Some taking.spread)
+
+-- the services of a queue
+unfoldable pub services_for : Coming → Shares → (queue device : Members) → Option Serving
+services_for coming shares queue device = do
+  read ← service_for Read (needed coming shares.read) queue device
+  write ← service_for Write (needed coming shares.write) queue device
+  flush ← flush_for (needed coming shares.flush) queue device
+  Some (record { read = read; write = write; flush = flush })
+
+-- what a device has of services has no fault, whether or not a queue needs it
+abbrev pub optional_service : Operation → Option Data → Option (Unit {0})
+optional_service operation None = Some tt
+optional_service operation (Some d) = service_of operation d >>= (λ taking. Some tt)
+
+abbrev pub checked_service : Operation → (device : Members) → Option (Unit {0})
+checked_service operation device = optional_service operation (value_in (key_of operation) device)

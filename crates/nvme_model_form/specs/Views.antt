@@ -11,6 +11,7 @@ use Rattle.nvme_load.specs.declared.places.Order.{Order}
 use Rattle.nvme_load.specs.declared.services.Distribution.{Distribution}
 use Rattle.nvme_load.specs.declared.services.Distribution.TheVariants as distribution
 use Rattle.nvme_load.specs.declared.services.Service.{Service}
+use Rattle.nvme_load.specs.declared.services.Services.{Services}
 use Rattle.nvme_model.specs.declared.device.Device.{Device}
 use Rattle.nvme_model.specs.declared.device.Pauses.{Pauses}
 use Rattle.nvme_model.specs.declared.model.End.{End}
@@ -53,6 +54,14 @@ pub record Taking : Type 0 where
 
 abbrev pub taking_of : Service → Taking
 taking_of service = record { spread = spread_of service.time; per_block = service.per_block }
+
+pub record Serving : Type 0 where
+  pub read : Taking
+  pub write : Taking
+  pub flush : Spread
+
+abbrev pub serving_of : Services → Serving
+serving_of services = record { read = taking_of services.read; write = taking_of services.write; flush = spread_of services.flush }
 
 -- ---- the device
 

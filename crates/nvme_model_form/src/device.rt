@@ -119,7 +119,7 @@ fn device_of(
     requires at_most { channels ≤ MAX_CHANNELS }
     requires has { 0 < depth }
     requires few { depth ≤ MAX_DEPTH }
-    ensures { IfOk result (λ d. running_of d ≡ record { channels = channels; depth = depth; placing = placing_of placement; resting = resting_of pauses }) }
+    ensures { Means (seen running_of result) (Some (record { channels = channels; depth = depth; placing = placing_of placement; resting = resting_of pauses })) }
 {
     match Device::new(channels as usize, depth as u16, placement, pauses) {
         Ok(device) => Ok(device),
@@ -130,7 +130,7 @@ fn device_of(
 /// The device that a table says. Its services are looked at, and read for each queue.
 #[tactic(auto, unfolding(crate::specs::Devices::device_of))]
 pub(crate) fn device_in(alloc: Global, device: &Table) -> Result<Device, ModelError>
-    ensures { IfOk result (λ d. device_of (table_view device.now) ≡ Some (running_of d)) }
+    ensures { Means (seen running_of result) (device_of (table_view device.now)) }
 {
     only_keys(Place::Device, &DEVICE_KEYS, device)?;
     let most = MAX_CHANNELS as u64;

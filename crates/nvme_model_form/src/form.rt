@@ -1,9 +1,10 @@
 // The whole of a simulation file.
 ghost use Rattle.std.specs.Prelude.{◌≡◌, length, map, Some, IfOk};
 ghost use Rattle.toml.specs.View.{table_view};
+ghost use Rattle.nvme_model_form.specs.Readings.{Means, seen};
 ghost use Rattle.nvme_model_form.specs.Simulations.{lasting_at};
 ghost use Rattle.nvme_model_form.specs.Views.{asking_of, running_of, ending_of};
-ghost use Rattle.nvme_model_form.specs.Models.{is_simulation, mechanism_in, settings_in, device_in, queues_of};
+ghost use Rattle.nvme_model_form.specs.Models.{is_simulation, mechanism_in, settings_in, device_in, plan_in, plan_of, queues_of};
 ghost use Rattle.nvme_model_form.specs.Queues.{queue_count};
 
 use crate::device::{device_at, device_in, size_in};
@@ -29,8 +30,9 @@ pub fn is_simulation(table: &Table) -> bool
 
 /// What the table of a simulation file says, or its first fault. Keys that a table may not have are looked for first,
 /// then each key is read in the order of the tables; the device comes before the queues.
-#[tactic(auto, unfolding(crate::specs::Models::queues_of))]
+#[tactic(auto, unfolding(crate::specs::Models::plan_in, crate::specs::Models::queues_of))]
 pub fn model_of(alloc: Global, table: &Table) -> Result<Model, ModelError>
+    ensures value { Means (seen plan_of result) (plan_in (table_view table.now)) }
     ensures mechanism { IfOk result (λ m. mechanism_in (table_view table.now) ≡ Some m.mechanism) }
     ensures settings { IfOk result (λ m. settings_in (table_view table.now) ≡ Some m.settings) }
     ensures device { IfOk result (λ m. device_in (table_view table.now) ≡ Some (running_of m.device)) }

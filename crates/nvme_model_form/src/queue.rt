@@ -1,10 +1,11 @@
 // The queues.
-ghost use Rattle.std.specs.Prelude.{◌≡◌, ◌+◌, ◌<◌, ◌≤◌, [], length, map, Some, IfOk, OnOk};
+ghost use Rattle.std.specs.Prelude.{◌≡◌, ◌+◌, ◌<◌, ◌≤◌, [], length, map, Some, IfErr, IfOk, OnOk};
 ghost use Rattle.toml.specs.View.{view, items_view, table_view};
-ghost use Rattle.nvme_model_form.specs.Readings.{Means, seen, in_turn};
-ghost use Rattle.nvme_model_form.specs.Views.{asking_of, coming_of, shares_of};
+ghost use Rattle.nvme_model_form.specs.Readings.{Means, Refuses, seen, in_turn};
+ghost use Rattle.nvme_model_form.specs.Views.{asking_of, coming_of, shares_of, spread_of, taking_of};
 ghost use Rattle.nvme_model_form.specs.Queues.{class_in, slots_in, share_in, mix_of, mix_in, blocks_in, listed_alone, order_in, queue_in, with_queue, queues_in, queue_count, without};
 ghost use Rattle.nvme_model.specs.declared.model.TheConstants.{MAX_QUEUES};
+ghost use Rattle.nvme_model.specs.declared.queue.TheConstants.{MAX_SLOTS, MIN_SLOTS};
 
 use crate::arrivals::arrivals_at;
 use crate::error::{Fault, Kind, ModelError, Refusal, refused};
@@ -14,7 +15,7 @@ use crate::services::services_for;
 use crate::tables::{MIX_KEYS, QUEUE_KEYS};
 use crate::values::{bad, number_or, only_keys, table_of, value_at, value_in};
 use nvme_arbiter::Class;
-use nvme_load::{Arrivals, Extent, MAX_BLOCKS, Mix, Order, Places};
+use nvme_load::{Arrivals, Extent, MAX_BLOCKS, Mix, Order, Places, Services};
 use nvme_model::{MAX_QUEUES, MAX_SLOTS, MIN_SLOTS, Queue, QueuesFault};
 use nvme_short_form::qprio_in;
 use std::alloc::Global;
@@ -34,7 +35,8 @@ fn class_in(number: usize, queue: &Table) -> Result<Class, ModelError>
 
 // The slots of a queue's rings.
 fn slots_in(number: usize, queue: &Table) -> Result<u16, ModelError>
-    ensures { Means result (slots_in (table_view queue.now)) }
+    ensures value { Means result (slots_in (table_view queue.now)) }
+    ensures in_range { IfOk result (λ n. (MIN_SLOTS ≤ n) × (n ≤ MAX_SLOTS)) }
 {
     let (low, high) = (u64::from(MIN_SLOTS), u64::from(MAX_SLOTS));
     let slots = number_or(Place::Queue(number), Key::Slots, 1024, low, high, queue)?;
@@ -129,6 +131,26 @@ fn listed_alone(number: usize, arrivals: &Arrivals, queue: &Table) -> Result<(),
     }
 }
 
+// A queue of these parts.
+fn queue_of(
+    number: usize,
+    class: Class,
+    slots: u16,
+    arrivals: Arrivals,
+    mix: Mix,
+    places: Places,
+    services: Services,
+) -> Result<Queue, ModelError>
+    requires at_least { MIN_SLOTS ≤ slots }
+    requires at_most { slots ≤ MAX_SLOTS }
+    ensures { Means (seen asking_of result) (Some (record { class = class; slots = slots; coming = coming_of arrivals; shares = shares_of mix; size = places.extent.size; blocks = places.extent.blocks; order = places.order; read = taking_of services.read; write = taking_of services.write; flush = spread_of services.flush })) }
+{
+    match Queue::new(class, slots, arrivals, mix, places, services) {
+        Ok(queue) => Ok(queue),
+        Err(fault) => Err(refused(Place::Queue(number), Key::Slots, Refusal::Slots(fault))),
+    }
+}
+
 // The queue of this number that a table says.
 #[tactic(auto, unfolding(crate::specs::Queues::queue_in))]
 fn queue_in(
@@ -138,10 +160,9 @@ fn queue_in(
     device: &Table,
     queue: &Table,
 ) -> Result<Queue, ModelError>
-    ensures { IfOk result (λ q. queue_in number size (table_view device.now) (table_view queue.now) ≡ Some (asking_of q)) }
+    ensures { Means (seen asking_of result) (queue_in number size (table_view device.now) (table_view queue.now)) }
 {
-    let place = Place::Queue(number);
-    only_keys(place, &QUEUE_KEYS, queue)?;
+    only_keys(Place::Queue(number), &QUEUE_KEYS, queue)?;
     let class = class_in(number, queue)?;
     let slots = slots_in(number, queue)?;
     let arrivals = arrivals_at(alloc, number, size, queue)?;
@@ -151,10 +172,7 @@ fn queue_in(
     let order = order_in(number, queue)?;
     let services = services_for(alloc, number, &arrivals, mix, queue, device)?;
     let places = Places::new(extent, order);
-    match Queue::new(class, slots, arrivals, mix, places, services) {
-        Ok(queue) => Ok(queue),
-        Err(fault) => Err(refused(place, Key::Slots, Refusal::Slots(fault))),
-    }
+    queue_of(number, class, slots, arrivals, mix, places, services)
 }
 
 // Appends the queue of an item.
@@ -169,6 +187,7 @@ fn push_queue(
 ) -> Result<(), ModelError>
     requires few { index < MAX_QUEUES }
     ensures ok { OnOk result (with_queue size (table_view device.now) index (map asking_of queues.old.items) (view item.now) ≡ Some (map asking_of queues.new.items)) }
+    ensures err { IfErr result (λ e. Refuses e (with_queue size (table_view device.now) index (map asking_of queues.old.items) (view item.now))) }
     ensures one { OnOk result (length queues.new.items ≡ length queues.old.items + 1) }
 {
     let Some(table) = item.as_table() else {
@@ -191,6 +210,7 @@ fn push_queues(
     requires none { queues.old.items ≡ [] }
     requires few { length items.now ≤ MAX_QUEUES }
     ensures ok { OnOk result (in_turn (with_queue size (table_view device.now)) 0 [] (items_view items.now) ≡ Some (map asking_of queues.new.items)) }
+    ensures err { IfErr result (λ e. Refuses e (in_turn (with_queue size (table_view device.now)) 0 [] (items_view items.now))) }
     ensures count { OnOk result (length queues.new.items ≡ length items.now) }
 {
     for (index, item) in items.iter().enumerate() {
@@ -207,13 +227,19 @@ pub(crate) fn queues_in(
     device: &Table,
     file: &Table,
 ) -> Result<Vec<Queue>, ModelError>
-    ensures ok { IfOk result (λ qs. queues_in size (table_view device.now) (table_view file.now) ≡ Some (map asking_of qs.items)) }
+    ensures value { Means (seen (λ qs. map asking_of qs.items) result) (queues_in size (table_view device.now) (table_view file.now)) }
     ensures count { IfOk result (λ qs. queue_count (table_view file.now) ≡ Some (length qs.items)) }
+    ensures some { IfOk result (λ qs. 0 < length qs.items) }
+    ensures at_most { IfOk result (λ qs. length qs.items ≤ MAX_QUEUES) }
 {
     let value = value_at(Place::Top, Key::Queue, file)?;
     let Some(items) = value.as_array() else {
         return Err(bad(Place::Top, Key::Queue, Kind::Queues));
     };
+    if items.is_empty() {
+        let refusal = Refusal::Queues(QueuesFault::NoQueues);
+        return Err(refused(Place::Top, Key::Queue, refusal));
+    }
     if items.len() > MAX_QUEUES {
         let refusal = Refusal::Queues(QueuesFault::TooManyQueues);
         return Err(refused(Place::Top, Key::Queue, refusal));

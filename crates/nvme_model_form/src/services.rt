@@ -1,10 +1,9 @@
 // How long the device takes.
-ghost use Rattle.std.specs.Prelude.{◌≡◌, Some, IfOk};
+ghost use Rattle.std.specs.Prelude.{◌≡◌};
 ghost use Rattle.toml.specs.View.{view, table_view};
-ghost use Rattle.nvme_model_form.specs.Readings.{Means, only_keys};
-ghost use Rattle.nvme_model_form.specs.Views.{coming_of, spread_of, taking_of};
-ghost use Rattle.nvme_model_form.specs.Services.{keys_of, service_in, service_of, service_for, flush_for, needed};
-ghost use Rattle.nvme_load.specs.declared.mix.Operation.TheVariants as operation;
+ghost use Rattle.nvme_model_form.specs.Readings.{Means, only_keys, seen};
+ghost use Rattle.nvme_model_form.specs.Views.{coming_of, serving_of, shares_of, taking_of};
+ghost use Rattle.nvme_model_form.specs.Services.{checked_service, keys_of, service_in, service_of, service_for, services_for, needed};
 
 use crate::error::{Fault, Kind, ModelError};
 use crate::key::Key;
@@ -43,7 +42,7 @@ fn service_in(
     operation: Operation,
     table: &Table,
 ) -> Result<Service, ModelError>
-    ensures { IfOk result (λ s. service_in operation (table_view table.now) ≡ Some (taking_of s)) }
+    ensures { Means (seen taking_of result) (service_in operation (table_view table.now)) }
 {
     let place = Place::Service(owner, operation);
     only_service_keys(place, operation, table)?;
@@ -59,7 +58,7 @@ pub(crate) fn service_of(
     operation: Operation,
     value: &Value,
 ) -> Result<Service, ModelError>
-    ensures { IfOk result (λ s. service_of operation (view value.now) ≡ Some (taking_of s)) }
+    ensures { Means (seen taking_of result) (service_of operation (view value.now)) }
 {
     if let Some(table) = value.as_table() {
         return service_in(alloc, owner, operation, table);
@@ -79,7 +78,9 @@ pub(crate) fn check_service(
     alloc: Global,
     operation: Operation,
     device: &Table,
-) -> Result<(), ModelError> {
+) -> Result<(), ModelError>
+    ensures { Means result (checked_service operation (table_view device.now)) }
+{
     if let Some(value) = value_in(key_of(operation), device) {
         let _service = service_of(alloc, Owner::Device, operation, value)?;
     }
@@ -96,7 +97,7 @@ fn service_for(
     queue: &Table,
     device: &Table,
 ) -> Result<Service, ModelError>
-    ensures { IfOk result (λ s. service_for operation share (table_view queue.now) (table_view device.now) ≡ Some (taking_of s)) }
+    ensures { Means (seen taking_of result) (service_for operation share (table_view queue.now) (table_view device.now)) }
 {
     let key = key_of(operation);
     match (value_in(key, queue), value_in(key, device)) {
@@ -125,6 +126,7 @@ fn needed(arrivals: &Arrivals, share: u32) -> u32
 }
 
 /// The services of a queue.
+#[tactic(auto, unfolding(crate::specs::Services::services_for))]
 pub(crate) fn services_for(
     alloc: Global,
     number: usize,
@@ -133,9 +135,7 @@ pub(crate) fn services_for(
     queue: &Table,
     device: &Table,
 ) -> Result<Services, ModelError>
-    ensures read { IfOk result (λ s. service_for operation.Read (needed (coming_of arrivals.now) mix.read) (table_view queue.now) (table_view device.now) ≡ Some (taking_of s.read)) }
-    ensures write { IfOk result (λ s. service_for operation.Write (needed (coming_of arrivals.now) mix.write) (table_view queue.now) (table_view device.now) ≡ Some (taking_of s.write)) }
-    ensures flush { IfOk result (λ s. flush_for (needed (coming_of arrivals.now) mix.flush) (table_view queue.now) (table_view device.now) ≡ Some (spread_of s.flush)) }
+    ensures { Means (seen serving_of result) (services_for (coming_of arrivals.now) (shares_of mix) (table_view queue.now) (table_view device.now)) }
 {
     let reads = needed(arrivals, mix.read);
     let read = service_for(alloc, number, Operation::Read, reads, queue, device)?;

@@ -1,10 +1,10 @@
 // How service times are spread.
-ghost use Rattle.std.specs.Prelude.{◌≡◌, Some, IfOk, OnOk};
+ghost use Rattle.std.specs.Prelude.{◌≡◌, Some, IfErr, OnOk};
 ghost use Rattle.toml.specs.View.{view, items_view, table_view};
 ghost use Rattle.nvme_clock.specs.Quantiles.{values_of};
-ghost use Rattle.nvme_model_form.specs.Readings.{in_turn};
+ghost use Rattle.nvme_model_form.specs.Readings.{Means, Refuses, in_turn, seen};
 ghost use Rattle.nvme_model_form.specs.Views.{spread_of};
-ghost use Rattle.nvme_model_form.specs.Services.{with_time, quantiles_of, exponential_of, two_points_of, spread_in};
+ghost use Rattle.nvme_model_form.specs.Services.{with_time, table_of, quantiles_of, exponential_of, two_points_of, spread_in};
 
 use crate::error::{Fault, Kind, ModelError, Refusal, refused};
 use crate::key::Key;
@@ -24,7 +24,8 @@ fn push_time(
     index: usize,
     item: &Value,
 ) -> Result<(), ModelError>
-    ensures { OnOk result (with_time index times.old.items (view item.now) ≡ Some times.new.items) }
+    ensures ok { OnOk result (with_time index times.old.items (view item.now) ≡ Some times.new.items) }
+    ensures err { IfErr result (λ e. Refuses e (with_time index times.old.items (view item.now))) }
 {
     let time = duration_of(place, Target::Item(Key::Quantiles, index), item)?;
     times.push(time)?;
@@ -33,7 +34,8 @@ fn push_time(
 
 // Appends the durations of an array.
 fn push_quantiles(times: &mut Vec<u64>, place: Place, items: &[Value]) -> Result<(), ModelError>
-    ensures { OnOk result (in_turn with_time 0 times.old.items (items_view items.now) ≡ Some times.new.items) }
+    ensures ok { OnOk result (in_turn with_time 0 times.old.items (items_view items.now) ≡ Some times.new.items) }
+    ensures err { IfErr result (λ e. Refuses e (in_turn with_time 0 times.old.items (items_view items.now))) }
 {
     for (index, item) in items.iter().enumerate() {
         push_time(times, place, index, item)?;
@@ -44,13 +46,20 @@ fn push_quantiles(times: &mut Vec<u64>, place: Place, items: &[Value]) -> Result
 // The quantiles of an array.
 #[tactic(auto, unfolding(crate::specs::Services::quantiles_of))]
 fn quantiles_of(alloc: Global, place: Place, value: &Value) -> Result<Quantiles, ModelError>
-    ensures { IfOk result (λ q. quantiles_of (view value.now) ≡ Some (values_of q)) }
+    ensures { Means (seen values_of result) (quantiles_of (view value.now)) }
 {
     let Some(items) = value.as_array() else {
         return Err(bad(place, Key::Quantiles, Kind::Durations));
     };
     let mut times = Vec::new(alloc);
     push_quantiles(&mut times, place, items)?;
+    table_of(place, times)
+}
+
+// The quantiles of durations.
+fn table_of(place: Place, times: Vec<u64>) -> Result<Quantiles, ModelError>
+    ensures { Means (seen values_of result) (table_of times.items) }
+{
     match Quantiles::new(times) {
         Ok(quantiles) => Ok(quantiles),
         Err(fault) => Err(refused(place, Key::Quantiles, Refusal::Quantiles(fault))),
@@ -60,7 +69,7 @@ fn quantiles_of(alloc: Global, place: Place, value: &Value) -> Result<Quantiles,
 // Exponential times.
 #[tactic(auto, unfolding(crate::specs::Services::exponential_of))]
 fn exponential_of(place: Place, value: &Value) -> Result<Distribution, ModelError>
-    ensures { IfOk result (λ d. exponential_of (view value.now) ≡ Some (spread_of d)) }
+    ensures { Means (seen spread_of result) (exponential_of (view value.now)) }
 {
     let time = duration_of(place, Target::Key(Key::Exponential), value)?;
     Ok(Distribution::Exponential(mean_of(place, Key::Exponential, time)?))
@@ -69,7 +78,7 @@ fn exponential_of(place: Place, value: &Value) -> Result<Distribution, ModelErro
 // A usual time, and a rare one once in so many.
 #[tactic(auto, unfolding(crate::specs::Services::two_points_of))]
 fn two_points_of(place: Place, usual: &Value, table: &Table) -> Result<Distribution, ModelError>
-    ensures { IfOk result (λ d. two_points_of (view usual.now) (table_view table.now) ≡ Some (spread_of d)) }
+    ensures { Means (seen spread_of result) (two_points_of (view usual.now) (table_view table.now)) }
 {
     let usual = duration_of(place, Target::Key(Key::Usual), usual)?;
     let rare = duration_at(place, Key::Rare, table)?;
@@ -90,7 +99,7 @@ pub(crate) fn spread_in(
     place: Place,
     table: &Table,
 ) -> Result<Distribution, ModelError>
-    ensures { IfOk result (λ d. spread_in (table_view table.now) ≡ Some (spread_of d)) }
+    ensures { Means (seen spread_of result) (spread_in (table_view table.now)) }
 {
     let fixed = value_in(Key::Fixed, table);
     let exponential = value_in(Key::Exponential, table);

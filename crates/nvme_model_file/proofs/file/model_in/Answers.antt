@@ -14,5 +14,5 @@ returns-in-Ok-model_of c =
     record {
       file = table_view c.in-Ok-document.table;
       is_file = is_file;
-      says = record { mechanism = told.mechanism; settings = told.settings; device = told.device; queues = told.queues; count = told.count; lasting = told.lasting };
+      says = record { plan = told.value; mechanism = told.mechanism; settings = told.settings; device = told.device; queues = told.queues; count = told.count; lasting = told.lasting };
     }
