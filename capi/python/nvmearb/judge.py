@@ -11,6 +11,7 @@ from typing import IO, Any, Optional
 from .arbiter import NO_LIMIT, Arbiter, Mechanism, Pick, Priority, Seen
 
 CLASSES = {it: it.name.lower() for it in Priority}
+LEVELS = (Priority.HIGH, Priority.MEDIUM, Priority.LOW)
 
 
 class Differs(AssertionError):
@@ -42,8 +43,9 @@ class Trace:
 
 
 class Judge(Trace):
-    """Compares each pick with the one that the library's arbiter makes of the same queues. Give it a `trace`, and it
-    writes each pick there too.
+    """Compares each pick with the one that the library's arbiter makes of the same queues. `fresh` may be told and need
+    not be: an arbiter that has no such wire is judged by queue and number. Give it a `trace`, and it writes each pick
+    there too, with `fresh` as the library has it.
 
     >>> judge = Judge(Mechanism.WEIGHTED, 0x01000001)
     >>> judge.pick([Seen(1, Priority.HIGH, 5), Seen(2, Priority.LOW, 5)], Pick(1, 2))
@@ -55,20 +57,31 @@ class Judge(Trace):
     def __init__(self, mechanism: Mechanism, cdw11: int = 0, trace: Optional[IO[str]] = None) -> None:
         super().__init__(mechanism, cdw11, trace)
         self._arbiter = Arbiter(mechanism, cdw11)
+        self._weighted = self._new = mechanism is Mechanism.WEIGHTED  # no command of a level was picked in this round
 
     def set(self, cdw11: int) -> None:
         """The Arbitration feature was set."""
         self._arbiter.set(cdw11)
+        self._new = self._weighted
         self._write(json.dumps({"set": cdw11}))
 
     def pick(self, seen: Sequence[Seen], pick: Optional[Pick], room: int = NO_LIMIT) -> None:
         """The arbiter was shown these queues, in ascending order, and picked this, or nothing. `room`: it had room for
         so many commands, at least 1. Raises `Differs`."""
         lawful = self._arbiter.pick_up_to(seen, room)
-        if pick is not None:
-            self._write(line(seen, pick, room))
-        if pick != lawful:
+        agrees = self._agree(pick, lawful)
+        written = lawful if agrees else pick
+        if written is not None:
+            self._write(line(seen, written, room))
+        self._new = self._new and not any(it.qid == lawful.qid and it.priority in LEVELS for it in seen if lawful)
+        if not agrees:
             raise Differs(pick, lawful, seen)
+
+    def _agree(self, pick: Optional[Pick], lawful: Optional[Pick]) -> bool:
+        if pick is None or lawful is None:
+            return pick is lawful
+        # (a round that began by itself may be told to begin until a command of a level is picked in it)
+        return pick[:2] == lawful[:2] and (lawful.fresh or self._new or not pick.fresh)
 
 
 class SpecJudge(Trace):
