@@ -1,5 +1,5 @@
 // `nvmearb audit`, of one log.
-ghost use Rattle.std.specs.Prelude.{◌≤◌, IfErr};
+ghost use Rattle.std.specs.Prelude.{◌≡◌, ◌≤◌, IfErr};
 
 use crate::noted::{Noted, Notes};
 use crate::telling::{failed, no_memory, unwritten};
@@ -189,7 +189,28 @@ fn put_error<E: Write>(error: LogError, errors: &mut E) -> u8
     }
 }
 
-// Audits what is read, to the first breach of the controller.
+/// What came of an audit.
+#[derive(Drop)]
+pub(crate) struct AuditOutcome {
+    /// The exit status.
+    pub(crate) status: u8,
+    /// All breaches, where they were asked for and the log could be judged.
+    pub(crate) whole: Option<WholeAudit>,
+}
+
+impl AuditOutcome {
+    // The breaches aren't told one by one.
+    fn without(status: u8) -> AuditOutcome
+        ensures { result.status ≡ status }
+    {
+        AuditOutcome {
+            status,
+            whole: None,
+        }
+    }
+}
+
+// Audits what is read, to the first breach of the controller. The answer is the exit status.
 fn audited_from<R: Read + Drop, W: Write, E: Write>(
     alloc: Global,
     view: &View,
@@ -217,16 +238,19 @@ fn all_audited_from<R: Read + Drop, W: Write, E: Write>(
     input: R,
     output: &mut W,
     errors: &mut E,
-) -> u8
-    ensures { result ≤ 4 }
+) -> AuditOutcome
+    ensures { result.status ≤ 4 }
 {
     match audit_whole_log(alloc, view, input) {
         Ok(audit) => {
             let written = put_whole_audit(&audit, coverage, output);
             let (broken, host) = (audit.broken.count, audit.host.count);
-            status_of(written, broken > 0, host, errors)
+            AuditOutcome {
+                status: status_of(written, broken > 0, host, errors),
+                whole: Some(audit),
+            }
         }
-        Err(error) => put_error(error, errors),
+        Err(error) => AuditOutcome::without(put_error(error, errors)),
     }
 }
 
@@ -238,17 +262,18 @@ fn audited_as<R: Read + Drop, W: Write, E: Write>(
     input: R,
     output: &mut W,
     errors: &mut E,
-) -> u8
-    ensures { result ≤ 4 }
+) -> AuditOutcome
+    ensures { result.status ≤ 4 }
 {
+    let coverage = line.coverage;
     if line.all {
-        all_audited_from(alloc, view, line.coverage, input, output, errors)
+        all_audited_from(alloc, view, coverage, input, output, errors)
     } else {
-        audited_from(alloc, view, line.coverage, input, output, errors)
+        AuditOutcome::without(audited_from(alloc, view, coverage, input, output, errors))
     }
 }
 
-/// Audits a log. The answer is the exit status.
+/// Audits a log.
 #[inline(never)]
 pub(crate) fn audited<R: AllocGlobal + Files + Input, W: Write, E: Write>(
     rt: &R,
@@ -256,12 +281,12 @@ pub(crate) fn audited<R: AllocGlobal + Files + Input, W: Write, E: Write>(
     notes: &Notes,
     output: &mut W,
     errors: &mut E,
-) -> u8
-    ensures { result ≤ 4 }
+) -> AuditOutcome
+    ensures { result.status ≤ 4 }
 {
     let view = match view_of(line, errors) {
         Ok(view) => view,
-        Err(status) => return status,
+        Err(status) => return AuditOutcome::without(status),
     };
     let alloc = rt.alloc();
     match line.file {
@@ -270,7 +295,7 @@ pub(crate) fn audited<R: AllocGlobal + Files + Input, W: Write, E: Write>(
                 let input = Noted::new(file, notes);
                 audited_as(alloc, &view, line, input, output, errors)
             }
-            Err(error) => failed("open", name, &error, errors),
+            Err(error) => AuditOutcome::without(failed("open", name, &error, errors)),
         },
         None => {
             let input = Noted::new(rt.reader(), notes);

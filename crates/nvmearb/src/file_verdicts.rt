@@ -1,6 +1,7 @@
 // Checks of several traces, audits of several logs, and their answers for other programs.
 use crate::kept::Kept;
 use crate::telling::subcommand;
+use nvme_audit_text::{Finding, Told, Verdict, WholeAudit, rule_name};
 use std::alloc::{AllocError, Global};
 use std::io::{self, Write};
 
@@ -184,6 +185,8 @@ pub(crate) struct Judged {
     pub(crate) status: u8,
     pub(crate) answer: Kept,
     pub(crate) told: Kept,
+    // All breaches of a log, where it could be judged.
+    pub(crate) whole: Option<WholeAudit>,
 }
 
 impl Judged {
@@ -193,6 +196,14 @@ impl Judged {
             (Some(answer), _) if !answer.is_empty() => answer,
             (_, Some(told)) => told,
             _ => b"nvmearb: out of memory\n",
+        }
+    }
+
+    // The breaches of the controller that are told one by one.
+    fn broken(&self) -> &[Finding] {
+        match &self.whole {
+            Some(whole) => whole.broken.first.as_slice(),
+            None => &[],
         }
     }
 
@@ -262,37 +273,27 @@ fn put_lines<W: Write>(text: &[u8], output: &mut W) -> io::Result<()> {
     output.write_all(b"]")
 }
 
-// What begins the lines that tell a breach of the controller, and of the host.
-const BROKEN: &[u8] = b"broken: line ";
-
-const HOST: &[u8] = b"host: line ";
-
-// What is told of a breach of the controller behind the number of its line, with that. `None` where the line tells none.
-fn breach_in(line: &[u8]) -> Option<(&[u8], &[u8])> {
-    if !line.starts_with(BROKEN) {
-        return None;
-    }
-    let mut parts = line.get(BROKEN.len()..)?.split(|byte| *byte == b':');
-    match (parts.next(), parts.next()) {
-        (Some(number), Some([b' ', rule @ ..])) => Some((number, rule)),
-        _ => None,
-    }
+// Writes a breach of the controller as an object of JSON, behind this text. The answer stands before the next one.
+fn put_breach<W: Write>(
+    finding: &Finding,
+    before: &'static [u8],
+    output: &mut W,
+) -> io::Result<&'static [u8]> {
+    let Verdict::Broken(rule) = finding.said else {
+        return Ok(before);
+    };
+    let (line, name) = (finding.line, rule_name(rule));
+    output.write_all(before)?;
+    write!(output, "{{\"line\":{line},\"rule\":\"{name}\"}}")?;
+    Ok(b",")
 }
 
-// Writes the breaches of the controller that a text tells as an array of JSON.
-fn put_breaches<W: Write>(text: &[u8], output: &mut W) -> io::Result<()> {
-    let mut before: &[u8] = b"";
+// Writes the breaches of the controller as an array of JSON.
+fn put_breaches<W: Write>(findings: &[Finding], output: &mut W) -> io::Result<()> {
+    let mut before: &'static [u8] = b"";
     output.write_all(b",\"breaches\":[")?;
-    for line in lines(text).split(|byte| *byte == b'\n') {
-        if let Some((number, rule)) = breach_in(line) {
-            output.write_all(before)?;
-            output.write_all(b"{\"line\":")?;
-            output.write_all(number)?;
-            output.write_all(b",\"rule\":")?;
-            put_string(rule, output)?;
-            output.write_all(b"}")?;
-            before = b",";
-        }
+    for finding in findings {
+        before = put_breach(finding, before, output)?;
     }
     output.write_all(b"]")
 }
@@ -311,7 +312,7 @@ pub(crate) fn put_json<W: Write>(answers: &[Judged], output: &mut W) -> io::Resu
         )?;
         put_lines(judged.text(), output)?;
         if judged.tells_all {
-            put_breaches(judged.text(), output)?;
+            put_breaches(judged.broken(), output)?;
         }
         output.write_all(b"}")?;
         before = ",";
@@ -362,39 +363,43 @@ const BETWEEN: [&[u8]; 2] = [b"\t", b"\n"];
 
 const IN_ATTRIBUTE: [&[u8]; 2] = [b"&#9;", b"&#10;"];
 
-// Writes what begins a failure, where a line tells a breach. The answer tells whether it does.
-fn begin_failure<W: Write>(line: &[u8], ends_one: bool, output: &mut W) -> io::Result<bool> {
-    let kind = if line.starts_with(BROKEN) {
-        "broken"
-    } else if line.starts_with(HOST) {
-        "host"
-    } else {
-        return Ok(false);
-    };
-    if ends_one {
-        output.write_all(b"</failure>")?;
-    }
-    write!(output, "<failure message=\"{kind}\">")?;
-    Ok(true)
+// A writer of XML, which stands between tags.
+#[derive(Drop)]
+struct Escaped<'a, W> {
+    output: &'a mut W,
 }
 
-// Writes each breach that a text tells as a failure.
-fn put_failures<W: Write>(text: &[u8], output: &mut W) -> io::Result<()> {
-    let mut is_open = false;
-    for line in lines(text).split(|byte| *byte == b'\n') {
-        if begin_failure(line, is_open, output)? {
-            is_open = true;
-        } else if is_open {
-            output.write_all(b"\n")?;
-        } else {
-            continue;
-        }
-        put_xml(line, BETWEEN, output)?;
+impl<W: Write> Write for Escaped<'_, W> {
+    fn write(&mut self, buf: &[u8]) -> io::Result<usize> {
+        put_xml(buf, BETWEEN, self.output)?;
+        Ok(buf.len())
     }
-    if is_open {
-        output.write_all(b"</failure>")?;
+
+    fn flush(&mut self) -> io::Result<()> {
+        self.output.flush()
     }
-    Ok(())
+}
+
+// Writes a breach as a failure, which isn't ended.
+fn put_failure<W: Write>(kind: &str, finding: &Finding, output: &mut W) -> io::Result<()> {
+    write!(output, "<failure message=\"{kind}\">")?;
+    let mut escaped = Escaped { output };
+    write!(escaped, "{finding}")
+}
+
+// Writes each breach as a failure, and in the last one how many more there are.
+fn put_failures<W: Write>(kind: &str, breaches: &Told, output: &mut W) -> io::Result<()> {
+    let mut end = "";
+    for finding in &breaches.first {
+        output.write_all(end.as_bytes())?;
+        put_failure(kind, finding, output)?;
+        end = "</failure>";
+    }
+    let more = breaches.count.saturating_sub(breaches.first.len() as u64);
+    if more > 0 {
+        write!(output, "\n{kind}: and {more} more")?;
+    }
+    output.write_all(end.as_bytes())
 }
 
 // Writes the answer to one file as a test case.
@@ -405,9 +410,10 @@ fn put_case<W: Write>(judged: &Judged, output: &mut W) -> io::Result<()> {
     if judged.status == 0 {
         return output.write_all(b"\"/>\n");
     }
-    if judged.tells_all && !judged.is_fault() {
+    if let Some(whole) = &judged.whole {
         output.write_all(b"\">")?;
-        put_failures(judged.text(), output)?;
+        put_failures("broken", &whole.broken, output)?;
+        put_failures("host", &whole.host, output)?;
         return output.write_all(b"</testcase>\n");
     }
     let kind = if judged.is_fault() {

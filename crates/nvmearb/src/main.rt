@@ -28,7 +28,7 @@ mod telling;
 mod topics;
 mod watched;
 
-use auditing::audited;
+use auditing::{AuditOutcome, audited};
 use file_verdicts::{Checks, Form, Judged, Task, asked, put_json, put_junit, put_named};
 use files::{is_svg, not_svg, put_away};
 use kept::Kept;
@@ -149,10 +149,24 @@ fn audited_by<R: AllocGlobal + Files + Input + Threads + Wait + Sync>(
     notes: &Notes,
     output: &mut Kept,
     errors: &mut Kept,
-) -> Result<u8, AllocError> {
+) -> Result<AuditOutcome, AllocError> {
     match audit_asked(rt.alloc(), words)? {
         Some(line) => Ok(audited(rt, &line, notes, output, errors)),
-        None => Ok(served(rt, words, None::<Kept>, notes, output, errors)),
+        None => Ok(checked_by(rt, words, notes, output, errors)),
+    }
+}
+
+// Checks a trace, or tells the fault of the words.
+fn checked_by<R: AllocGlobal + Files + Input + Threads + Wait + Sync>(
+    rt: &R,
+    words: &[String],
+    notes: &Notes,
+    output: &mut Kept,
+    errors: &mut Kept,
+) -> AuditOutcome {
+    AuditOutcome {
+        status: served(rt, words, None::<Kept>, notes, output, errors),
+        whole: None,
     }
 }
 
@@ -167,8 +181,8 @@ fn judged<R: AllocGlobal + Files + Input + Threads + Wait + Sync>(
     let notes = Notes::new();
     let (mut answer, mut first, mut told) = (Kept::new(alloc), Kept::new(alloc), Kept::new(alloc));
     let words = words.as_slice();
-    let status = match checks.task {
-        Task::Check => served(rt, words, None::<Kept>, &notes, &mut answer, &mut first),
+    let AuditOutcome { status, whole } = match checks.task {
+        Task::Check => checked_by(rt, words, &notes, &mut answer, &mut first),
         Task::Audit => audited_by(rt, words, &notes, &mut answer, &mut first)?,
     };
     let status = tell(alloc, words, &first, &notes, status, &mut told);
@@ -182,6 +196,7 @@ fn judged<R: AllocGlobal + Files + Input + Threads + Wait + Sync>(
         status,
         answer,
         told,
+        whole,
     })
 }
 
