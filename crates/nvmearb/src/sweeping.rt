@@ -87,8 +87,7 @@ fn ran<'a, R: AllocGlobal + Threads + Sync, P: Write + Drop + Send, W: Write>(
     let style = Style {
         form: form_of(line.format),
         has_head: !line.no_head,
-        digest: origin.digest.as_str(),
-        options: origin.options.as_str(),
+        origin,
         jobs: jobs_of(rt, line.jobs),
     };
     put_answer(rt, rt.alloc(), sweep, &style, terminal, output, chart)
