@@ -32,7 +32,7 @@ prove: ## prove every crate, or with CRATE=nvme_lane that one
 	tools/ready
 	cd crates/$(CRATE) && rt $(if $(CRATE),,all )check
 
-test: ## test what is built, with UNPROVED=1 what is built without proofs, or NAME=words by tests/words alone; with CRATE=nvme_program_tests that crate's tests, or NAME=one
+test: ## test what is built, with UNPROVED=1 what is built without proofs, or NAME=words by tests/words alone; with CRATE=nvme_sim_tests that crate's tests, or NAME=one
 	$(if $(CRATE),$(if $(wildcard tests/crates/$(CRATE)),tests/libraries $(CRATE) $(NAME),cd crates/$(CRATE) && rt test $(if $(NAME),-- $(NAME))),tests/run $(NAME))
 
 docs: ## make the pages of docs/ anew that tell what stands elsewhere (tools/docs)

@@ -7,7 +7,7 @@ use nvme_audit_text::{
     Audit, Count, LogError, Observer, Rule, View, WholeAudit, audit_log, audit_whole_log,
     rule_name, rule_named, rules,
 };
-use nvme_program::AuditWords;
+use nvme_sim::AuditWords;
 use std::alloc::Global;
 use std::fs;
 use std::io::{self, Read, Write};

@@ -3,7 +3,7 @@ ghost use Rattle.std.specs.Prelude.{◌≤◌};
 
 use crate::kept::Kept;
 use crate::telling::no_memory;
-use nvme_program::command;
+use nvme_sim::command;
 use std::alloc::{AllocError, Global};
 use std::io::{self, Write};
 use std::sync::Wait;

@@ -4,7 +4,7 @@ ghost use Rattle.std.specs.Prelude.{◌≤◌, IfErr};
 use crate::kept::Kept;
 use crate::noted::{Noted, Notes};
 use crate::telling::{failed, no_memory, tell_input};
-use nvme_program::take_input;
+use nvme_sim::take_input;
 use std::fs;
 use std::io::{self, Read, Write};
 use std::rt::Files;

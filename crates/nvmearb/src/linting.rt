@@ -5,7 +5,7 @@ use crate::files::read_input;
 use crate::noted::{Look, Notes};
 use crate::simulating::model_of;
 use crate::telling::{no_memory, unwritten};
-use nvme_program::{command, file_named};
+use nvme_sim::{command, file_named};
 use nvme_simulate::{overload_of, simulation_in};
 use std::io::Write;
 use std::rt::Files;

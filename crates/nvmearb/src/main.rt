@@ -1,4 +1,4 @@
-//! The program `nvmearb`: it calls `nvme_program::command` with its command line, file and streams, and tells what
+//! The program `nvmearb`: it calls `nvme_sim::command` with its command line, file and streams, and tells what
 //! these met. Around that it does what reads or writes several files, or files of several kinds, and shows `demo` and
 //! the help on files.
 //!
@@ -34,7 +34,7 @@ use files::{is_svg, not_svg, put_away};
 use kept::Kept;
 use linting::linted;
 use noted::{Noted, Notes};
-use nvme_program::{
+use nvme_sim::{
     Errors, Output, Request, WordsError, asked_of, audit_asked, command, file_named, flushed,
     output_named, simulation_asked,
 };

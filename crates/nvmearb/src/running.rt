@@ -4,7 +4,7 @@ ghost use Rattle.std.specs.Prelude.{◌≤◌, IfErr, IfSome};
 use crate::files::read_input;
 use crate::noted::Notes;
 use crate::telling::{no_memory, unwritten};
-use nvme_program::{Mode, file_named, run_answer};
+use nvme_sim::{Mode, file_named, run_answer};
 use nvme_simulate::Digest;
 use std::alloc::Global;
 use std::io::{ErrorKind, Write};

@@ -12,7 +12,7 @@ use crate::kept::Kept;
 use crate::noted::{Noted, Notes};
 use crate::sweeping::{File, swept};
 use crate::telling::{failed, no_memory, unwritten};
-use nvme_program::{Format, SimulationWords};
+use nvme_sim::{Format, SimulationWords};
 use nvme_simulate::{
     Digest, FileFault, Form, Listings, Model, ModelFault, Origin, Overrides, Progress, ReplayError,
     SimulateFault, Source, Stream, Streams, Told, cut_of, model_in, overload_of, simulate,

@@ -6,7 +6,7 @@ use crate::kept::Kept;
 use crate::simulating::form_of;
 use crate::telling::{no_memory, unwritten};
 use nvme_points::{Overloads, Sweep, SweepFault, axes_of};
-use nvme_program::{MAX_JOBS, SimulationWords};
+use nvme_sim::{MAX_JOBS, SimulationWords};
 use nvme_simulate::{Listings, Origin, Overrides};
 use nvme_sweep::{CommandWords, Style, drawn_class, look_at_lines, put_answer, put_commands};
 use std::io::Write;

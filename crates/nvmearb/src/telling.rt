@@ -3,7 +3,7 @@ ghost use Rattle.std.specs.Prelude.{◌≡◌, ◌≤◌};
 
 use crate::kept::Kept;
 use crate::noted::{Look, Notes};
-use nvme_program::{InputError, MAX_INPUT, file_named};
+use nvme_sim::{InputError, MAX_INPUT, file_named};
 use std::alloc::Global;
 use std::io::{Error, ErrorKind, Result, Write};
 

@@ -1,5 +1,0 @@
-use Rattle.nvme_program.proofs.Inputs.{faulty_trace}
-use Rattle.nvme_program.proofs.commands.check.checked.Goals as goal
-
-pub returns-in-Err-clause-input : goal.returns-in-Err-clause-input
-returns-in-Err-clause-input g c = faulty_trace c.args.basis (g.R.Read.remaining c.args.input) c.in-Err.error c.in-Err.ensures.fault

@@ -1,9 +1,0 @@
-use Rattle.std.proofs.Common.{rules}
-use Rattle.nvme_program.specs.Inputs.{IsRefusedCheck}
-use Rattle.nvme_program.proofs.Inputs.{bad_pick}
-use Rattle.nvme_program.proofs.commands.command.Goals as goal
-
-pub returns-in-Ok-Refused-clause-input : goal.returns-in-Ok-Refused-clause-input
-returns-in-Ok-Refused-clause-input g c =
-    let refused : IsRefusedCheck c.args.words.now (g.R.Read.remaining c.args.input) = search rules in
-    λ one. bad_pick c.args.words.now (g.R.Read.remaining c.args.input) refused

@@ -1,5 +1,0 @@
-use Rattle.nvme_program.proofs.Foreseeing.{lint_foresees}
-use Rattle.nvme_program.proofs.laws.lint_foresees_answers.Goals as goal
-
-pub returns : goal.returns
-returns c = lint_foresees
