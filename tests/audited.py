@@ -119,24 +119,53 @@ class Log:
         far = self.told(n + 1, kind, queue)
         if kind == "tail" and far - len(self.named(n, "fetch", queue)) >= slots:
             return "tail-full"
-        if kind == "head" and far > len(self.named(n, "post", queue)):
+        if kind == "head" and not self.is_early(n, queue) and far > len(self.named(n, "post", queue)):
             return "head-range"
         return None
 
+    def is_outstanding(self, n, side, queue):
+        """Whether a Create or a Delete of a queue is outstanding at event n."""
+        return self.during(n - 1, n, lambda it: of_queue(it) == (side, queue))
+
+    def begun(self, n, side, queue):
+        """The index after the last fetch of a Create of a queue that was closed, and had no other such command outstanding."""
+        for i in reversed(range(n)):
+            kind, of, _, rest = self.events[i]
+            if (kind, of) == ("fetch", 0) and CREATES.get(rest[1]) == side and of_queue(rest[1:])[1] == queue:
+                if not self.is_open(i, side, queue) and not self.is_outstanding(i, side, queue):
+                    return i + 1
+        return 0
+
+    @functools.cache
     def is_excused(self, n, side, queue):
-        """Whether the host broke a rule of a queue since that was opened."""
+        """Whether the host broke a rule of a queue since that was begun."""
         kinds = ("tail", "fetch") if side == "sq" else ("head",)
         return any(
             self.events[i][0] in kinds and self.events[i][1] == queue and self.breach(i) for i in range(
-                self.since(n, side, queue)[0], n
+                self.begun(n, side, queue), n
             )
         )
+
+    def is_lost(self, n):
+        """Whether an identifier of the admin queue was used again before event n, while its command was outstanding."""
+        events = enumerate(self.events[:n])
+        return any(e[:2] == ("fetch", 0) and self.outstanding(i, 0, e[3][0]) is not None for i, e in events)
+
+    @functools.cache
+    def is_early(self, n, queue):
+        """Whether a completion came into a completion queue that wasn't open and of which a Create or a Delete was outstanding."""
+        for i in reversed(range(n)):
+            if self.events[i][0] == "post" and self.turned(i) == ("cq", queue) and self.ended(i)[0] in DELETES:
+                return False
+            if self.events[i][:2] == ("post", queue) and not self.is_open(i, "cq", queue) and self.is_outstanding(i, "cq", queue):
+                return True
+        return False
 
     def verdict(self, n):
         """Who breaks which rule at event n."""
         kind, queue, slot, rest = self.events[n]
         side = "sq" if kind in ("tail", "fetch") else "cq"
-        if self.is_excused(n, side, queue):
+        if self.is_lost(n) or self.is_excused(n, side, queue):
             return None
         if kind in ("tail", "head"):
             rule = self.breach(n)
@@ -159,7 +188,9 @@ class Log:
     def of_slot(self, n, queue, slot, rest):
         slots, posted = self.since(n, "cq", queue)[1], len(self.named(n, "post", queue))
         if not slots:
-            return "post-closed"
+            return None if "post" not in self.tells or self.is_outstanding(n, "cq", queue) else "post-closed"
+        if self.is_early(n, queue):
+            return None
         if slot not in (None, posted % slots):
             return "slot"
         if rest[3] not in (None, 1 - posted // slots % 2):
@@ -316,13 +347,14 @@ class Log:
         """The rules that ask something of event n, each by itself."""
         kind, queue, slot, rest = self.events[n]
         side = "sq" if kind in ("tail", "fetch") else "cq"
-        if kind in ("tail", "head") or self.is_excused(n, side, queue):
+        if kind in ("tail", "head") or self.is_lost(n) or self.is_excused(n, side, queue):
             return set()
         if kind == "fetch":
             told = {"fetch-beyond-tail": "tail" in self.tells, "fetch-slot": slot is not None}
             return {"fetch-closed"} | {rule for rule in told if told[rule] and self.is_open(n, side, queue)}
         told = {"slot": slot is not None, "phase": rest[3] is not None, "cq-full": "head" in self.tells}
-        place = {"post-closed"} | {rule for rule in told if told[rule] and self.is_open(n, side, queue)}
+        is_counted = self.is_open(n, side, queue) and not self.is_early(n, queue)
+        place = {"post-closed"} | {rule for rule in told if told[rule] and is_counted}
         return place | self.asks_of_name(n, rest) | self.asks_of_status(n, rest) if self.is_by_name(n, rest[0]) else place
 
     def asks_of_name(self, n, rest):

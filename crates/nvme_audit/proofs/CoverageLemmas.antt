@@ -4,6 +4,8 @@ use Rattle.nvme_entry.specs.Status.{StatusCode}
 use Rattle.nvme_entry.specs.declared.admin.AdminCommand.{AdminCommand}
 use Rattle.nvme_entry.specs.declared.admin.AdminCommand.TheVariants.{DeleteSq, CreateSq, DeleteCq, CreateCq, Abort, SetFeatures, GetFeatures, Other}
 use Rattle.nvme_audit.specs.declared.event.Event.TheVariants.{Tail, Head, Fetch, Post}
+use Rattle.nvme_audit.specs.declared.event.Event.{Event}
+use Rattle.nvme_audit.specs.declared.facts.Start.{Start}
 use Rattle.nvme_audit.specs.declared.facts.Ring.{Ring}
 use Rattle.nvme_audit.specs.declared.facts.Sq.{Sq}
 use Rattle.nvme_audit.specs.declared.facts.Cq.{Cq}
@@ -14,17 +16,19 @@ use Rattle.nvme_audit.specs.declared.verdict.Verdict.{Verdict}
 use Rattle.nvme_audit.specs.declared.verdict.Verdict.TheVariants.{Kept, Host, Broken}
 use Rattle.nvme_audit.specs.declared.scene.FetchScene.{FetchScene}
 use Rattle.nvme_audit.specs.declared.scene.PostScene.{PostScene}
+use Rattle.nvme_audit.specs.declared.scene.Scene.TheVariants.{Unjudged}
 use Rattle.nvme_audit.specs.Rings.{slots_of, phase_of, advanced, qsize_in}
 use Rattle.nvme_audit.specs.declared.verdict.Breach.{Breach}
 use Rattle.nvme_audit.specs.declared.verdict.Breach.TheVariants.{TailRange, TailFull, HeadRange}
-use Rattle.nvme_audit.specs.Rules.{is_other, is_other_phase, is_other_head, fetch_rules, slot_rules, name_rules, name_verdict, if_kept}
-use Rattle.nvme_audit.specs.Host.{tail_rules, head_rules}
+use Rattle.nvme_audit.specs.Rules.{is_other, is_other_phase, is_other_head, fetch_rules, slot_checks, slot_rules, name_rules, name_verdict, if_kept}
+use Rattle.nvme_audit.specs.Host.{first_failed, tail_rules, head_rules, is_lost}
+use Rattle.nvme_audit.specs.Lawful.{ruled}
 use Rattle.nvme_audit.specs.Turns.{sq_named, cq_named, cid_named}
 use Rattle.nvme_audit.specs.Facts.{sq_after, cq_after, admin_after, outstanding}
-use Rattle.nvme_audit.specs.Lives.{is_success}
+use Rattle.nvme_audit.specs.Lives.{Past, is_success}
 use Rattle.nvme_audit.specs.Aborts.{is_abort, is_aborted, told_of}
 use Rattle.nvme_audit.specs.Answers.{has_specific, is_foreign, is_undoomed, is_unnamed, is_not_as_told, is_untrue_abort, is_untrue_of_features, is_specific, is_settled, is_attached, is_sq_within, is_cq_within, answered_in, mark_in, broken_if, status_rules, own_rules}
-use Rattle.nvme_audit.specs.Coverage.{fetch_asks, post_asks, is_named, is_owed, says_aborted_one, has_statuses, command_of, create_asks, delete_asks, sets_numbers}
+use Rattle.nvme_audit.specs.Coverage.{scene_read, scene_asks, fetch_asks, post_asks, is_named, is_owed, says_aborted_one, has_statuses, command_of, create_asks, delete_asks, sets_numbers}
 use Rattle.nvme_audit.specs.CoverageLaws.{BrokenIsAsked}
 
 abbrev rule_in : Verdict → Rule
@@ -68,14 +72,22 @@ fetch_case s true r false (Some ring) he hr h =
     (λ g. check (is_other s.slot (s.sq.fetched % slots_of ring.qsize)) rule.FetchSlot r _ (λ k. fetch_asks s k ≡ true) g (λ f. rw (he, hr) (told s.slot _ f)) (λ k. cc))
 
 -- ---- completions
-place_case : (s : PostScene) (r : Rule) (qsize : Option ℕ) → s.cq.excused ≡ false → s.cq.qsize ≡ qsize → slot_rules s.tells s.cq qsize s.slot s.completion.phase ≡ Broken r → post_asks s r ≡ true
-place_case s r None he hq h = subst (λ k. post_asks s k ≡ true) (ap rule_in h) (rw he refl)
-place_case s r (Some qsize) he hq h =
+slot_case : (s : PostScene) (r : Rule) (qsize : ℕ) (early : Bool) → s.cq.excused ≡ false → s.cq.qsize ≡ Some qsize → s.cq.early ≡ early → (if early then Kept else first_failed (slot_checks s.tells s.cq qsize s.slot s.completion.phase) Kept) ≡ Broken r → post_asks s r ≡ true
+slot_case s r qsize true he hq hy h = cc
+slot_case s r qsize false he hq hy h =
     check (is_other s.slot (s.cq.posted % slots_of qsize)) rule.Slot r _ (λ k. post_asks s k ≡ true) h
-    (λ f. rw (he, hq) (told s.slot _ f))
+    (λ f. rw (he, hq, hy) (told s.slot _ f))
     (λ g. check (is_other_phase s.completion.phase (phase_of qsize s.cq.posted)) rule.Phase r _ (λ k. post_asks s k ≡ true) g
-    (λ f. rw (he, hq) (told_phase s.completion.phase _ f))
-    (λ i. check (s.tells.heads && nat_le (s.cq.consumed + qsize) s.cq.posted) rule.CqFull r Kept (λ k. post_asks s k ≡ true) i (λ f. rw (he, hq) (both _ _ f).0) (λ k. cc)))
+    (λ f. rw (he, hq, hy) (told_phase s.completion.phase _ f))
+    (λ i. check (s.tells.heads && nat_le (s.cq.consumed + qsize) s.cq.posted) rule.CqFull r Kept (λ k. post_asks s k ≡ true) i (λ f. rw (he, hq, hy) (both _ _ f).0) (λ k. cc)))
+
+place_case : (s : PostScene) (r : Rule) (qsize : Option ℕ) → s.cq.excused ≡ false → s.cq.qsize ≡ qsize → slot_rules s.tells s.cq qsize s.slot s.completion.phase ≡ Broken r → post_asks s r ≡ true
+place_case s r None he hq h = closed (not s.tells.posts || nat_lt s.cq.answered s.cq.asked) h
+  where
+    closed : (b : Bool) → (if b then Kept else Broken rule.PostClosed) ≡ Broken r → post_asks s r ≡ true
+    closed true k = cc
+    closed false k = subst (λ k. post_asks s k ≡ true) (ap rule_in k) (rw he refl)
+place_case s r (Some qsize) he hq h = slot_case s r qsize s.cq.early he hq refl h
 
 and_true : (a b : Bool) → a ≡ true → b ≡ true → (a && b) ≡ true
 and_true true b g h = h
@@ -238,19 +250,19 @@ tail_case true qsize submitted fetched slot r P h = cc
 tail_case false None submitted fetched slot r P h = cc
 tail_case false (Some qsize) submitted fetched slot r P h = host_only (nat_lt qsize slot) (nat_lt (fetched + qsize) (advanced qsize submitted slot)) TailRange TailFull r P h
 
-head_case : (excused : Bool) (qsize : Option ℕ) (posted consumed slot : ℕ) (r : Rule) (P : Type 0) → (if excused then Kept else head_rules qsize posted consumed slot) ≡ Broken r → P
-head_case true qsize posted consumed slot r P h = cc
-head_case false None posted consumed slot r P h = cc
-head_case false (Some qsize) posted consumed slot r P h = host_only (nat_lt qsize slot || nat_lt posted (advanced qsize consumed slot)) false HeadRange HeadRange r P h
+head_case : (excused : Bool) (qsize : Option ℕ) (early : Bool) (posted consumed slot : ℕ) (r : Rule) (P : Type 0) → (if excused then Kept else head_rules qsize early posted consumed slot) ≡ Broken r → P
+head_case true qsize early posted consumed slot r P h = cc
+head_case false None early posted consumed slot r P h = cc
+head_case false (Some qsize) early posted consumed slot r P h = host_only (nat_lt qsize slot || (not early && nat_lt posted (advanced qsize consumed slot))) false HeadRange HeadRange r P h
 
-pub broken_is_asked : BrokenIsAsked
-broken_is_asked start past (Tail sq slot) r h =
+ruled_is_asked : (start : Start) (past : Past) (event : Event) (r : Rule) → ruled start past event ≡ Broken r → scene_asks (scene_read start past event) r ≡ true
+ruled_is_asked start past (Tail sq slot) r h =
     let q : Sq = sq_after start past sq in tail_case q.excused (qsize_in q.ring) q.submitted q.fetched slot r _ h
-broken_is_asked start past (Head cq slot) r h =
-    let q : Cq = cq_after start past cq in head_case q.excused q.qsize q.posted q.consumed slot r _ h
-broken_is_asked start past (Fetch sq slot cid command) r h =
+ruled_is_asked start past (Head cq slot) r h =
+    let q : Cq = cq_after start past cq in head_case q.excused q.qsize q.early q.posted q.consumed slot r _ h
+ruled_is_asked start past (Fetch sq slot cid command) r h =
     fetch_case (record { tells = start.tells; sq = sq_after start past sq; slot = slot }) (is_some (outstanding past sq cid)) r _ _ refl refl h
-broken_is_asked start past (Post cq slot completion) r h =
+ruled_is_asked start past (Post cq slot completion) r h =
     let out : Option Command = outstanding past completion.sq completion.cid in
     let asked : AdminCommand = answered_in out completion in
     let s : PostScene = record {
@@ -265,3 +277,10 @@ broken_is_asked start past (Post cq slot completion) r h =
       completion = completion;
     } in
     post_case s cq (outstanding past (sq_named asked) (cid_named asked)) r _ refl h
+
+pub broken_is_asked : BrokenIsAsked
+broken_is_asked start past event r h = go (is_lost past) h
+  where
+    go : (lost : Bool) → (if lost then Kept else ruled start past event) ≡ Broken r → scene_asks (if lost then Unjudged else scene_read start past event) r ≡ true
+    go true k = cc
+    go false k = ruled_is_asked start past event r k

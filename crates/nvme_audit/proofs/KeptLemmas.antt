@@ -24,14 +24,14 @@ use Rattle.nvme_audit.specs.Rings.{advanced, gap, slots_of, phase_of, submitted,
 use Rattle.nvme_audit.specs.Turns.{sq_named, cq_named, cid_named, number_of_queues, answered_by, told_first, numbers_by, numbers}
 use Rattle.nvme_audit.specs.Aborts.{stirred, was_named, is_abort, is_aborted, says_aborted, told_of}
 use Rattle.nvme_audit.specs.Marks.{mark_for, mark_of, mark_if, owes}
-use Rattle.nvme_audit.specs.Host.{tail_rules, head_rules, is_sq_excused}
+use Rattle.nvme_audit.specs.Host.{tail_rules, head_rules, is_lost, is_sq_excused}
 use Rattle.nvme_audit.specs.Facts.{sq_after, cq_after, admin_after, command_with, outstanding}
 use Rattle.nvme_audit.specs.Rules.{is_other, is_other_phase, is_head_of, is_other_head, fetch_rules, name_rules, slot_rules, if_kept, post_verdict}
 use Rattle.nvme_audit.specs.Answers.{is_foreign, is_specific, is_settled, is_attached, is_sq_within, is_cq_within, are_numbers, is_untrue_of_create_sq, is_untrue_of_create_cq, is_untrue_of_delete_sq, is_untrue_of_delete_cq, is_untrue_of_features, broken_if, status_rules, own_rules, is_undoomed, is_unnamed, is_not_as_told, is_untrue_abort, answered_in, mark_in, answer_verdict}
 use Rattle.nvme_audit.specs.Lawful.{verdict, IsFaultlessLog}
 use Rattle.nvme_audit.specs.Coverage.{sets_numbers}
 use Rattle.nvme_audit.specs.Shows.{IsShown}
-use Rattle.nvme_audit.proofs.OnceLemmas.{none_excused}
+use Rattle.nvme_audit.proofs.OnceLemmas.{none_excused, is_ruled}
 
 -- ---- checks in turn
 pub not_excused : (excused : Bool) (v : Verdict) → excused ≡ false → (if excused then Kept else v) ≡ Kept → v ≡ Kept
@@ -96,9 +96,17 @@ tail_still (Some n) far near fetched slot f h = go (nat_lt n slot) (nat_lt (fetc
     go false false true e g k = let t : false ≡ true = g (grind arith) refl in cc
     go false false false e g k = refl
 
-pub head_still : (qsize : Option ℕ) (posted far near slot : ℕ) → ((n : ℕ) → qsize ≡ Some n → slot ≤ n → advanced n near slot ≤ advanced n far slot) → head_rules qsize posted far slot ≡ Kept → head_rules qsize posted near slot ≡ Kept
-head_still None posted far near slot f h = cc
-head_still (Some n) posted far near slot f h = go (nat_lt n slot) (nat_lt posted (advanced n far slot)) (nat_lt posted (advanced n near slot)) refl (λ k e. lt-ltb _ _ (omega (arith, ltb-true _ _ e, f n refl k))) h
+pub not_still : (a b : Bool) → (b ≡ true → a ≡ true) → not a ≡ true → not b ≡ true
+not_still true b f h = cc
+not_still false true f h = let t : false ≡ true = f refl in cc
+not_still false false f h = refl
+
+pub head_still : (qsize : Option ℕ) (early now : Bool) (posted far near slot : ℕ) → (early ≡ true → now ≡ true) → ((n : ℕ) → qsize ≡ Some n → slot ≤ n → advanced n near slot ≤ advanced n far slot)
+    → head_rules qsize early posted far slot ≡ Kept → head_rules qsize now posted near slot ≡ Kept
+head_still None early now posted far near slot m f h = cc
+head_still (Some n) early now posted far near slot m f h =
+    go (nat_lt n slot) (not early && nat_lt posted (advanced n far slot)) (not now && nat_lt posted (advanced n near slot)) refl
+    (λ k e. let u = both (not now) _ e in join (not early) _ (not_still now early m u.0) (lt-ltb _ _ (omega (arith, ltb-true _ _ u.1, f n refl k)))) h
   where
     go : (a b c : Bool) → nat_lt n slot ≡ a → (slot ≤ n → c ≡ true → b ≡ true) → (if a || b then Host HeadRange else Kept) ≡ Kept → (if a || c then Host HeadRange else Kept) ≡ Kept
     go true b c e g k = cc
@@ -115,9 +123,9 @@ tail_fits (Some m) submitted fetched slot h n e = let same : m ≡ n = cc in ome
     go true b k g = cc
     go false b k g = grind arith
 
-pub head_fits : (qsize : Option ℕ) (posted consumed slot : ℕ) → head_rules qsize posted consumed slot ≡ Kept → (n : ℕ) → qsize ≡ Some n → slot ≤ n
-head_fits None posted consumed slot h n e = cc
-head_fits (Some m) posted consumed slot h n e = let same : m ≡ n = cc in omega (arith, same, go (nat_lt m slot) (nat_lt posted (advanced m consumed slot)) refl h)
+pub head_fits : (qsize : Option ℕ) (early : Bool) (posted consumed slot : ℕ) → head_rules qsize early posted consumed slot ≡ Kept → (n : ℕ) → qsize ≡ Some n → slot ≤ n
+head_fits None early posted consumed slot h n e = cc
+head_fits (Some m) early posted consumed slot h n e = let same : m ≡ n = cc in omega (arith, same, go (nat_lt m slot) (not early && nat_lt posted (advanced m consumed slot)) refl h)
   where
     go : (a b : Bool) → nat_lt m slot ≡ a → (if a || b then Host HeadRange else Kept) ≡ Kept → slot ≤ m
     go true b k g = cc
@@ -143,15 +151,29 @@ fetch_still tells less sq now (Some ring) slot shown false f e s h =
 -- ---- the slot of a completion
 pub slot_still : (tells less : Tells) (cq now : Cq) (qsize : Option ℕ) (slot shown : Option ℕ) (phase seen : Option Bool)
     → (less.heads ≡ true → (tells.heads ≡ true) × (cq.consumed ≤ now.consumed)) → now.posted ≡ cq.posted → IsShown slot shown → IsShown phase seen
+    → (less.posts ≡ true → tells.posts ≡ true) → now.answered ≤ cq.answered → cq.asked ≤ now.asked → (cq.early ≡ true → now.early ≡ true)
     → slot_rules tells cq qsize slot phase ≡ Kept → slot_rules less now qsize shown seen ≡ Kept
-slot_still tells less cq now None slot shown phase seen f e s p h = cc
-slot_still tells less cq now (Some qsize) slot shown phase seen f e s p h =
-    let a = passes (is_other slot (cq.posted % slots_of qsize)) rule.Slot _ h in
+slot_still tells less cq now None slot shown phase seen f e s p posts fewer more m h =
+    closed (not tells.posts) (not less.posts) (nat_lt cq.answered cq.asked) (nat_lt now.answered now.asked) (not_still tells.posts less.posts posts) (λ k. lt-ltb _ _ (omega (arith, fewer, more, ltb-true _ _ k))) h
+  where
+    closed : (a b c d : Bool) → (a ≡ true → b ≡ true) → (c ≡ true → d ≡ true) → (if a || c then Kept else Broken rule.PostClosed) ≡ Kept → (if b || d then Kept else Broken rule.PostClosed) ≡ Kept
+    closed true b c d f g k = rw (f refl) refl
+    closed false true true d f g k = refl
+    closed false false true d f g k = rw (g refl) refl
+    closed false b false d f g k = cc
+slot_still tells less cq now (Some qsize) slot shown phase seen f e s p posts fewer more m h =
+    unless_early cq.early now.early _ _ m h (λ i.
+    let a = passes (is_other slot (cq.posted % slots_of qsize)) rule.Slot _ i in
     let b = passes (is_other_phase phase (phase_of qsize cq.posted)) rule.Phase _ a.1 in
     let c = passes (tells.heads && nat_le (cq.consumed + qsize) cq.posted) rule.CqFull Kept b.1 in
     pass _ rule.Slot _ (still (is_other slot (cq.posted % slots_of qsize)) _ (λ k. other_shown slot shown _ s (ap (λ (n : ℕ). is_other shown (n % slots_of qsize)) (sym e) ∙ k)) a.0)
     (pass _ rule.Phase _ (still (is_other_phase phase (phase_of qsize cq.posted)) _ (λ k. phase_shown phase seen _ p (ap (λ (n : ℕ). is_other_phase seen (phase_of qsize n)) (sym e) ∙ k)) b.0)
-    (pass _ rule.CqFull _ (still (tells.heads && nat_le (cq.consumed + qsize) cq.posted) _ (λ k. let t = both _ _ k in let g = f t.0 in join _ _ g.0 (le-leb _ _ (omega (arith, g.1, e, leb-true _ _ t.1)))) c.0) refl))
+    (pass _ rule.CqFull _ (still (tells.heads && nat_le (cq.consumed + qsize) cq.posted) _ (λ k. let t = both _ _ k in let g = f t.0 in join _ _ g.0 (le-leb _ _ (omega (arith, g.1, e, leb-true _ _ t.1)))) c.0) refl)))
+  where
+    unless_early : (a b : Bool) (v w : Verdict) → (a ≡ true → b ≡ true) → (if a then Kept else v) ≡ Kept → (v ≡ Kept → w ≡ Kept) → (if b then Kept else w) ≡ Kept
+    unless_early a true v w f h g = refl
+    unless_early true false v w f h g = let t : false ≡ true = f refl in cc
+    unless_early false false v w f h g = g h
 
 -- ---- its name
 pub name_still : (cqid : ℕ) (sq now : Sq) (ring : Option Ring) (command seen : Option Command) (head shown : Option ℕ)
@@ -520,7 +542,7 @@ admin_closed start (Fetch sq slot cid command ∷ past) log h =
       t.0,
       λ c. if_none _ command (asked past 0 c)
           (λ e. let own : sq ≡ 0 = eqb-true sq 0 (both (sq == 0) (cid == c) e).0 in
-          no_ring start.tells (sq_after start past sq) (ring_of start past sq) slot _ (ap (ring_of start past) own ∙ t.0) (not_excused (is_sq_excused start past sq) _ (none_excused start past log.1 sq).0 log.0)) (t.1 c),
+          no_ring start.tells (sq_after start past sq) (ring_of start past sq) slot _ (ap (ring_of start past) own ∙ t.0) (not_excused (is_sq_excused start past sq) _ (none_excused start past log.1 sq).0 (is_ruled start past (Fetch sq slot cid command) log.1 log.0))) (t.1 c),
     )
 admin_closed start (Post cq slot completion ∷ past) log h = go (was_deleted past 0) refl (λ k. admin_closed start past log.1 k) (or_either (deletes_sq (done past completion) 0) (was_deleted past 0) h)
   where
@@ -551,15 +573,17 @@ posted_at start past cq slot completion log h =
     let reply : AdminCommand = answered_in (outstanding past completion.sq completion.cid) completion in
     posted_parts start.tells cq (cq_after start past cq) (cq_after start past (cq_named reply)) (sq_after start past completion.sq) (sq_after start past (sq_named reply)) (admin_after past)
     (outstanding past completion.sq completion.cid) (outstanding past (sq_named reply) (cid_named reply)) slot completion
-    (none_excused start past log cq).1 (none_excused start past log completion.sq).0 h
+    (none_excused start past log cq).1 (none_excused start past log completion.sq).0 (is_ruled start past (Post cq slot completion) log h)
 
 pub kept_at : (start : Start) (past : Past) (cq : ℕ) (slot : Option ℕ) (completion : Completion) → IsFaultlessLog start past
     → IsPostedAt start past cq slot completion (answered_in (outstanding past completion.sq completion.cid) completion) → verdict start past (Post cq slot completion) ≡ Kept
 kept_at start past cq slot completion log h =
     let reply : AdminCommand = answered_in (outstanding past completion.sq completion.cid) completion in
+    unless_excused (is_lost past) _ (
     posted_whole start.tells cq (cq_after start past cq) (cq_after start past (cq_named reply)) (sq_after start past completion.sq) (sq_after start past (sq_named reply)) (admin_after past)
     (outstanding past completion.sq completion.cid) (outstanding past (sq_named reply) (cid_named reply)) slot completion
     (none_excused start past log cq).1 h
+    )
 
 -- what an answer says of Number of Queues is what was told first
 pub numbers_kept : (start : Start) (past : Past) (cq : ℕ) (slot : Option ℕ) (completion : Completion) → IsFaultlessLog start past → verdict start past (Post cq slot completion) ≡ Kept

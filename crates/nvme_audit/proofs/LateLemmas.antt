@@ -11,12 +11,13 @@ use Rattle.nvme_audit.specs.declared.facts.Ring.{Ring}
 use Rattle.nvme_audit.specs.declared.verdict.Verdict.TheVariants.{Kept, Host}
 use Rattle.nvme_audit.specs.declared.verdict.Breach.TheVariants.{HeadRange}
 use Rattle.nvme_audit.specs.Lives.{Past, asked, turns_sq, done_by, done}
-use Rattle.nvme_audit.specs.Queues.{ring_by, ring_of, deletes_sq, was_deleted, turns_cq, qsize_by, qsize_of}
+use Rattle.nvme_audit.specs.Queues.{ring_by, ring_of, deletes_sq, was_deleted, turns_cq, qsize_by, qsize_of, deletes_cq}
 use Rattle.nvme_audit.specs.Rings.{advanced, advanced_where_open, qsize_in, submitted, fetched, posted, consumed, number_of}
 use Rattle.nvme_audit.specs.Turns.{is_of_sqs, asking, answered_by, answered, sq_named, cq_named, cid_named, sq_asks, sq_replies, cq_asks, cq_replies, sqs_asks, sqs_replies, meets, have_met, was_doomed, joined, parted, ring_ended, creates, was_created, numbers}
 use Rattle.nvme_audit.specs.Aborts.{is_abort, is_aborted, names, stirred, told_of, was_named, aborts_asked, aborts_answered}
 use Rattle.nvme_audit.specs.Marks.{mark_for, mark_of, mark_if, owes}
-use Rattle.nvme_audit.specs.Host.{tail_rules, head_rules, is_sq_excused, is_cq_excused}
+use Rattle.nvme_audit.specs.Early.{may_be_open, is_early}
+use Rattle.nvme_audit.specs.Host.{tail_rules, head_rules, is_lost, is_sq_excused, is_cq_excused}
 use Rattle.nvme_audit.specs.Facts.{sq_after, cq_after, admin_after, outstanding}
 use Rattle.nvme_audit.specs.Rules.{fetch_rules}
 use Rattle.nvme_audit.specs.Answers.{answered_in, mark_in, is_untrue_abort}
@@ -24,7 +25,7 @@ use Rattle.nvme_audit.specs.Lawful.{verdict, is_broken, IsLawfulLog, IsFaultless
 use Rattle.nvme_audit.specs.Shows.{TellsLess, seen_by}
 use Rattle.nvme_audit.specs.LateReads.{ReadsLater, over_tail, over_head, over_fetch, over_post, before, ReadsLate, none, more, LateIsFaultless, ProjectionsAreLawful}
 use Rattle.nvme_audit.proofs.StepLemmas.{same_out}
-use Rattle.nvme_audit.proofs.OnceLemmas.{none_excused, rules_free}
+use Rattle.nvme_audit.proofs.OnceLemmas.{none_excused, is_ruled, rules_free}
 use Rattle.nvme_audit.proofs.KeptLemmas.{not_excused, unless_excused, both, join, tail_fits, head_fits, fetch_still, reply_is, mark_is, none_is, admin_closed, IsPostedAt, posted_at, kept_at, numbers_kept, possible}
 use Rattle.nvme_audit.proofs.MilderLemmas.{neither, posted_still}
 use Rattle.nvme_audit.proofs.SeenLemmas.{sq_known, cq_known, IsSeen, least, open_more, names_abort, deleted_after, seen_tail, seen_head, seen_fetch, seen_post}
@@ -46,6 +47,8 @@ pub record IsAfter (start : Start) (past now : Past) (cq q c : ℕ) (aborts : Bo
   pub qsize_is : (k : ℕ) → qsize_of start now k ≡ qsize_of start past k
   pub posted_is : posted now cq ≡ posted past cq
   pub consumed : consumed start past cq ≤ consumed start now cq
+  pub answered : cq_replies now cq ≤ cq_replies past cq
+  pub early : is_early start past cq ≡ true → is_early start now cq ≡ true
   pub joined_is : (k : ℕ) → joined now k ≡ joined past k
   pub parted_is : (k : ℕ) → parted start now k ≡ parted start past k
   pub cq_asked : (k : ℕ) → cq_asks past k ≤ cq_asks now k
@@ -72,6 +75,10 @@ post_after start past now cq slot completion s log later h =
       consumed = λ e. (e, s.consumed);
       posted_is = s.posted_is;
       qsize_is = s.qsize_is cq;
+      posts = λ e. e;
+      answered = s.answered;
+      asked = s.cq_asked cq;
+      early = s.early;
       skips = λ k. ap (λ (b : Bool). not start.tells.posts && b) (s.deleted_is q) ∙ k;
       skips_own = λ k. ap (λ (b : Bool). not start.tells.posts && b) (s.deleted_is (sq_named reply)) ∙ k;
       judged = (none_excused start now later q).0;
@@ -160,6 +167,8 @@ after_tail start past sq to cq q c aborts = record {
   qsize_is = λ k. refl;
   posted_is = refl;
   consumed = omega arith;
+  answered = omega arith;
+  early = λ k. k;
   joined_is = λ k. refl;
   parted_is = λ k. refl;
   cq_asked = λ k. omega arith;
@@ -184,6 +193,8 @@ after_head start past queue to cq q c aborts = record {
   qsize_is = λ k. refl;
   posted_is = refl;
   consumed = least (queue == cq) (consumed start past cq) _ _ (open_more (qsize_of start past cq) (consumed start past cq) (consumed start past cq) to (omega arith)) (omega arith);
+  answered = omega arith;
+  early = λ k. k;
   joined_is = λ k. refl;
   parted_is = λ k. refl;
   cq_asked = λ k. omega arith;
@@ -220,6 +231,8 @@ after_fetch start past sq cid of command cq q c aborts h = record {
   qsize_is = λ k. refl;
   posted_is = refl;
   consumed = omega arith;
+  answered = omega arith;
+  early = λ k. k;
   joined_is = λ k. refl;
   parted_is = λ k. refl;
   cq_asked = λ k. one_more (turns_cq (asking sq command) k) (cq_asks past k);
@@ -246,6 +259,7 @@ seen_over_tail start past cq slot completion sq to h =
       consumed_is = λ e k. refl;
       consumed_le = λ k. omega arith;
       numbers_are = inr refl;
+      early = λ q k. k;
       met = λ k. k;
       marked = λ q c. omega arith;
       named = λ q c k. k;
@@ -269,6 +283,7 @@ seen_over_head start past cq slot completion queue to h =
       consumed_is = λ e k. moves k;
       consumed_le = λ k. omega (arith, moves k);
       numbers_are = inr refl;
+      early = λ q k. k;
       met = λ k. k;
       marked = λ q c. omega arith;
       named = λ q c k. k;
@@ -282,17 +297,23 @@ swap_tail : (start : Start) (past : Past) (cq : ℕ) (slot : Option ℕ) (comple
     → IsFaultlessLog start (Tail sq to ∷ Post cq slot completion ∷ past) → IsSwapped start (Tail sq to ∷ Post cq slot completion ∷ past) (Post cq slot completion ∷ Tail sq to ∷ past)
 swap_tail start past cq slot completion sq to h log =
     let rules : tail_rules (qsize_in (ring_of start (Post cq slot completion ∷ past) sq)) (submitted start (Post cq slot completion ∷ past) sq) (fetched (Post cq slot completion ∷ past) sq) to ≡ Kept =
-    not_excused (is_sq_excused start (Post cq slot completion ∷ past) sq) _ (none_excused start (Post cq slot completion ∷ past) log.1 sq).0 log.0 in
-    let earlier : IsFaultlessLog start (Tail sq to ∷ past) = (unless_excused (is_sq_excused start past sq) (tail_rules (qsize_in (ring_of start past sq)) (submitted start past sq) (fetched past sq) to) (rw (ring_stays (done past completion) sq (ring_of start past sq) h, h) at rules), log.1.1) in
+    not_excused (is_sq_excused start (Post cq slot completion ∷ past) sq) _ (none_excused start (Post cq slot completion ∷ past) log.1 sq).0 (is_ruled start (Post cq slot completion ∷ past) (Tail sq to) log.1 log.0) in
+    let earlier : IsFaultlessLog start (Tail sq to ∷ past) = (unless_excused (is_lost past) _ (unless_excused (is_sq_excused start past sq) (tail_rules (qsize_in (ring_of start past sq)) (submitted start past sq) (fetched past sq) to) (rw (ring_stays (done past completion) sq (ring_of start past sq) h, h) at rules)), log.1.1) in
     (seen_over_tail start past cq slot completion sq to h, (post_after start past (Tail sq to ∷ past) cq slot completion (after_tail start past sq to cq completion.sq completion.cid _) log.1.1 earlier log.1.0, earlier))
 
 -- a head is no further than the completions before
-head_before : (own turned : Bool) (qsize : Option ℕ) (posted consumed to : ℕ) → turned ≡ false → (own ≡ true → advanced_where_open qsize consumed to ≤ posted)
-    → head_rules qsize (if turned then 0 else (if own then posted + 1 else posted)) consumed to ≡ Kept → head_rules qsize posted consumed to ≡ Kept
-head_before own true qsize posted consumed to t f h = cc
-head_before false false qsize posted consumed to t f h = h
-head_before true false None posted consumed to t f h = cc
-head_before true false (Some n) posted consumed to t f h = go (nat_lt n to) (nat_lt (posted + 1) (advanced n consumed to)) (nat_lt posted (advanced n consumed to)) refl h
+head_before : (own deletes : Bool) (qsize : Option ℕ) (waits early : Bool) (posted consumed to : ℕ) → (own ≡ true → advanced_where_open qsize consumed to ≤ posted)
+    → head_rules qsize (not deletes && ((own && (is_none qsize && waits)) || early)) (if own then posted + 1 else posted) consumed to ≡ Kept → head_rules qsize early posted consumed to ≡ Kept
+head_before own deletes None waits early posted consumed to f h = cc
+head_before own deletes (Some n) waits true posted consumed to f h = go (nat_lt n to) (not (not deletes && ((own && false) || true)) && nat_lt (if own then posted + 1 else posted) (advanced n consumed to)) h
+  where
+    go : (a b : Bool) → (if a || b then Host HeadRange else Kept) ≡ Kept → (if a || false then Host HeadRange else Kept) ≡ Kept
+    go true b k = cc
+    go false b k = refl
+head_before false true (Some n) waits false posted consumed to f h = h
+head_before false false (Some n) waits false posted consumed to f h = h
+head_before true deletes (Some n) waits false posted consumed to f h =
+    go (nat_lt n to) (not (not deletes && false) && nat_lt (posted + 1) (advanced n consumed to)) (nat_lt posted (advanced n consumed to)) refl h
   where
     go : (a b c : Bool) → nat_lt posted (advanced n consumed to) ≡ c → (if a || b then Host HeadRange else Kept) ≡ Kept → (if a || c then Host HeadRange else Kept) ≡ Kept
     go true b c e k = cc
@@ -303,10 +324,10 @@ swap_head : (start : Start) (past : Past) (cq : ℕ) (slot : Option ℕ) (comple
     → ((cq == queue) ≡ true → advanced_where_open (qsize_of start past queue) (consumed start past queue) to ≤ posted past queue)
     → IsFaultlessLog start (Head queue to ∷ Post cq slot completion ∷ past) → IsSwapped start (Head queue to ∷ Post cq slot completion ∷ past) (Post cq slot completion ∷ Head queue to ∷ past)
 swap_head start past cq slot completion queue to h released log =
-    let rules : head_rules (qsize_of start (Post cq slot completion ∷ past) queue) (posted (Post cq slot completion ∷ past) queue) (consumed start (Post cq slot completion ∷ past) queue) to ≡ Kept =
-    not_excused (is_cq_excused start (Post cq slot completion ∷ past) queue) _ (none_excused start (Post cq slot completion ∷ past) log.1 queue).1 log.0 in
-    let fits : head_rules (qsize_of start past queue) (if false then 0 else (if cq == queue then posted past queue + 1 else posted past queue)) (consumed start past queue) to ≡ Kept = rw (qsize_stays (done past completion) queue (qsize_of start past queue) h, h) at rules in
-    let earlier : IsFaultlessLog start (Head queue to ∷ past) = (unless_excused (is_cq_excused start past queue) _ (head_before (cq == queue) false (qsize_of start past queue) (posted past queue) (consumed start past queue) to refl released fits), log.1.1) in
+    let rules : head_rules (qsize_of start (Post cq slot completion ∷ past) queue) (is_early start (Post cq slot completion ∷ past) queue) (posted (Post cq slot completion ∷ past) queue) (consumed start (Post cq slot completion ∷ past) queue) to ≡ Kept =
+    not_excused (is_cq_excused start (Post cq slot completion ∷ past) queue) _ (none_excused start (Post cq slot completion ∷ past) log.1 queue).1 (is_ruled start (Post cq slot completion ∷ past) (Head queue to) log.1 log.0) in
+    let fits : head_rules (qsize_of start past queue) (is_early start (Post cq slot completion ∷ past) queue) (if cq == queue then posted past queue + 1 else posted past queue) (consumed start past queue) to ≡ Kept = rw (qsize_stays (done past completion) queue (qsize_of start past queue) h, h) at rules in
+    let earlier : IsFaultlessLog start (Head queue to ∷ past) = (unless_excused (is_lost past) _ (unless_excused (is_cq_excused start past queue) _ (head_before (cq == queue) (deletes_cq (done past completion) queue) (qsize_of start past queue) (nat_lt (cq_replies past queue) (cq_asks past queue)) (is_early start past queue) (posted past queue) (consumed start past queue) to released fits)), log.1.1) in
     (seen_over_head start past cq slot completion queue to h, (post_after start past (Head queue to ∷ past) cq slot completion (after_head start past queue to cq completion.sq completion.cid _) log.1.1 earlier log.1.0, earlier))
 
 -- ---- over a fetch
@@ -483,6 +504,19 @@ owed_case true true owed U f h = inr (f refl refl)
 owed_case true false owed U f h = cc
 owed_case false says owed U f h = inl h
 
+-- a Create that was fetched before a completion may have taken effect before it
+early_later : (ends own closed turns : Bool) (replies asks : ℕ) (early : Bool) → (not ends && ((own && (closed && nat_lt replies asks)) || early)) ≡ true → (not ends && ((own && (closed && nat_lt replies (if turns then asks + 1 else asks))) || early)) ≡ true
+early_later true own closed turns replies asks early h = cc
+early_later false false closed turns replies asks early h = h
+early_later false true false turns replies asks early h = h
+early_later false true true false replies asks early h = h
+early_later false true true true replies asks true h = second (nat_lt replies (asks + 1)) true refl
+early_later false true true true replies asks false h = rw (lt-ltb replies (asks + 1) (omega (arith, ltb-true replies asks (no_other (nat_lt replies asks) h)))) refl
+  where
+    no_other : (a : Bool) → (a || false) ≡ true → a ≡ true
+    no_other true k = refl
+    no_other false k = cc
+
 seen_over_fetch : (start : Start) (past : Past) (cq : ℕ) (slot : Option ℕ) (completion : Completion) (sq cid : ℕ) (of : Option ℕ) (command : AdminCommand) → turns_sq (done past completion) sq ≡ false → not_of sq cid completion
     → IsFaultlessLog start past → verdict start past (Post cq slot completion) ≡ Kept → is_none (asked past sq cid) ≡ true
     → IsSeen start start (Fetch sq of cid command ∷ Post cq slot completion ∷ past) (Post cq slot completion ∷ Fetch sq of cid command ∷ past)
@@ -505,6 +539,7 @@ seen_over_fetch start past cq slot completion sq cid of command h free log kept 
       consumed_is = λ e q. rw ends refl;
       consumed_le = λ q. rw ends (omega arith);
       numbers_are = inr (rw ends refl);
+      early = λ q k. rw ends (early_later (deletes_cq (done past completion) q) (cq == q) (is_none (qsize_of start past q)) (turns_cq (asking sq command) q) (cq_replies past q) (cq_asks past q) (is_early start past q) k);
       met = met_case (meets (Post cq slot completion ∷ past) (asking sq command)) (meets past (asking sq command)) (have_met past) (meets_before past cq slot completion (asking sq command));
       marked = λ q c. if_least ((sq == q) && (cid == c)) (mark_for past command) (mark_for (Post cq slot completion ∷ past) command) (mark_of past q c) (mark_before past cq slot completion command);
       named = λ q c. named_case (names (asking sq command) q c) ((sq == q) && (cid == c)) (nat_lt (aborts_answered (Post cq slot completion ∷ past)) (aborts_asked past)) (nat_lt (aborts_answered past) (aborts_asked past)) (was_named past q c)
@@ -533,7 +568,7 @@ swap_fetch : (start : Start) (past : Past) (cq : ℕ) (slot : Option ℕ) (compl
 swap_fetch start past cq slot completion sq cid of command h free log =
     let then_past : Past = Post cq slot completion ∷ past in
     let rules : fetch_rules start.tells (sq_after start then_past sq) (ring_of start then_past sq) of (is_some (outstanding then_past sq cid)) ≡ Kept =
-    not_excused (is_sq_excused start then_past sq) _ (none_excused start then_past log.1 sq).0 log.0 in
+    not_excused (is_sq_excused start then_past sq) _ (none_excused start then_past log.1 sq).0 (is_ruled start then_past (Fetch sq of cid command) log.1 log.0) in
     let out : is_some (asked then_past sq cid) ≡ is_some (asked past sq cid) = not_out (turns_sq (done past completion) sq) ((completion.sq == sq) && (completion.cid == cid)) (asked past sq cid) h (not_named sq cid completion free) in
     let same : is_some (outstanding then_past sq cid) ≡ is_some (outstanding past sq cid) =
     same_out (asked then_past sq cid) (number_of past sq cid) (mark_of past sq cid) (was_named past sq cid) (owes then_past sq cid) ∙ out ∙ sym (same_out (asked past sq cid) (number_of past sq cid) (mark_of past sq cid) (was_named past sq cid) (owes past sq cid)) in
@@ -541,8 +576,8 @@ swap_fetch start past cq slot completion sq cid of command h free log =
     ap (λ (r : Option Ring). fetch_rules start.tells (sq_after start then_past sq) r of (is_some (outstanding past sq cid))) (sym (ring_stays (done past completion) sq (ring_of start past sq) h))
     ∙ ap (λ (b : Bool). fetch_rules start.tells (sq_after start then_past sq) (ring_of start then_past sq) of b) (sym same) ∙ rules in
     let earlier : IsFaultlessLog start (Fetch sq of cid command ∷ past) = (
-      unless_excused (is_sq_excused start past sq) _
-          (fetch_still start.tells start.tells (sq_after start then_past sq) (sq_after start past sq) (ring_of start past sq) of of (is_some (outstanding past sq cid)) (λ e. (e, rw h (omega arith))) (rw h refl) (inr refl) here),
+      unless_excused (is_lost past) _ (unless_excused (is_sq_excused start past sq) _
+          (fetch_still start.tells start.tells (sq_after start then_past sq) (sq_after start past sq) (ring_of start past sq) of of (is_some (outstanding past sq cid)) (λ e. (e, rw h (omega arith))) (rw h refl) (inr refl) here)),
       log.1.1,
     ) in
     let nobody : is_none (asked past sq cid) ≡ true = none_if (asked past sq cid) (sym out ∙ sym (same_out (asked then_past sq cid) (number_of past sq cid) (mark_of past sq cid) (was_named past sq cid) (owes then_past sq cid)) ∙ rules_free start.tells (sq_after start then_past sq) (ring_of start then_past sq) of (is_some (outstanding then_past sq cid)) rules) in (
@@ -572,6 +607,8 @@ after_post start past queue place other cq q c aborts io elsewhere free no_abort
       qsize_is = λ k. rw ends refl;
       posted_is = rw (ends, elsewhere) refl;
       consumed = rw ends (omega arith);
+      answered = rw reply (omega arith);
+      early = λ k. rw (ends, elsewhere) k;
       joined_is = λ k. rw ends refl;
       parted_is = λ k. rw ends refl;
       cq_asked = λ k. omega arith;
@@ -601,6 +638,8 @@ before_post start past queue place other cq q c aborts io elsewhere free no_abor
       qsize_is = λ k. rw ends refl;
       posted_is = rw (ends, elsewhere) refl;
       consumed = rw ends (omega arith);
+      answered = rw reply (omega arith);
+      early = λ k. rw (ends, elsewhere) at k;
       joined_is = λ k. rw ends refl;
       parted_is = λ k. rw ends refl;
       cq_asked = λ k. omega arith;
@@ -620,6 +659,14 @@ both_more true true n = refl
 both_more true false n = refl
 both_more false true n = refl
 both_more false false n = refl
+
+early_swapped : (a b room early : Bool) → ((a && room) || ((b && room) || early)) ≡ true → ((b && room) || ((a && room) || early)) ≡ true
+early_swapped true true room early h = h
+early_swapped true false true early h = refl
+early_swapped true false false early h = h
+early_swapped false true true early h = refl
+early_swapped false true false early h = h
+early_swapped false false room early h = h
 
 seen_over_post : (start : Start) (past : Past) (cq queue : ℕ) (slot place : Option ℕ) (completion other : Completion) → (completion.sq == 0) ≡ false → (other.sq == 0) ≡ false
     → IsSeen start start (Post queue place other ∷ Post cq slot completion ∷ past) (Post cq slot completion ∷ Post queue place other ∷ past)
@@ -643,6 +690,7 @@ seen_over_post start past cq queue slot place completion other io also =
       consumed_is = λ t q. rw (f, h, e, g) refl;
       consumed_le = λ q. rw (f, h, e, g) (omega arith);
       numbers_are = inr (rw (f, h, e, g) refl);
+      early = λ q t. rw (f, g, k) (early_swapped (queue == q) (cq == q) (may_be_open start past q) (is_early start past q) (rw (h, e, i) at t));
       met = λ t. t;
       marked = λ q c. omega arith;
       named = λ q c t. t;
@@ -683,13 +731,13 @@ all_told start = record { tails = λ e. e; heads = λ e. e; posts = λ e. e }
 
 after_swap : (start : Start) (past late : Past) (event : Event) → IsSwapped start past late → IsFaultlessLog start (event ∷ past) → IsSwapped start (event ∷ past) (event ∷ late)
 after_swap start past late (Tail sq to) s log =
-    let rules = not_excused (is_sq_excused start past sq) _ (none_excused start past log.1 sq).0 log.0 in
+    let rules = not_excused (is_sq_excused start past sq) _ (none_excused start past log.1 sq).0 (is_ruled start past (Tail sq to) log.1 log.0) in
     (seen_tail start start past late sq to (tail_fits (qsize_in (ring_of start past sq)) (submitted start past sq) (fetched past sq) to rules) s.0, (tail_seen start start past late sq to s.0 rules, s.1))
 after_swap start past late (Head cq to) s log =
-    let rules = not_excused (is_cq_excused start past cq) _ (none_excused start past log.1 cq).1 log.0 in
-    (seen_head start start past late cq to (head_fits (qsize_of start past cq) (posted past cq) (consumed start past cq) to rules) s.0, (head_seen start start past late cq to s.0 rules, s.1))
+    let rules = not_excused (is_cq_excused start past cq) _ (none_excused start past log.1 cq).1 (is_ruled start past (Head cq to) log.1 log.0) in
+    (seen_head start start past late cq to (head_fits (qsize_of start past cq) (is_early start past cq) (posted past cq) (consumed start past cq) to rules) s.0, (head_seen start start past late cq to s.0 rules, s.1))
 after_swap start past late (Fetch sq of cid command) s log =
-    let rules = not_excused (is_sq_excused start past sq) _ (none_excused start past log.1 sq).0 log.0 in
+    let rules = not_excused (is_sq_excused start past sq) _ (none_excused start past log.1 sq).0 (is_ruled start past (Fetch sq of cid command) log.1 log.0) in
     (seen_fetch start start past late sq cid of of command s.0, (fetch_seen start start past late sq cid of of command (all_told start) (inr refl) s.0 rules, s.1))
 after_swap start past late (Post cq slot completion) s log = (
   seen_post start start past late cq slot slot completion completion.sqhd completion.dw0 completion.phase (numbers_kept start past cq slot completion log.1 log.0) (inr refl) s.0,

@@ -22,6 +22,10 @@ pub record IsMilder (tells less : Tells) (cq cq_now own_cq own_cq_now : Cq) (sq 
   pub consumed : less.heads ≡ true → (tells.heads ≡ true) × (cq.consumed ≤ cq_now.consumed)
   pub posted_is : cq_now.posted ≡ cq.posted
   pub qsize_is : cq_now.qsize ≡ cq.qsize
+  pub posts : less.posts ≡ true → tells.posts ≡ true
+  pub answered : cq_now.answered ≤ cq.answered
+  pub asked : cq.asked ≤ cq_now.asked
+  pub early : cq.early ≡ true → cq_now.early ≡ true
   pub skips : (not tells.posts && sq.deleted) ≡ true → (not less.posts && sq_now.deleted) ≡ true
   pub skips_own : (not tells.posts && own_sq.deleted) ≡ true → (not less.posts && own_sq_now.deleted) ≡ true
   pub judged : sq_now.excused ≡ false
@@ -100,7 +104,7 @@ pub posted_still : (tells less : Tells) (cqid : ℕ) (cq cq_now own_cq own_cq_no
     → IsPosted tells cqid cq own_cq sq own_sq admin (command_with out n mark named owed) target slot completion
     → IsPosted less cqid cq_now own_cq_now sq_now own_sq_now now (command_with out n noted names owes) target_now shown (with_fields completion sqhd phase dw0)
 posted_still tells less cqid cq cq_now own_cq own_cq_now sq sq_now own_sq own_sq_now admin now out n mark noted named names owed owes target target_now slot shown completion sqhd dw0 phase at_slot at_head at_phase at_dw0 m h = record {
-  placed = rw m.qsize_is (slot_still tells less cq cq_now cq.qsize slot shown completion.phase phase m.consumed m.posted_is at_slot at_phase h.placed);
+  placed = rw m.qsize_is (slot_still tells less cq cq_now cq.qsize slot shown completion.phase phase m.consumed m.posted_is at_slot at_phase m.posts m.answered m.asked m.early h.placed);
   named = λ k. rw (m.ring_is k) (name_still cqid sq sq_now sq.ring (command_with out n mark named owed) (command_with out n noted names owes) completion.sqhd sqhd
       (λ e. none_is out n mark named owed ∙ sym (none_is out n noted names owes) ∙ e)
       (λ qsize e. other_head_still qsize out n mark noted named names owed owes sq.fetched sq_now.fetched completion.sqhd sqhd (m.fetched k) at_head e)

@@ -2,6 +2,7 @@
 use Rattle.std.proofs.Common.{◌≡◌, ℕ, ◌+◌, ◌%◌, ◌==◌, ◌&&◌, ◌||◌, not, nat_le, Bool, true, false, if◌then◌else◌, [], ◌∷◌, Option, None, Some, is_some, refl, sym, subst, ap, ◌∙◌, arith}
 use Rattle.std.proofs.lemmas.Bool.{eqb-true}
 use Rattle.nvme_entry.specs.declared.admin.AdminCommand.{AdminCommand}
+use Rattle.nvme_audit.specs.declared.event.Event.{Event}
 use Rattle.nvme_audit.specs.declared.event.Event.TheVariants.{Tail, Head, Fetch, Post}
 use Rattle.nvme_audit.specs.declared.event.Completion.{Completion}
 use Rattle.nvme_audit.specs.declared.facts.Start.{Start}
@@ -19,10 +20,10 @@ use Rattle.nvme_audit.specs.Lives.{Past, asked, turns_sq, done}
 use Rattle.nvme_audit.specs.Rings.{slots_of, number_of}
 use Rattle.nvme_audit.specs.Aborts.{was_named}
 use Rattle.nvme_audit.specs.Marks.{mark_of, owes}
-use Rattle.nvme_audit.specs.Host.{is_kept, is_sq_excused, is_cq_excused, tail_verdict, head_verdict}
+use Rattle.nvme_audit.specs.Host.{is_kept, is_lost, is_sq_excused, is_cq_excused, tail_verdict, head_verdict}
 use Rattle.nvme_audit.specs.Facts.{sq_after, cq_after, outstanding}
 use Rattle.nvme_audit.specs.Rules.{is_other, fetch_rules, fetch_verdict, name_rules, name_verdict, if_kept, post_verdict}
-use Rattle.nvme_audit.specs.Lawful.{IsFaultlessLog}
+use Rattle.nvme_audit.specs.Lawful.{ruled, verdict, IsFaultlessLog}
 use Rattle.nvme_audit.specs.Laws.{one_if, AnsweredOnce}
 use Rattle.nvme_audit.proofs.StepLemmas.{same_out}
 
@@ -65,16 +66,38 @@ and_false : (a b : Bool) → (a ≡ true → b ≡ false) → (a && b) ≡ false
 and_false true b h = h refl
 and_false false b h = refl
 
+-- nor are the queues lost
+record IsJudged (start : Start) (past : Past) : Type 0 where
+  pub lost : is_lost past ≡ false
+  pub sqs : (q : ℕ) → is_sq_excused start past q ≡ false
+  pub cqs : (q : ℕ) → is_cq_excused start past q ≡ false
+
+all_judged : (start : Start) (past : Past) → IsFaultlessLog start past → IsJudged start past
+all_judged start [] h = record { lost = refl; sqs = λ q. refl; cqs = λ q. refl }
+all_judged start (Tail sq slot ∷ past) h =
+    let j = all_judged start past h.1 in
+    let r : tail_verdict (sq_after start past sq) slot ≡ Kept = not_excused (is_lost past) _ j.lost h.0 in
+    record { lost = j.lost; sqs = λ q. told_case (sq == q) _ _ (j.sqs q) (λ e. subst (λ (k : ℕ). tail_verdict (sq_after start past k) slot ≡ Kept) (eqb-true sq q e) r); cqs = j.cqs }
+all_judged start (Head cq slot ∷ past) h =
+    let j = all_judged start past h.1 in
+    let r : head_verdict (cq_after start past cq) slot ≡ Kept = not_excused (is_lost past) _ j.lost h.0 in
+    record { lost = j.lost; sqs = j.sqs; cqs = λ q. told_case (cq == q) _ _ (j.cqs q) (λ e. subst (λ (k : ℕ). head_verdict (cq_after start past k) slot ≡ Kept) (eqb-true cq q e) r) }
+all_judged start (Fetch sq slot cid command ∷ past) h =
+    let j = all_judged start past h.1 in
+    let free : is_some (asked past sq cid) ≡ false = fetch_free start past sq cid slot (j.sqs sq) (not_excused (is_lost past) _ j.lost h.0) in
+    record {
+      lost = or_false _ _ (and_false (sq == 0) _ (λ e. free)) j.lost;
+      sqs = λ q. and_false _ _ (λ lives. or_false _ _ (and_false (sq == q) _ (λ e. subst (λ (k : ℕ). is_some (asked past k cid) ≡ false) (eqb-true sq q e) free)) (j.sqs q));
+      cqs = λ q. and_false _ _ (λ lives. j.cqs q);
+    }
+all_judged start (Post cq slot completion ∷ past) h = let j = all_judged start past h.1 in record { lost = j.lost; sqs = j.sqs; cqs = j.cqs }
+
 pub none_excused : (start : Start) (past : Past) → IsFaultlessLog start past → (q : ℕ) → (is_sq_excused start past q ≡ false) × (is_cq_excused start past q ≡ false)
-none_excused start [] h q = (refl, refl)
-none_excused start (Tail sq slot ∷ past) h q =
-    (told_case (sq == q) _ _ (none_excused start past h.1 q).0 (λ e. subst (λ (k : ℕ). tail_verdict (sq_after start past k) slot ≡ Kept) (eqb-true sq q e) h.0), (none_excused start past h.1 q).1)
-none_excused start (Head cq slot ∷ past) h q =
-    ((none_excused start past h.1 q).0, told_case (cq == q) _ _ (none_excused start past h.1 q).1 (λ e. subst (λ (k : ℕ). head_verdict (cq_after start past k) slot ≡ Kept) (eqb-true cq q e) h.0))
-none_excused start (Fetch sq slot cid command ∷ past) h q =
-    (or_false _ _ (and_false _ _ (λ e. subst (λ (k : ℕ). is_some (asked past k cid) ≡ false) (eqb-true sq q e) (fetch_free start past sq cid slot (none_excused start past h.1 sq).0 h.0))) (none_excused start past h.1 q).0, (none_excused start past h.1 q).1)
-none_excused start (Post cq slot completion ∷ past) h q =
-    (and_false _ _ (λ _. (none_excused start past h.1 q).0), and_false _ _ (λ _. (none_excused start past h.1 q).1))
+none_excused start past h q = let j = all_judged start past h in (j.sqs q, j.cqs q)
+
+-- what is said is what the rules say
+pub is_ruled : (start : Start) (past : Past) (event : Event) → IsFaultlessLog start past → verdict start past event ≡ Kept → ruled start past event ≡ Kept
+is_ruled start past event log h = not_excused (is_lost past) _ (all_judged start past log).lost h
 
 -- ---- a completion answers an outstanding command
 both_kept : (first other : Verdict) → if_kept first other ≡ Kept → other ≡ Kept
@@ -127,10 +150,10 @@ once start (Head cq slot ∷ past) posts h q c = once start past posts h.1 q c
 once start (Fetch sq slot cid command ∷ past) posts h q c =
     fetch_case _ (asked past q c) command _ _
     (λ e. let own : ((sq == q) ≡ true) × ((cid == c) ≡ true) = both (sq == q) (cid == c) e in
-    subst (λ (k : ℕ). is_some (asked past q k) ≡ false) (eqb-true cid c own.1) (subst (λ (k : ℕ). is_some (asked past k cid) ≡ false) (eqb-true sq q own.0) (fetch_free start past sq cid slot (none_excused start past h.1 sq).0 h.0)))
+    subst (λ (k : ℕ). is_some (asked past q k) ≡ false) (eqb-true cid c own.1) (subst (λ (k : ℕ). is_some (asked past k cid) ≡ false) (eqb-true sq q own.0) (fetch_free start past sq cid slot (none_excused start past h.1 sq).0 (is_ruled start past (Fetch sq slot cid command) h.1 h.0))))
     (once start past posts h.1 q c)
 once start (Post cq slot completion ∷ past) posts h q c =
     post_case (turns_sq (done past completion) q) _ (asked past q c) _ _
     (λ e. let own : ((completion.sq == q) ≡ true) × ((completion.cid == c) ≡ true) = both (completion.sq == q) (completion.cid == c) e in
-    subst (λ (k : ℕ). is_some (asked past q k) ≡ true) (eqb-true completion.cid c own.1) (subst (λ (k : ℕ). is_some (asked past k completion.cid) ≡ true) (eqb-true completion.sq q own.0) (answers start past cq slot completion posts h.1 (first_kept _ _ h.0))))
+    subst (λ (k : ℕ). is_some (asked past q k) ≡ true) (eqb-true completion.cid c own.1) (subst (λ (k : ℕ). is_some (asked past k completion.cid) ≡ true) (eqb-true completion.sq q own.0) (answers start past cq slot completion posts h.1 (first_kept _ _ (is_ruled start past (Post cq slot completion) h.1 h.0)))))
     (once start past posts h.1 q c)

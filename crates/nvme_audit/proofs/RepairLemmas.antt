@@ -1,5 +1,5 @@
 -- A judge that goes on after breaches of the controller.
-use Rattle.std.proofs.Common.{◌≡◌, ℕ, ◌&&◌, ◌||◌, not, Bool, true, false, if◌then◌else◌, [], ◌∷◌, Option, None, Some, refl, sym, subst, ap, ◌∙◌}
+use Rattle.std.proofs.Common.{◌≡◌, ℕ, ◌&&◌, ◌||◌, not, Bool, true, false, [], ◌∷◌, Option, None, Some, refl, sym, subst, ap, ◌∙◌}
 use Rattle.nvme_entry.specs.declared.admin.AdminCommand.{AdminCommand}
 use Rattle.nvme_audit.specs.declared.event.Event.{Event}
 use Rattle.nvme_audit.specs.declared.facts.Start.{Start}

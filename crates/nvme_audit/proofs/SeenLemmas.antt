@@ -1,5 +1,5 @@
 -- What a log says to an observer who sees less of it: the same, but for what nobody tells.
-use Rattle.std.proofs.Common.{◌≡◌, ◌⊎◌, inl, inr, ℕ, ◌+◌, ◌≤◌, ◌==◌, ◌&&◌, ◌||◌, not, nat_lt, Bool, true, false, if◌then◌else◌, ◌∷◌, Option, None, Some, is_some, refl, sym, ap, ◌∙◌, arith}
+use Rattle.std.proofs.Common.{◌≡◌, ◌⊎◌, inl, inr, ℕ, ◌+◌, ◌≤◌, ◌==◌, ◌&&◌, ◌||◌, not, nat_lt, Bool, true, false, if◌then◌else◌, ◌∷◌, Option, None, Some, is_none, is_some, refl, sym, ap, ◌∙◌, arith}
 use Rattle.std.proofs.lemmas.Bool.{eqb-true}
 use Rattle.nvme_entry.specs.declared.admin.AdminCommand.{AdminCommand}
 use Rattle.nvme_entry.specs.declared.admin.AdminCommand.TheVariants.{DeleteSq, CreateSq, DeleteCq, CreateCq, Abort, SetFeatures, GetFeatures, Other}
@@ -12,11 +12,12 @@ use Rattle.nvme_audit.specs.declared.facts.Sq.{Sq}
 use Rattle.nvme_audit.specs.declared.facts.Cq.{Cq}
 use Rattle.nvme_audit.specs.declared.facts.Admin.{Admin}
 use Rattle.nvme_audit.specs.Lives.{Past, asked, turns_sq, done_by, done}
-use Rattle.nvme_audit.specs.Queues.{ring_by, ring_of, deletes_sq, was_deleted, turns_cq, qsize_by, qsize_of}
+use Rattle.nvme_audit.specs.Queues.{ring_by, ring_of, deletes_sq, was_deleted, turns_cq, qsize_by, qsize_of, deletes_cq}
 use Rattle.nvme_audit.specs.Rings.{advanced, advanced_where_open, qsize_in, submitted, fetched, posted, consumed, number_of}
 use Rattle.nvme_audit.specs.Turns.{asking, answered_by, answered, sq_named, is_of_sqs, sq_asks, sq_replies, cq_asks, cq_replies, sqs_asks, sqs_replies, meets, have_met, was_doomed, joins, joined, is_on, ring_ended, parted, creates, was_created, number_of_queues, told_first, numbers_by, numbers}
 use Rattle.nvme_audit.specs.Aborts.{is_abort, names, is_aborted, stirred, told_of, was_named, aborts_asked, aborts_answered}
 use Rattle.nvme_audit.specs.Marks.{mark_for, mark_of, mark_if, owes}
+use Rattle.nvme_audit.specs.Early.{is_early}
 use Rattle.nvme_audit.specs.Shows.{IsShown, with_fields}
 use Rattle.nvme_audit.specs.Answers.{are_numbers}
 use Rattle.nvme_audit.specs.Coverage.{sets_numbers}
@@ -48,6 +49,7 @@ cq_known start past q = record {
   answered = cq_replies past q;
   joined = joined past q;
   parted = parted start past q;
+  early = false;
 }
 
 abbrev admin_known : Past → Admin
@@ -79,6 +81,7 @@ pub record IsSeen (start now : Start) (past less : Past) : Type 0 where
   pub consumed_le : (q : ℕ) → consumed now less q ≤ consumed start past q
   -- what is held against the controller
   pub numbers_are : IsShown (numbers past) (numbers less)
+  pub early : (q : ℕ) → is_early start past q ≡ true → is_early now less q ≡ true
   pub met : have_met past ≡ true → have_met less ≡ true
   pub marked : (q c : ℕ) → mark_of less q c ≤ mark_of past q c
   pub named : (q c : ℕ) → was_named past q c ≡ true → was_named less q c ≡ true
@@ -109,6 +112,7 @@ cq_asked command q cq = record {
   answered = cq.answered;
   joined = cq.joined;
   parted = cq.parted;
+  early = false;
 }
 
 abbrev admin_asked : AdminCommand → Admin → Admin
@@ -146,6 +150,7 @@ cq_ended reply ends ring own q cq = record {
   answered = if turns_cq reply q then cq.answered + 1 else cq.answered;
   joined = if joins ends q then cq.joined + 1 else cq.joined;
   parted = if is_on q ring then cq.parted + 1 else cq.parted;
+  early = false;
 }
 
 abbrev admin_ended : (reply ends : AdminCommand) → Admin → Admin
@@ -226,6 +231,7 @@ seen_fetch start now past less sq cid slot shown command s =
       consumed_is = s.consumed_is;
       consumed_le = s.consumed_le;
       numbers_are = s.numbers_are;
+      early = s.early;
       met = or_still _ _ _ _ (λ k. meets_known start now past less (asking sq command) s.sq_is s.cq_is ∙ k) s.met;
       marked = λ q c. rw marks (if_least ((sq == q) && (cid == c)) (mark_for past command) (mark_of less q c) (mark_of past q c) (s.marked q c));
       named = λ q c. or_still (names (asking sq command) q c) (names (asking sq command) q c) _ _ (λ k. k)
@@ -265,6 +271,7 @@ seen_tail start now past less sq slot fits s = record {
   consumed_is = s.consumed_is;
   consumed_le = s.consumed_le;
   numbers_are = s.numbers_are;
+  early = s.early;
   met = s.met;
   marked = s.marked;
   named = s.named;
@@ -290,6 +297,7 @@ seen_head start now past less cq slot fits s = record {
       (s.consumed_le q)
       );
   numbers_are = s.numbers_are;
+  early = s.early;
   met = s.met;
   marked = s.marked;
   named = s.named;
@@ -313,6 +321,7 @@ seen_without_tail start now past less sq slot f s = record {
   consumed_is = s.consumed_is;
   consumed_le = s.consumed_le;
   numbers_are = s.numbers_are;
+  early = s.early;
   met = s.met;
   marked = s.marked;
   named = s.named;
@@ -331,6 +340,7 @@ seen_without_head start now past less cq slot f s = record {
   consumed_is = λ t q. not_told now.tells.heads f t;
   consumed_le = λ q. least (cq == q) (consumed now less q) _ _ (open_more (qsize_of start past q) (consumed now less q) (consumed start past q) slot (s.consumed_le q)) (s.consumed_le q);
   numbers_are = s.numbers_are;
+  early = s.early;
   met = s.met;
   marked = s.marked;
   named = s.named;
@@ -426,6 +436,11 @@ either_owed false b c d U V f g u h = elim (g h) [
     second true d o = refl
     second false d o = o
 
+early_known : (ends own room seen early now : Bool) → (room ≡ true → seen ≡ true) → (early ≡ true → now ≡ true) → (not ends && ((own && room) || early)) ≡ true → (not ends && ((own && seen) || now)) ≡ true
+early_known true own room seen early now f g h = cc
+early_known false true room seen early now f g h = or_still room seen early now f g h
+early_known false false room seen early now f g h = g h
+
 pub seen_post : (start now : Start) (past less : Past) (cq : ℕ) (slot shown : Option ℕ) (completion : Completion) (sqhd dw0 : Option ℕ) (phase : Option Bool) → (sets_numbers (done past completion) ≡ true → are_numbers (numbers past) completion.dw0 ≡ true)
     → IsShown completion.dw0 dw0 → IsSeen start now past less → IsSeen start now (Post cq slot completion ∷ past) (Post cq shown (with_fields completion sqhd phase dw0) ∷ less)
 seen_post start now past less cq slot shown completion sqhd dw0 phase told d s =
@@ -442,6 +457,7 @@ seen_post start now past less cq slot shown completion sqhd dw0 phase told d s =
       consumed_is = λ t q. rw (ends, s.consumed_is t q) refl;
       consumed_le = λ q. rw ends (if_le (turns_cq (done past completion) q) 0 0 (consumed now less q) (consumed start past q) (λ e. omega arith) (s.consumed_le q));
       numbers_are = rw ends (numbers_shown (done past completion) (numbers past) completion.dw0 (numbers less) dw0 told s.numbers_are d);
+      early = λ q. rw ends (early_known (deletes_cq (done past completion) q) (cq == q) _ _ (is_early start past q) (is_early now less q) (λ k. ap (λ (c : Cq). is_none c.qsize && nat_lt c.answered c.asked) (s.cq_is q) ∙ k) (s.early q));
       met = s.met;
       marked = s.marked;
       named = s.named;

@@ -15,16 +15,17 @@ use Rattle.nvme_audit.specs.Rings.{advanced, qsize_in, submitted, fetched, poste
 use Rattle.nvme_audit.specs.Turns.{answered_by, sq_named, cq_named, cid_named}
 use Rattle.nvme_audit.specs.Aborts.{was_named}
 use Rattle.nvme_audit.specs.Marks.{mark_of, owes}
-use Rattle.nvme_audit.specs.Host.{tail_rules, head_rules, is_sq_excused, is_cq_excused}
+use Rattle.nvme_audit.specs.Early.{is_early}
+use Rattle.nvme_audit.specs.Host.{tail_rules, head_rules, is_lost, is_sq_excused, is_cq_excused}
 use Rattle.nvme_audit.specs.Facts.{sq_after, cq_after, admin_after, outstanding}
 use Rattle.nvme_audit.specs.Rules.{fetch_rules}
 use Rattle.nvme_audit.specs.Answers.{answered_in}
 use Rattle.nvme_audit.specs.Lawful.{verdict, IsFaultlessLog}
 use Rattle.nvme_audit.specs.Shows.{TellsLess, IsShown, with_fields, seen_by, ShowsLess, none, tail, head, tail_left_out, head_left_out, fetch, post, LessIsFaultless}
 use Rattle.nvme_audit.proofs.StepLemmas.{same_out}
-use Rattle.nvme_audit.proofs.OnceLemmas.{none_excused}
+use Rattle.nvme_audit.proofs.OnceLemmas.{none_excused, is_ruled}
 use Rattle.nvme_audit.proofs.HeadLemmas.{next_of}
-use Rattle.nvme_audit.proofs.KeptLemmas.{not_excused, unless_excused, both, join, tail_still, tail_fits, head_still, head_fits, fetch_still, reply_is, none_is, IsPostedAt, posted_at, kept_at, numbers_kept, possible}
+use Rattle.nvme_audit.proofs.KeptLemmas.{not_excused, unless_excused, both, join, not_still, tail_still, tail_fits, head_still, head_fits, fetch_still, reply_is, none_is, IsPostedAt, posted_at, kept_at, numbers_kept, possible}
 use Rattle.nvme_audit.proofs.MilderLemmas.{reply_seen, posted_still}
 use Rattle.nvme_audit.proofs.SeenLemmas.{IsSeen, seen_tail, seen_head, seen_without_tail, seen_without_head, seen_fetch, seen_post, says_known}
 
@@ -35,16 +36,16 @@ advanced_least n near far slot fits h = (next_of n near slot fits).1 (advanced n
 pub tail_seen : (start now : Start) (past less : Past) (sq slot : ℕ) → IsSeen start now past less → tail_rules (qsize_in (ring_of start past sq)) (submitted start past sq) (fetched past sq) slot ≡ Kept
     → verdict now less (Tail sq slot) ≡ Kept
 tail_seen start now past less sq slot s h =
-    unless_excused (is_sq_excused now less sq) _
+    unless_excused (is_lost less) _ (unless_excused (is_sq_excused now less sq) _
     (rw (ap (λ (k : Sq). k.ring) (s.sq_is sq), ap (λ (k : Sq). k.fetched) (s.sq_is sq))
-    (tail_still (qsize_in (ring_of start past sq)) (submitted start past sq) (submitted now less sq) (fetched past sq) slot (λ n e fits. advanced_least n _ _ slot fits (s.submitted_le sq)) h))
+    (tail_still (qsize_in (ring_of start past sq)) (submitted start past sq) (submitted now less sq) (fetched past sq) slot (λ n e fits. advanced_least n _ _ slot fits (s.submitted_le sq)) h)))
 
-pub head_seen : (start now : Start) (past less : Past) (cq slot : ℕ) → IsSeen start now past less → head_rules (qsize_of start past cq) (posted past cq) (consumed start past cq) slot ≡ Kept
+pub head_seen : (start now : Start) (past less : Past) (cq slot : ℕ) → IsSeen start now past less → head_rules (qsize_of start past cq) (is_early start past cq) (posted past cq) (consumed start past cq) slot ≡ Kept
     → verdict now less (Head cq slot) ≡ Kept
 head_seen start now past less cq slot s h =
-    unless_excused (is_cq_excused now less cq) _
+    unless_excused (is_lost less) _ (unless_excused (is_cq_excused now less cq) _
     (rw (ap (λ (k : Cq). k.qsize) (s.cq_is cq), ap (λ (k : Cq). k.posted) (s.cq_is cq))
-    (head_still (qsize_of start past cq) (posted past cq) (consumed start past cq) (consumed now less cq) slot (λ n e fits. advanced_least n _ _ slot fits (s.consumed_le cq)) h))
+    (head_still (qsize_of start past cq) (is_early start past cq) (is_early now less cq) (posted past cq) (consumed start past cq) (consumed now less cq) slot (s.early cq) (λ n e fits. advanced_least n _ _ slot fits (s.consumed_le cq)) h)))
 
 pub fetch_seen : (start now : Start) (past less : Past) (sq cid : ℕ) (slot shown : Option ℕ) (command : AdminCommand) → TellsLess start.tells now.tells → IsShown slot shown → IsSeen start now past less
     → fetch_rules start.tells (sq_after start past sq) (ring_of start past sq) slot (is_some (outstanding past sq cid)) ≡ Kept → verdict now less (Fetch sq shown cid command) ≡ Kept
@@ -53,18 +54,13 @@ fetch_seen start now past less sq cid slot shown command t at s h =
     same_out (asked less sq cid) (number_of less sq cid) (mark_of less sq cid) (was_named less sq cid) (owes less sq cid)
     ∙ ap (λ (o : Option AdminCommand). is_some o) (s.asked_is sq cid)
     ∙ sym (same_out (asked past sq cid) (number_of past sq cid) (mark_of past sq cid) (was_named past sq cid) (owes past sq cid)) in
-    unless_excused (is_sq_excused now less sq) _
+    unless_excused (is_lost less) _ (unless_excused (is_sq_excused now less sq) _
     (rw (ap (λ (k : Sq). k.ring) (s.sq_is sq), out)
     (fetch_still start.tells now.tells (sq_after start past sq) (sq_after now less sq) (ring_of start past sq) slot shown (is_some (outstanding past sq cid))
-    (λ e. (t.tails e, omega (arith, s.submitted_is e sq))) (ap (λ (k : Sq). k.fetched) (s.sq_is sq)) at h))
-
-not_posts : (a b : Bool) → (b ≡ true → a ≡ true) → not a ≡ true → not b ≡ true
-not_posts true b f h = cc
-not_posts false true f h = let t : false ≡ true = f refl in cc
-not_posts false false f h = refl
+    (λ e. (t.tails e, omega (arith, s.submitted_is e sq))) (ap (λ (k : Sq). k.fetched) (s.sq_is sq)) at h)))
 
 skipped : (start now : Start) (past less : Past) (q : ℕ) → TellsLess start.tells now.tells → IsSeen start now past less → (not start.tells.posts && was_deleted past q) ≡ true → (not now.tells.posts && was_deleted less q) ≡ true
-skipped start now past less q t s h = let u = both (not start.tells.posts) (was_deleted past q) h in join _ _ (not_posts start.tells.posts now.tells.posts t.posts u.0) (ap (λ (k : Sq). k.deleted) (s.sq_is q) ∙ u.1)
+skipped start now past less q t s h = let u = both (not start.tells.posts) (was_deleted past q) h in join _ _ (not_still start.tells.posts now.tells.posts t.posts u.0) (ap (λ (k : Sq). k.deleted) (s.sq_is q) ∙ u.1)
 
 pub post_seen : (start now : Start) (past less : Past) (cq : ℕ) (slot shown : Option ℕ) (completion : Completion) (sqhd dw0 : Option ℕ) (phase : Option Bool) → TellsLess start.tells now.tells
     → IsShown slot shown → IsShown completion.sqhd sqhd → IsShown completion.phase phase → IsShown completion.dw0 dw0 → IsSeen start now past less
@@ -86,6 +82,10 @@ post_seen start now past less cq slot shown completion sqhd dw0 phase t at_slot 
       consumed = λ e. (t.heads e, omega (arith, s.consumed_is e cq));
       posted_is = ap (λ (k : Cq). k.posted) (s.cq_is cq);
       qsize_is = ap (λ (k : Cq). k.qsize) (s.cq_is cq);
+      posts = t.posts;
+      answered = omega (arith, ap (λ (k : Cq). k.answered) (s.cq_is cq));
+      asked = omega (arith, ap (λ (k : Cq). k.asked) (s.cq_is cq));
+      early = s.early cq;
       skips = skipped start now past less q t s;
       skips_own = skipped start now past less (sq_named reply) t s;
       judged = (none_excused now less seen q).0;
@@ -135,6 +135,7 @@ shown_log start tells _ _ t none log = (
     consumed_is = λ e q. refl;
     consumed_le = λ q. omega arith;
     numbers_are = inl refl;
+    early = λ q k. k;
     met = λ k. k;
     marked = λ q c. omega arith;
     named = λ q c k. k;
@@ -144,19 +145,19 @@ shown_log start tells _ _ t none log = (
 )
 shown_log start tells _ _ t (tail {past = past} {less = less} {sq = sq} {slot = slot} more) log =
     let u = shown_log start tells past less t more log.1 in
-    let h = not_excused (is_sq_excused start past sq) _ (none_excused start past log.1 sq).0 log.0 in
+    let h = not_excused (is_sq_excused start past sq) _ (none_excused start past log.1 sq).0 (is_ruled start past (Tail sq slot) log.1 log.0) in
     (seen_tail start (seen_by start tells) past less sq slot (tail_fits (qsize_in (ring_of start past sq)) (submitted start past sq) (fetched past sq) slot h) u.0, (tail_seen start (seen_by start tells) past less sq slot u.0 h, u.1))
 shown_log start tells _ _ t (head {past = past} {less = less} {cq = cq} {slot = slot} more) log =
     let u = shown_log start tells past less t more log.1 in
-    let h = not_excused (is_cq_excused start past cq) _ (none_excused start past log.1 cq).1 log.0 in
-    (seen_head start (seen_by start tells) past less cq slot (head_fits (qsize_of start past cq) (posted past cq) (consumed start past cq) slot h) u.0, (head_seen start (seen_by start tells) past less cq slot u.0 h, u.1))
+    let h = not_excused (is_cq_excused start past cq) _ (none_excused start past log.1 cq).1 (is_ruled start past (Head cq slot) log.1 log.0) in
+    (seen_head start (seen_by start tells) past less cq slot (head_fits (qsize_of start past cq) (is_early start past cq) (posted past cq) (consumed start past cq) slot h) u.0, (head_seen start (seen_by start tells) past less cq slot u.0 h, u.1))
 shown_log start tells _ _ t (tail_left_out {past = past} {less = less} {sq = sq} {slot = slot} off more) log =
     let u = shown_log start tells past less t more log.1 in (seen_without_tail start (seen_by start tells) past less sq slot off u.0, u.1)
 shown_log start tells _ _ t (head_left_out {past = past} {less = less} {cq = cq} {slot = slot} off more) log =
     let u = shown_log start tells past less t more log.1 in (seen_without_head start (seen_by start tells) past less cq slot off u.0, u.1)
 shown_log start tells _ _ t (fetch {past = past} {less = less} {sq = sq} {cid = cid} {command = command} {slot = slot} {shown = shown} at more) log =
     let u = shown_log start tells past less t more log.1 in
-    let h = not_excused (is_sq_excused start past sq) _ (none_excused start past log.1 sq).0 log.0 in
+    let h = not_excused (is_sq_excused start past sq) _ (none_excused start past log.1 sq).0 (is_ruled start past (Fetch sq slot cid command) log.1 log.0) in
     (seen_fetch start (seen_by start tells) past less sq cid slot shown command u.0, (fetch_seen start (seen_by start tells) past less sq cid slot shown command t at u.0 h, u.1))
 shown_log start tells _ _ t (post {past = past} {less = less} {cq = cq} {slot = slot} {shown = shown} {completion = completion} {sqhd = sqhd} {dw0 = dw0} {phase = phase} at_slot at_head at_phase at_dw0 more) log =
     let u = shown_log start tells past less t more log.1 in (

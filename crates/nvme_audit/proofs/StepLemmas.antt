@@ -1,5 +1,5 @@
 -- What a judge keeps stays what the log says.
-use Rattle.std.proofs.Common.{◌≡◌, ℕ, ◌+◌, ◌==◌, ◌&&◌, ◌||◌, nat_lt, Bool, true, false, if◌then◌else◌, ◌∷◌, Option, None, Some, is_some, Result, Ok, Err, OnOk, MatchBool, refl, ap, ◌∙◌}
+use Rattle.std.proofs.Common.{◌≡◌, ℕ, ◌+◌, ◌==◌, ◌&&◌, ◌||◌, nat_lt, Bool, true, false, if◌then◌else◌, ◌∷◌, Option, None, Some, is_none, is_some, Result, Ok, Err, OnOk, MatchBool, refl, ap, ◌∙◌}
 use Rattle.std.proofs.lemmas.Bool.{eqb-true}
 use Rattle.nvme_entry.specs.declared.admin.AdminCommand.{AdminCommand}
 use Rattle.nvme_entry.specs.declared.admin.AdminCommand.TheVariants.{DeleteSq, CreateSq, DeleteCq, CreateCq, Abort, SetFeatures, GetFeatures, Other}
@@ -120,6 +120,10 @@ left_of : (a b : Bool) → (a && b) ≡ true → a ≡ true
 left_of true b h = refl
 left_of false b h = cc
 
+lost_case : (own out is lost was : Bool) → (own ≡ true → out ≡ is) → lost ≡ was → ((own && out) || lost) ≡ ((own && is) || was)
+lost_case true out is lost was f e = ap (λ (b : Bool). b || lost) (f refl) ∙ ap (λ (b : Bool). is || b) e
+lost_case false out is lost was f e = e
+
 pub fetch_stands : (start : Start) (past : Past) (old mid new : Judge) (sq cid : ℕ) (slot : Option ℕ) (command : AdminCommand) → StandsAt start past old → KeepsFetch old mid sq cid command → Asks mid new (asking sq command) → StandsAt start (Fetch sq slot cid command ∷ past) new
 fetch_stands start past old mid new sq cid slot command stands keeps asks =
     let sqs : (q : ℕ) → sq_at mid q ≡ fetched_where (sq == q) (is_some (asked past q cid)) (sq_after start past q) = λ q.
@@ -131,6 +135,7 @@ fetch_stands start past old mid new sq cid slot command stands keeps asks =
     let met : meets_at mid (asking sq command) ≡ meets past (asking sq command) = meets_stands start past mid (asking sq command) (λ q. ap sq_meets (sqs q)) cqs in
     record {
       start_is = asks.start_stays ∙ keeps.start_stays ∙ stands.start_is;
+      lost_is = asks.lost_stays ∙ keeps.lost ∙ lost_case (sq == 0) _ _ old.lost _ (λ e. ap (λ (o : Option Command). is_some o) (stands.commands_are sq cid) ∙ same_out (asked past sq cid) (number_of past sq cid) (mark_of past sq cid) (was_named past sq cid) (owes past sq cid)) stands.lost_is;
       sqs_are = λ q. asks.sqs q ∙ ap (sq_asking (asking sq command) q) (sqs q);
       cqs_are = λ q. asks.cqs q ∙ ap (cq_asking (asking sq command) q) (cqs q);
       admin_is = asks.admin ∙ ap (λ (b : Bool). admin_asking b (asking sq command) mid.admin) met ∙ ap (admin_asking (meets past (asking sq command)) (asking sq command)) (keeps.admin_stays ∙ stands.admin_is);
@@ -156,6 +161,7 @@ posted_where same cq = record {
   answered = cq.answered;
   joined = cq.joined;
   parted = cq.parted;
+  early = (same && (is_none cq.qsize && nat_lt cq.answered cq.asked)) || cq.early;
 }
 
 posted_case : (same : Bool) (own other : Cq) → (same ≡ true → own ≡ other) → (if same then cq_posted own else other) ≡ posted_where same other
@@ -224,6 +230,7 @@ post_stands start past old mid noted told turned new cq slot completion reply co
     ∙ ap (cq_answering (answered past completion) q) (owing.cqs_stay q ∙ posts.cqs q ∙ posted_case (cq == q) (cq_at old cq) (cq_at old q) (λ e. ap (cq_at old) (eqb-true cq q e)) ∙ ap (posted_where (cq == q)) (stands.cqs_are q)) in
     let ended : ring_ended_at told command ≡ ring_ended start past (done past completion) = ap (ring_ended_at told) ends ∙ ring_stands start past told (done past completion) (λ q. ap (λ (s : Sq). s.ring) (sqs q)) in
     record {
+      lost_is = notes.lost_stays ∙ turns.lost_stays ∙ answers.lost_stays ∙ owing.lost_stays ∙ posts.lost_stays ∙ stands.lost_is;
       start_is = notes.start_stays ∙ turns.start_stays ∙ answers.start_stays ∙ owing.start_stays ∙ posts.start_stays ∙ stands.start_is;
       sqs_are = λ q. notes.sqs_stay q ∙ turns.sqs q ∙ ap (λ (d : AdminCommand). sq_turned d q (sq_at told q)) ends ∙ ap (sq_turned (done past completion) q) (sqs q);
       cqs_are = λ q. notes.cqs_stay q ∙ turns.cqs q ∙ ap (λ (r : Option Ring). cq_turned command r q (cq_at told q)) ended

@@ -1,6 +1,6 @@
 -- Where a rule asks something: what it reads stands there, so the event keeps the rule or breaks it. Each rule is taken by itself,
 -- whatever came out, and whatever is said of others. (profile)
-use Rattle.std.specs.Prelude.{ℕ, ◌+◌, ◌==◌, ◌&&◌, ◌||◌, nat_lt, Bool, true, false, not, is_some, [], ◌∷◌, Option, Some, None}
+use Rattle.std.specs.Prelude.{ℕ, ◌+◌, ◌==◌, ◌&&◌, ◌||◌, nat_lt, Bool, true, false, not, is_some, [], ◌∷◌, Option, Some, None, if◌then◌else◌}
 use Rattle.nvme_entry.specs.Status.{StatusCode}
 use Rattle.nvme_entry.specs.declared.admin.AdminCommand.{AdminCommand}
 use Rattle.nvme_entry.specs.declared.admin.AdminCommand.TheVariants.{DeleteSq, CreateSq, DeleteCq, CreateCq, Abort, SetFeatures, GetFeatures, Other}
@@ -22,6 +22,7 @@ use Rattle.nvme_audit.specs.Turns.{sq_named, cq_named, number_of_queues}
 use Rattle.nvme_audit.specs.Aborts.{is_abort, is_aborted, told_of}
 use Rattle.nvme_audit.specs.Answers.{is_specific, is_settled, is_sq_within, is_cq_within, answered_in, mark_in}
 use Rattle.nvme_audit.specs.Facts.{sq_after, cq_after, admin_after, outstanding}
+use Rattle.nvme_audit.specs.Host.{is_lost}
 use Rattle.nvme_audit.specs.Laws.{one_if}
 
 -- ---- fetches
@@ -53,6 +54,10 @@ fetch_asks s rule.Features = false
 -- the host broke no rule of the completion queue: the place is judged
 abbrev pub is_placed : PostScene → Bool
 is_placed s = not s.cq.excused
+
+-- and it is known how many completions came before
+abbrev pub is_counted : PostScene → Bool
+is_counted s = is_placed s && is_some s.cq.qsize && not s.cq.early
 
 -- nor of the submission queue, and the completion isn't one that may be read late: name and status are judged
 abbrev pub is_named : PostScene → Bool
@@ -133,9 +138,9 @@ post_asks s rule.FetchClosed = false
 post_asks s rule.FetchBeyondTail = false
 post_asks s rule.FetchSlot = false
 post_asks s rule.PostClosed = is_placed s
-post_asks s rule.Slot = is_placed s && is_some s.cq.qsize && is_some s.slot
-post_asks s rule.Phase = is_placed s && is_some s.cq.qsize && is_some s.completion.phase
-post_asks s rule.CqFull = is_placed s && is_some s.cq.qsize && s.tells.heads
+post_asks s rule.Slot = is_counted s && is_some s.slot
+post_asks s rule.Phase = is_counted s && is_some s.completion.phase
+post_asks s rule.CqFull = is_counted s && s.tells.heads
 post_asks s rule.CqWrong = is_named s && is_some s.sq.ring
 post_asks s rule.Life = is_named s && (is_some s.sq.ring || not s.sq.deleted)
 post_asks s rule.Sqhd = is_named s && is_some s.sq.ring && is_some s.command && is_some s.completion.sqhd
@@ -149,16 +154,16 @@ post_asks s rule.Features = is_named s && sets_numbers (command_of s) && is_succ
 
 -- ---- any event
 abbrev pub scene_asks : Scene → Rule → Bool
-scene_asks scene.Doorbell r = false
+scene_asks scene.Unjudged r = false
 scene_asks (scene.Fetched s) r = fetch_asks s r
 scene_asks (scene.Posted s) r = post_asks s r
 
--- what the rules read of an event after a log
-abbrev pub scene_of : Start → Past → Event → Scene
-scene_of start past (Tail sq slot) = scene.Doorbell
-scene_of start past (Head cq slot) = scene.Doorbell
-scene_of start past (Fetch sq slot cid command) = scene.Fetched (record { tells = start.tells; sq = sq_after start past sq; slot = slot })
-scene_of start past (Post cq slot completion) = scene.Posted (record {
+-- what the rules read of an event
+abbrev pub scene_read : Start → Past → Event → Scene
+scene_read start past (Tail sq slot) = scene.Unjudged
+scene_read start past (Head cq slot) = scene.Unjudged
+scene_read start past (Fetch sq slot cid command) = scene.Fetched (record { tells = start.tells; sq = sq_after start past sq; slot = slot })
+scene_read start past (Post cq slot completion) = scene.Posted (record {
   tells = start.tells;
   cq = cq_after start past cq;
   own_cq = cq_after start past (cq_named (answered_in (outstanding past completion.sq completion.cid) completion));
@@ -169,6 +174,10 @@ scene_of start past (Post cq slot completion) = scene.Posted (record {
   slot = slot;
   completion = completion;
 })
+
+-- after a log: nothing, where it is lost which queues are open
+abbrev pub scene_of : Start → Past → Event → Scene
+scene_of start past event = if is_lost past then scene.Unjudged else scene_read start past event
 
 abbrev pub asks : Start → Past → Event → Rule → Bool
 asks start past event r = scene_asks (scene_of start past event) r

@@ -12,6 +12,7 @@ use Rattle.nvme_audit.specs.Rings.{submitted, fetched, posted, consumed, number_
 use Rattle.nvme_audit.specs.Turns.{sq_asks, sq_replies, was_doomed, cq_asks, cq_replies, joined, parted, sqs_asks, sqs_replies, have_met, was_created, numbers}
 use Rattle.nvme_audit.specs.Aborts.{aborts_asked, aborts_answered, was_named, stirred}
 use Rattle.nvme_audit.specs.Marks.{mark_of, owes}
+use Rattle.nvme_audit.specs.Early.{is_early}
 use Rattle.nvme_audit.specs.Host.{is_sq_excused, is_cq_excused}
 
 abbrev pub sq_after : Start → Past → ℕ → Sq
@@ -37,6 +38,7 @@ cq_after start past q = record {
   answered = cq_replies past q;
   joined = joined past q;
   parted = parted start past q;
+  early = is_early start past q;
 }
 
 abbrev pub admin_after : Past → Admin

@@ -1,5 +1,5 @@
 -- What is said of an event after a log, and lawful logs.
-use Rattle.std.specs.Prelude.{◌≡◌, ℕ, ◌<◌, Bool, true, false, is_some, List, [], ◌∷◌, length, take, slice_get, IfSome}
+use Rattle.std.specs.Prelude.{◌≡◌, ℕ, ◌<◌, Bool, true, false, is_some, List, [], ◌∷◌, length, take, slice_get, IfSome, if◌then◌else◌}
 use Rattle.nvme_audit.specs.declared.event.Event.{Event}
 use Rattle.nvme_audit.specs.declared.event.Event.TheVariants.{Tail, Head, Fetch, Post}
 use Rattle.nvme_audit.specs.declared.facts.Start.{Start}
@@ -7,17 +7,18 @@ use Rattle.nvme_audit.specs.declared.verdict.Rule.{Rule}
 use Rattle.nvme_audit.specs.declared.verdict.Verdict.{Verdict}
 use Rattle.nvme_audit.specs.declared.verdict.Verdict.TheVariants.{Kept, Host, Broken}
 use Rattle.nvme_audit.specs.Lives.{Past}
-use Rattle.nvme_audit.specs.Host.{tail_verdict, head_verdict}
+use Rattle.nvme_audit.specs.Host.{is_lost, tail_verdict, head_verdict}
 use Rattle.nvme_audit.specs.Facts.{sq_after, cq_after, admin_after, outstanding}
 use Rattle.nvme_audit.specs.Rules.{fetch_verdict, if_kept, post_verdict}
 use Rattle.nvme_audit.specs.Turns.{sq_named, cq_named, cid_named}
 use Rattle.nvme_audit.specs.Answers.{answered_in, answer_verdict}
 
-abbrev pub verdict : Start → Past → Event → Verdict
-verdict start past (Tail sq slot) = tail_verdict (sq_after start past sq) slot
-verdict start past (Head cq slot) = head_verdict (cq_after start past cq) slot
-verdict start past (Fetch sq slot cid command) = fetch_verdict start.tells (sq_after start past sq) slot (is_some (outstanding past sq cid))
-verdict start past (Post cq slot completion) =
+-- what the rules say of an event
+abbrev pub ruled : Start → Past → Event → Verdict
+ruled start past (Tail sq slot) = tail_verdict (sq_after start past sq) slot
+ruled start past (Head cq slot) = head_verdict (cq_after start past cq) slot
+ruled start past (Fetch sq slot cid command) = fetch_verdict start.tells (sq_after start past sq) slot (is_some (outstanding past sq cid))
+ruled start past (Post cq slot completion) =
     if_kept
     (post_verdict start.tells cq (cq_after start past cq) (sq_after start past completion.sq) (outstanding past completion.sq completion.cid) slot completion)
     (answer_verdict
@@ -30,6 +31,10 @@ verdict start past (Post cq slot completion) =
     (outstanding past completion.sq completion.cid)
     (outstanding past (sq_named (answered_in (outstanding past completion.sq completion.cid) completion)) (cid_named (answered_in (outstanding past completion.sq completion.cid) completion)))
     completion)
+
+-- what is said of it
+abbrev pub verdict : Start → Past → Event → Verdict
+verdict start past event = if is_lost past then Kept else ruled start past event
 
 abbrev pub is_broken : Verdict → Bool
 is_broken Kept = false

@@ -4,6 +4,7 @@ pub mod Rings
 pub mod Turns
 pub mod Aborts
 pub mod Marks
+pub mod Early
 pub mod Host
 pub mod Facts
 pub mod Rules
@@ -19,6 +20,7 @@ pub mod Shows
 pub mod LateReads
 pub mod CoverageLaws
 pub mod CoverageExamples
+pub mod EarlyExamples
 pub mod RepairLaws
 pub mod RepairExamples
 pub mod inside

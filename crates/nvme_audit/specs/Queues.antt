@@ -46,7 +46,38 @@ was_deleted (Head cq slot ∷ past) q = was_deleted past q
 was_deleted (Fetch sq slot cid command ∷ past) q = was_deleted past q
 was_deleted (Post cq slot completion ∷ past) q = deletes_sq (done past completion) q || was_deleted past q
 
+-- a Create of this submission queue
+abbrev pub opens_sq : AdminCommand → ℕ → Bool
+opens_sq (DeleteSq qid) q = false
+opens_sq (CreateSq qid qsize prp1 cqid qprio pc) q = qid == q
+opens_sq (DeleteCq qid) q = false
+opens_sq (CreateCq qid qsize prp1 pc) q = false
+opens_sq (Abort sqid cid) q = false
+opens_sq (SetFeatures fid sv cdw11) q = false
+opens_sq (GetFeatures fid) q = false
+opens_sq Other q = false
+
 -- ---- completion queues
+abbrev pub opens_cq : AdminCommand → ℕ → Bool
+opens_cq (DeleteSq qid) q = false
+opens_cq (CreateSq qid qsize prp1 cqid qprio pc) q = false
+opens_cq (DeleteCq qid) q = false
+opens_cq (CreateCq qid qsize prp1 pc) q = qid == q
+opens_cq (Abort sqid cid) q = false
+opens_cq (SetFeatures fid sv cdw11) q = false
+opens_cq (GetFeatures fid) q = false
+opens_cq Other q = false
+
+abbrev pub deletes_cq : AdminCommand → ℕ → Bool
+deletes_cq (DeleteSq qid) q = false
+deletes_cq (CreateSq qid qsize prp1 cqid qprio pc) q = false
+deletes_cq (DeleteCq qid) q = qid == q
+deletes_cq (CreateCq qid qsize prp1 pc) q = false
+deletes_cq (Abort sqid cid) q = false
+deletes_cq (SetFeatures fid sv cdw11) q = false
+deletes_cq (GetFeatures fid) q = false
+deletes_cq Other q = false
+
 abbrev pub turns_cq : AdminCommand → ℕ → Bool
 turns_cq (DeleteSq qid) q = false
 turns_cq (CreateSq qid qsize prp1 cqid qprio pc) q = false

@@ -8,7 +8,7 @@ use Rattle.nvme_audit.specs.declared.event.Event.{Event}
 use Rattle.nvme_audit.specs.declared.event.Event.TheVariants.{Tail, Head, Fetch, Post}
 use Rattle.nvme_audit.specs.declared.facts.Start.{Start}
 use Rattle.nvme_audit.specs.declared.scene.Scene.{Scene}
-use Rattle.nvme_audit.specs.declared.scene.Scene.TheVariants.{Doorbell}
+use Rattle.nvme_audit.specs.declared.scene.Scene.TheVariants.{Unjudged}
 use Rattle.nvme_audit.specs.declared.verdict.Verdict.{Verdict}
 use Rattle.nvme_audit.specs.declared.verdict.Verdict.TheVariants.{Kept, Host, Broken}
 use Rattle.nvme_audit.specs.declared.verdict.Rule.{Rule}
@@ -136,7 +136,7 @@ said start past event = said_by (λ queue. is_let_go start past queue) start pas
 
 -- of an event that is passed over no rule asks anything
 abbrev pub scene_said : Start → Past → Event → Scene
-scene_said start past event = if is_passed_over start past event then Doorbell else scene_of start past event
+scene_said start past event = if is_passed_over start past event then Unjudged else scene_of start past event
 
 -- of how many events of a log a rule asks something
 abbrev pub times_said : Start → Past → Rule → ℕ

@@ -1,7 +1,7 @@
 -- What the controller owes at a fetch and at a completion, rule by rule in the order in which they are told.
 -- (Base Specification, Submission Queue y Tail Doorbell, Submission Queue Entry, Completion Queue Entry, Phase Tag, Full Queue,
 -- Create I/O Submission Queue, Delete I/O Submission Queue, SQ Head Pointer)
-use Rattle.std.specs.Prelude.{ℕ, ◌+◌, ◌%◌, ◌==◌, ◌&&◌, ◌||◌, nat_le, Bool, false, not, is_none, List, [], ◌∷◌, Option, Some, None, if◌then◌else◌}
+use Rattle.std.specs.Prelude.{ℕ, ◌+◌, ◌%◌, ◌==◌, ◌&&◌, ◌||◌, nat_le, nat_lt, Bool, false, not, is_none, List, [], ◌∷◌, Option, Some, None, if◌then◌else◌}
 use Rattle.std.specs.Bool.{beq}
 use Rattle.nvme_audit.specs.declared.event.Completion.{Completion}
 use Rattle.nvme_audit.specs.declared.facts.Tells.{Tells}
@@ -78,10 +78,10 @@ slot_checks tells cq qsize slot phase =
     ∷ record { fails = tells.heads && nat_le (cq.consumed + qsize) cq.posted; verdict = Broken rule.CqFull }
     ∷ []
 
--- in an open queue (Create and Delete I/O Completion Queue)
+-- in an open queue, or one of which a Create is outstanding (Create and Delete I/O Completion Queue). A host may read one that was deleted
 abbrev pub slot_rules : Tells → Cq → Option ℕ → Option ℕ → Option Bool → Verdict
-slot_rules tells cq None slot phase = Broken rule.PostClosed
-slot_rules tells cq (Some qsize) slot phase = first_failed (slot_checks tells cq qsize slot phase) Kept
+slot_rules tells cq None slot phase = if not tells.posts || nat_lt cq.answered cq.asked then Kept else Broken rule.PostClosed
+slot_rules tells cq (Some qsize) slot phase = if cq.early then Kept else first_failed (slot_checks tells cq qsize slot phase) Kept
 
 abbrev pub if_kept : Verdict → Verdict → Verdict
 if_kept Kept otherwise = otherwise

@@ -10,6 +10,7 @@ use Rattle.nvme_audit.specs.declared.judge.Judge.{Judge}
 use Rattle.nvme_audit.specs.declared.repair.Gone.{Gone}
 use Rattle.nvme_audit.specs.declared.repair.WholeJudge.{WholeJudge}
 use Rattle.nvme_audit.specs.Lives.{Past}
+use Rattle.nvme_audit.specs.Host.{is_lost}
 use Rattle.nvme_audit.specs.Facts.{sq_after, cq_after, admin_after, outstanding}
 use Rattle.nvme_audit.specs.Repairs.{Queue, All, SQ, CQ, is_let_go}
 
@@ -31,6 +32,7 @@ pub record StandsAt (start : Start) (past : Past) (judge : Judge) : Type 0 where
   pub cqs_are : (q : ℕ) → cq_at judge q ≡ cq_after start past q
   pub admin_is : judge.admin ≡ admin_after past
   pub commands_are : (q c : ℕ) → command_at judge.commands q c ≡ outstanding past q c
+  pub lost_is : judge.lost ≡ is_lost past
 
 -- ---- where a judge goes on
 abbrev pub gone_at : Gone → ℕ → Bool

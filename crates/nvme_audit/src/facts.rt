@@ -73,6 +73,9 @@ pub struct Cq {
     pub joined: u64,
     /// How many of those were deleted, or created anew.
     pub parted: u64,
+    /// Whether a completion came before the host was told that the queue is open. How many came since it was created nobody
+    /// knows then.
+    pub early: bool,
 }
 
 /// The facts of the admin commands.
@@ -157,6 +160,7 @@ impl Cq {
             answered: 0,
             joined: 0,
             parted: 0,
+            early: false,
         }
     }
 }

@@ -27,7 +27,9 @@ pub enum AuditError {
     TooLong,
 }
 
-/// A judge of a controller. It keeps the facts of each queue and the outstanding commands, and no list of the events.
+/// A judge of a controller. It keeps the facts of each queue and the outstanding commands, and no list of the events. Once the
+/// host uses an identifier of the admin queue again while its command is outstanding, nothing is judged any more: which of
+/// the two a completion answers nobody knows.
 #[derive(Drop)]
 pub struct Judge {
     start: Start,
@@ -35,21 +37,23 @@ pub struct Judge {
     cqs: HashMap<u16, Cq>,
     admin: Admin,
     commands: Commands,
+    lost: bool,
 }
 
 impl Judge {
-    ghost use Rattle.std.specs.Prelude.{◌≡◌, ℕ, [], ◌∷◌, OnOk, IfOk, IfErr, MatchBool, MatchOption, true};
+    ghost use Rattle.std.specs.Prelude.{◌≡◌, ℕ, [], ◌∷◌, OnOk, IfOk, IfErr, MatchBool, MatchOption, true, if◌then◌else◌};
     ghost use Rattle.nvme_audit.specs.declared.facts.Start.{Start};
     ghost use Rattle.nvme_audit.specs.Lives.{Past, done_by};
     ghost use Rattle.nvme_audit.specs.Lawful.{verdict, is_broken, log_after, IsLawfulRun, IsFirstBroken};
     ghost use Rattle.nvme_audit.specs.Standing.{sq_at, cq_at, command_at, StandsAt};
     ghost use Rattle.nvme_audit.specs.Facts.{outstanding};
-    ghost use Rattle.nvme_audit.specs.Coverage.{scene_of};
+    ghost use Rattle.nvme_audit.specs.Coverage.{scene_read, scene_of};
     ghost use Rattle.nvme_audit.specs.Repairs.{answered_at, done_at};
     ghost use Rattle.nvme_audit.specs.declared.scene.Scene.TheVariants.{Posted};
     ghost use Rattle.nvme_audit.specs.Answers.{command_in};
     ghost use Rattle.nvme_audit.specs.declared.event.Event.TheVariants.{Post};
-    ghost use Rattle.nvme_audit.specs.inside.Steps.{verdict_at, mark_at, PutsSq, PutsCq, sq_told, cq_released, KeepsFetch, AsksSq, AsksCq, Asks, KeepsPost, AnswersSq, Answers, told_at, Owes, sq_begun, cq_begun, cq_joined, cq_parted, BeginsSq, TurnsSq, Turns, Notes};
+    ghost use Rattle.nvme_audit.specs.declared.verdict.Verdict.TheVariants.{Kept};
+    ghost use Rattle.nvme_audit.specs.inside.Steps.{ruled_at, mark_at, PutsSq, PutsCq, sq_told, cq_released, KeepsFetch, AsksSq, AsksCq, Asks, KeepsPost, AnswersSq, Answers, told_at, Owes, sq_begun, cq_begun, cq_joined, cq_parted, BeginsSq, TurnsSq, Turns, Notes};
 
     /// A judge of the first event.
     pub fn new(alloc: Global, start: Start) -> Judge
@@ -61,6 +65,7 @@ impl Judge {
             cqs: HashMap::new(alloc),
             admin: Admin::first(),
             commands: Commands::new(alloc),
+            lost: false,
         }
     }
 
@@ -95,9 +100,12 @@ impl Judge {
     pub fn scene(&self, event: &Event) -> Scene
         ensures { (start : Start) (past : Past) → StandsAt start past self.now → result ≡ scene_of start past event.now }
     {
+        if self.lost {
+            return Scene::Unjudged;
+        }
         let tells = self.start.tells;
         match *event {
-            Event::Tail { .. } | Event::Head { .. } => Scene::Doorbell,
+            Event::Tail { .. } | Event::Head { .. } => Scene::Unjudged,
             Event::Fetch { sq, slot, .. } => Scene::Fetched(FetchScene {
                 tells,
                 sq: self.sq(sq),
@@ -113,7 +121,7 @@ impl Judge {
 
     // What they read at a completion.
     fn post_scene(&self, q: u16, slot: Option<u16>, completion: Completion) -> PostScene
-        ensures { (start : Start) (past : Past) → StandsAt start past self.now → Posted result ≡ scene_of start past (Post q slot completion) }
+        ensures { (start : Start) (past : Past) → StandsAt start past self.now → Posted result ≡ scene_read start past (Post q slot completion) }
     {
         let command = self.commands.get(completion.sq, completion.cid);
         let asked = answered(command, &completion);
@@ -148,8 +156,16 @@ impl Judge {
         }
     }
 
-    fn verdict(&self, event: &Event) -> Result<Verdict, AuditError>
-        ensures ok { IfOk result (λ v. v ≡ verdict_at self.now event.now) }
+    // What is said of an event of which the rules say this.
+    fn said(&self, ruled: Verdict) -> Verdict
+        ensures { result ≡ (if self.now.lost then Kept else ruled) }
+    {
+        if self.lost { Verdict::Kept } else { ruled }
+    }
+
+    // What the rules say of an event.
+    fn ruled(&self, event: &Event) -> Result<Verdict, AuditError>
+        ensures ok { IfOk result (λ v. v ≡ ruled_at self.now event.now) }
         ensures err { IfErr result (λ e. e ≡ AuditError.TooLong) }
     {
         let tells = &self.start.tells;
@@ -170,7 +186,7 @@ impl Judge {
 
     // What is said of a completion by its slot and its name, and then by its status.
     fn post_verdict(&self, q: u16, slot: Option<u16>, completion: &Completion) -> Verdict
-        ensures { result ≡ verdict_at self.now (Post q slot completion.now) }
+        ensures { result ≡ ruled_at self.now (Post q slot completion.now) }
     {
         let tells = &self.start.tells;
         let command = self.commands.get(completion.sq, completion.cid);
@@ -234,8 +250,10 @@ impl Judge {
         let mut sq = self.sq(q);
         let number = sq.fetched;
         sq.fetched = next(number)?;
-        sq.excused = self.commands.get(q, cid).is_some() || sq.excused;
+        let is_out = self.commands.get(q, cid).is_some();
+        sq.excused = is_out || sq.excused;
         self.put_sq(q, sq)?;
+        self.lost = (q == 0 && is_out) || self.lost;
         let named = self.admin.aborts_answered < self.admin.aborts_asked;
         let taken = Command {
             number,
@@ -254,7 +272,8 @@ impl Judge {
         match command {
             AdminCommand::DeleteSq { qid } => self.ask_sq(qid, true),
             AdminCommand::CreateSq { qid, .. } => self.ask_sq(qid, false),
-            AdminCommand::DeleteCq { qid } | AdminCommand::CreateCq { qid, .. } => self.ask_cq(qid),
+            AdminCommand::DeleteCq { qid } => self.ask_cq(qid, true),
+            AdminCommand::CreateCq { qid, .. } => self.ask_cq(qid, false),
             AdminCommand::Abort { sqid, cid } => {
                 self.admin.aborts_asked = next(self.admin.aborts_asked)?;
                 self.commands.flag(sqid, cid, true, false)
@@ -267,18 +286,22 @@ impl Judge {
         ensures { OnOk result (AsksSq self.old self.new q deletes) }
     {
         let mut sq = self.sq(q);
-        self.admin.met = sq.answered < sq.asked || self.admin.met;
+        let waits = sq.answered < sq.asked;
+        self.admin.met = waits || self.admin.met;
         self.admin.asked = next(self.admin.asked)?;
+        sq.excused = (deletes || waits || sq.ring.is_some()) && sq.excused;
         sq.asked = next(sq.asked)?;
         sq.doomed = deletes || sq.doomed;
         self.put_sq(q, sq)
     }
 
-    fn ask_cq(&mut self, q: u16) -> Result<(), AuditError>
-        ensures { OnOk result (AsksCq self.old self.new q) }
+    fn ask_cq(&mut self, q: u16, deletes: bool) -> Result<(), AuditError>
+        ensures { OnOk result (AsksCq self.old self.new q deletes) }
     {
         let mut cq = self.cq(q);
-        self.admin.met = cq.answered < cq.asked || self.admin.met;
+        let waits = cq.answered < cq.asked;
+        self.admin.met = waits || self.admin.met;
+        cq.excused = (deletes || waits || cq.qsize.is_some()) && cq.excused;
         cq.asked = next(cq.asked)?;
         self.put_cq(q, cq)
     }
@@ -288,6 +311,7 @@ impl Judge {
     {
         let mut cq = self.cq(q);
         cq.posted = next(cq.posted)?;
+        cq.early = (cq.qsize.is_none() && cq.answered < cq.asked) || cq.early;
         self.put_cq(q, cq)?;
         self.commands.remove(completion.sq, completion.cid);
         let mut sq = self.sq(completion.sq);
@@ -413,7 +437,6 @@ impl Judge {
         sq.ring = ring;
         sq.submitted = 0;
         sq.fetched = 0;
-        sq.excused = false;
         sq.stirred = next(sq.stirred)?;
         self.put_sq(q, sq)?;
         self.commands.remove_queue(q);
@@ -427,7 +450,7 @@ impl Judge {
         cq.qsize = qsize;
         cq.posted = 0;
         cq.consumed = 0;
-        cq.excused = false;
+        cq.early = qsize.is_some() && cq.early;
         self.put_cq(q, cq)
     }
 
@@ -439,13 +462,13 @@ impl Judge {
         self.admin.numbers = numbers_by(done, dw0, self.admin.numbers);
     }
 
-    // Counts an event that breaks no rule of the controller.
-    fn keep(&mut self, event: &Event, verdict: Verdict) -> Result<(), AuditError>
-        ensures { (start : Start) (past : Past) → StandsAt start past self.old → verdict ≡ verdict_at self.old event.now → OnOk result (StandsAt start (event.now ∷ past) self.new) }
+    // Counts an event, of which the rules say this.
+    fn keep(&mut self, event: &Event, ruled: Verdict) -> Result<(), AuditError>
+        ensures { (start : Start) (past : Past) → StandsAt start past self.old → ruled ≡ ruled_at self.old event.now → OnOk result (StandsAt start (event.now ∷ past) self.new) }
     {
         match *event {
-            Event::Tail { sq, slot } => self.keep_tail(sq, slot, verdict),
-            Event::Head { cq, slot } => self.keep_head(cq, slot, verdict),
+            Event::Tail { sq, slot } => self.keep_tail(sq, slot, ruled),
+            Event::Head { cq, slot } => self.keep_head(cq, slot, ruled),
             Event::Fetch {
                 sq,
                 cid,
@@ -476,9 +499,10 @@ impl Judge {
         ensures stands { (start : Start) (past : Past) → StandsAt start past self.old → IfOk result (λ v. MatchBool (is_broken v) (self.new ≡ self.old) (StandsAt start (event.now ∷ past) self.new)) }
         ensures told { (start : Start) (past : Past) → StandsAt start past self.old → is_broken (verdict start past event.now) ≡ true → IfErr result (λ e. e ≡ AuditError.TooLong) }
     {
-        let verdict = self.verdict(event)?;
+        let ruled = self.ruled(event)?;
+        let verdict = self.said(ruled);
         if !verdict.is_broken() {
-            self.keep(event, verdict)?;
+            self.keep(event, ruled)?;
         }
         Ok(verdict)
     }
@@ -488,8 +512,9 @@ impl Judge {
         ensures exact { (start : Start) (past : Past) → StandsAt start past self.old → IfOk result (λ v. v ≡ verdict start past event.now) }
         ensures stands { (start : Start) (past : Past) → StandsAt start past self.old → OnOk result (StandsAt start (event.now ∷ past) self.new) }
     {
-        let verdict = self.verdict(event)?;
-        self.keep(event, verdict)?;
+        let ruled = self.ruled(event)?;
+        let verdict = self.said(ruled);
+        self.keep(event, ruled)?;
         Ok(verdict)
     }
 

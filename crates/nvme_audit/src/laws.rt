@@ -2,6 +2,7 @@
 ghost use Rattle.nvme_audit.specs.Laws.{AnsweredOnce, HeadsAreCounts};
 ghost use Rattle.nvme_audit.specs.Examples.{AreJudged, on_the_bus, as_read, doorbells, fetches, completions, late_reads};
 ghost use Rattle.nvme_audit.specs.StatusExamples.{by_name, as_read_by_name, creates, deletes, meetings, foreign, deletions, unasked_aborts, untrue_aborts, features, excused, late_statuses};
+ghost use Rattle.nvme_audit.specs.EarlyExamples.{early_tails, early_heads, early_completions, late_queues, lost_queues, of_early_queues};
 ghost use Rattle.nvme_audit.specs.CoverageLaws.{BrokenIsAsked};
 ghost use Rattle.nvme_audit.specs.CoverageExamples.{AreAsked, on_rings, of_names, of_statuses, of_queues, of_late_reads};
 ghost use Rattle.nvme_audit.specs.RepairLaws.{FirstBreachIsTold};
@@ -25,6 +26,15 @@ pub fn worked_verdicts()
     ensures fetches { AreJudged on_the_bus fetches }
     ensures completions { AreJudged on_the_bus completions }
     ensures late_reads { AreJudged as_read late_reads }
+{}
+
+/// Worked: what is said where a queue is used before the host is told of its Create, and where the host broke a rule.
+pub fn worked_early_queues()
+    ensures early_tails { AreJudged on_the_bus early_tails }
+    ensures early_heads { AreJudged on_the_bus early_heads }
+    ensures early_completions { AreJudged on_the_bus early_completions }
+    ensures late_queues { AreJudged as_read late_queues }
+    ensures lost_queues { AreJudged on_the_bus lost_queues }
 {}
 
 /// Worked: what is said of completions by their statuses.
@@ -53,6 +63,7 @@ pub fn worked_coverage()
     ensures of_statuses { AreAsked by_name of_statuses }
     ensures of_queues { AreAsked by_name of_queues }
     ensures of_late_reads { AreAsked as_read of_late_reads }
+    ensures of_early_queues { AreAsked on_the_bus of_early_queues }
 {}
 
 /// Until the controller breaks a rule a judge that goes on says what one says that stops.

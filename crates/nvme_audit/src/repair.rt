@@ -185,7 +185,7 @@ impl WholeJudge {
         ensures { (start : Start) (past : Past) → GoesOnAt start past self.now → result ≡ scene_said start past event.now }
     {
         if self.is_passed_over(event) {
-            Scene::Doorbell
+            Scene::Unjudged
         } else {
             self.judge.scene(event)
         }

@@ -97,18 +97,19 @@ pub fn tail_verdict(sq: &Sq, slot: u16) -> Result<Verdict, AuditError>
 
 fn head_rules(
     qsize: Option<u16>,
+    early: bool,
     posted: u64,
     consumed: u64,
     slot: u16,
 ) -> Result<Verdict, AuditError>
-    ensures ok { IfOk result (λ v. v ≡ head_rules qsize posted consumed slot) }
+    ensures ok { IfOk result (λ v. v ≡ head_rules qsize early posted consumed slot) }
     ensures err { IfErr result (λ e. e ≡ AuditError.TooLong) }
 {
     let Some(qsize) = qsize else {
         return Ok(Verdict::Host(Breach::HeadRange));
     };
     let after = advanced(qsize, consumed, slot)?;
-    if qsize < slot || posted < after {
+    if qsize < slot || (!early && posted < after) {
         Ok(Verdict::Host(Breach::HeadRange))
     } else {
         Ok(Verdict::Kept)
@@ -123,7 +124,7 @@ pub fn head_verdict(cq: &Cq, slot: u16) -> Result<Verdict, AuditError>
     if cq.excused {
         Ok(Verdict::Kept)
     } else {
-        head_rules(cq.qsize, cq.posted, cq.consumed, slot)
+        head_rules(cq.qsize, cq.early, cq.posted, cq.consumed, slot)
     }
 }
 
@@ -260,9 +261,15 @@ fn slot_rules(
     ensures { result ≡ slot_rules tells.now cq.now qsize slot phase }
 {
     let Some(qsize) = qsize else {
-        return Verdict::Broken(Rule::PostClosed);
+        return if !tells.posts || cq.answered < cq.asked {
+            Verdict::Kept
+        } else {
+            Verdict::Broken(Rule::PostClosed)
+        };
     };
-    if is_other_slot(slot, qsize, cq.posted) {
+    if cq.early {
+        Verdict::Kept
+    } else if is_other_slot(slot, qsize, cq.posted) {
         Verdict::Broken(Rule::Slot)
     } else if is_other_phase(phase, qsize, cq.posted) {
         Verdict::Broken(Rule::Phase)

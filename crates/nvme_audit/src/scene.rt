@@ -1,7 +1,7 @@
 // What the rules read at an event, and which of them ask something of it.
 ghost use Rattle.std.specs.Prelude.{◌≡◌, OnOk, IfOk, map, ◌+◌};
 ghost use Rattle.nvme_audit.specs.Laws.{one_if};
-ghost use Rattle.nvme_audit.specs.Coverage.{is_named, is_owed, says_aborted_one, has_statuses, is_of_a_command, create_asks, delete_asks, sets_numbers, fetch_asks, post_asks, scene_asks, command_of, counted};
+ghost use Rattle.nvme_audit.specs.Coverage.{is_counted, is_named, is_owed, says_aborted_one, has_statuses, is_of_a_command, create_asks, delete_asks, sets_numbers, fetch_asks, post_asks, scene_asks, command_of, counted};
 
 use crate::answers::{answered, is_cq_within, is_specific, is_sq_within, mark_in, told_of};
 use crate::event::Completion;
@@ -44,8 +44,8 @@ pub struct PostScene {
 /// What the rules for the controller read at an event.
 #[derive(Clone, Copy)]
 pub enum Scene {
-    /// A doorbell is the host's.
-    Doorbell,
+    /// A doorbell, which is the host's, or an event that is passed over.
+    Unjudged,
     Fetched(FetchScene),
     Posted(PostScene),
 }
@@ -172,14 +172,14 @@ impl PostScene {
     {
         let (completion, status) = (&self.completion, self.completion.status);
         let mark = mark_in(self.command);
-        let is_open = !self.cq.excused && self.cq.qsize.is_some();
+        let is_counted = !self.cq.excused && self.cq.qsize.is_some() && !self.cq.early;
         let has_ring = self.sq.ring.is_some();
         match rule {
             Rule::FetchClosed | Rule::FetchBeyondTail | Rule::FetchSlot => false,
             Rule::PostClosed => !self.cq.excused,
-            Rule::Slot => is_open && self.slot.is_some(),
-            Rule::Phase => is_open && completion.phase.is_some(),
-            Rule::CqFull => is_open && self.tells.heads,
+            Rule::Slot => is_counted && self.slot.is_some(),
+            Rule::Phase => is_counted && completion.phase.is_some(),
+            Rule::CqFull => is_counted && self.tells.heads,
             _ if !self.is_named() => false,
             Rule::CqWrong => has_ring,
             Rule::Life => has_ring || !self.sq.deleted,
@@ -208,7 +208,7 @@ impl Scene {
         ensures { result ≡ scene_asks self.now rule }
     {
         match self {
-            Scene::Doorbell => false,
+            Scene::Unjudged => false,
             Scene::Fetched(scene) => scene.asks(rule),
             Scene::Posted(scene) => scene.asks(rule),
         }

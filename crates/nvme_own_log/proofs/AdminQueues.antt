@@ -80,10 +80,9 @@ module _ (rules : FrontRules) where
       submitted_is = refl;
       some_slots = none;
       fetched_is = refl;
-      not_excused = refl;
       outs = λ i entry at unposted. absurd (none-some entry at);
     };
-    cq = record { qsize = (start_of rules).acqs; qsize_is = refl; slots_are = λ some. omega (arith, some); posted_is = refl; consumed_is = refl; fits = omega arith; not_excused = refl };
+    cq = record { qsize = (start_of rules).acqs; qsize_is = refl; slots_are = λ some. omega (arith, some); posted_is = refl; consumed_is = refl; fits = omega arith };
   } where
     none : (0 < 0) ⊎ (0 < 0) → 0 < sq_slots rules 0
     none (inl few) = absurd (omega (arith, few))

@@ -1,7 +1,7 @@
 -- What a log says of a queue agrees with the counts of the queue's own side, event by event.
-use Rattle.std.proofs.Common.{◌≡◌, ℕ, zero, suc, ◌+◌, ◌%◌, ◌<◌, ◌≤◌, ◌==◌, ◌&&◌, ◌||◌, Bool, true, false, not, List, [], ◌∷◌, ◌++◌, length, Option, Some, is_some, refl, sym, ap, ◌∙◌, arith, ◌⊎◌, inl, inr}
+use Rattle.std.proofs.Common.{◌≡◌, ℕ, zero, suc, ◌+◌, ◌%◌, ◌<◌, ◌≤◌, ◌==◌, ◌&&◌, Bool, true, false, List, [], ◌∷◌, ◌++◌, length, Option, Some, is_some, refl, sym, ap, ◌∙◌, arith, ◌⊎◌, inl, inr}
 use Rattle.std.specs.Prelude.{slice_get}
-use Rattle.std.proofs.lemmas.Bool.{le-ltb, eq-eqb, ne_eqb}
+use Rattle.std.proofs.lemmas.Bool.{eq-eqb, ne_eqb}
 use Rattle.std.proofs.lemmas.Option.{none-some, same_Some}
 use Rattle.std.proofs.lemmas.List.{length_push}
 use Rattle.nvme_entry.specs.AdminCommand.{admin_command_of}
@@ -12,11 +12,9 @@ use Rattle.nvme_audit.specs.declared.event.Event.TheVariants.{Tail, Head, Fetch,
 use Rattle.nvme_audit.specs.declared.event.Completion.{Completion}
 use Rattle.nvme_audit.specs.declared.facts.Start.{Start}
 use Rattle.nvme_audit.specs.declared.facts.Ring.{Ring}
-use Rattle.nvme_audit.specs.declared.verdict.Verdict.{Verdict}
 use Rattle.nvme_audit.specs.Lives.{Past, turns_sq, asked, done}
 use Rattle.nvme_audit.specs.Queues.{ring_by, ring_of, turns_cq, qsize_by, qsize_of}
-use Rattle.nvme_audit.specs.Rings.{slots_of, gap, advanced, advanced_where_open, qsize_in, submitted, fetched, posted, consumed, number_of}
-use Rattle.nvme_audit.specs.Host.{is_kept, tail_rules, head_rules, is_sq_excused, is_cq_excused}
+use Rattle.nvme_audit.specs.Rings.{slots_of, gap, advanced_where_open, qsize_in, submitted, fetched, posted, consumed, number_of}
 
 -- ---- submission queues
 -- a command is outstanding: its name asks it, under its number
@@ -33,22 +31,7 @@ pub record SqAgrees (start : Start) (log : Past) (q slots cqid many : ℕ) (entr
   pub submitted_is : submitted start log q ≡ many
   pub some_slots : 0 < many ⊎ 0 < length entries → 0 < slots
   pub fetched_is : fetched log q ≡ length entries
-  pub not_excused : is_sq_excused start log q ≡ false
   pub outs : (i : ℕ) (entry : Sqe) → slice_get entries i ≡ Some entry → is_answered i ≡ false → IsOut log q i entry
-
--- a tail that is a slot and leaves room is kept
-tail_kept : (qsize slots s f slot : ℕ) → slots_of qsize ≡ slots → slot < slots → s + gap slots (s % slots) slot < f + slots → is_kept (tail_rules (Some qsize) s f slot) ≡ true
-tail_kept qsize slots s f slot same below fits =
-    let moved : s + gap slots (s % slots) slot ≡ advanced qsize s slot = ap (λ (n : ℕ). s + gap n (s % n) slot) (sym same) in
-    rw (le-ltb qsize slot (omega (arith, same, below)), le-ltb (f + qsize) (advanced qsize s slot) (omega (arith, moved, fits, same))) refl
-
-or_kept : (b : Bool) (v : Verdict) (e : Bool) → is_kept v ≡ true → e ≡ false → ((b && not (is_kept v)) || e) ≡ false
-or_kept true v e k n = rw k n
-or_kept false v e k n = n
-
-and_none : (a b : Bool) → b ≡ false → (a && b) ≡ false
-and_none true b h = h
-and_none false b h = refl
 
 pub no_turn : (a : AdminCommand) (q : ℕ) (ring : Option Ring) → turns_sq a q ≡ false → ring_by a q ring ≡ ring
 no_turn (DeleteSq qid) q ring h = rw h refl
@@ -59,6 +42,10 @@ no_turn (Abort sqid cid) q ring h = refl
 no_turn (SetFeatures fid sv cdw11) q ring h = refl
 no_turn (GetFeatures fid) q ring h = refl
 no_turn Other q ring h = refl
+
+and_none : (a b : Bool) → b ≡ false → (a && b) ≡ false
+and_none true b h = h
+and_none false b h = refl
 
 -- what stands in a list with one more
 get_push : (xs : List Sqe) (y : Sqe) (p : ℕ) (x : Sqe) → slice_get (xs ++ y ∷ []) p ≡ Some x → (slice_get xs p ≡ Some x) ⊎ ((p ≡ length xs) × (y ≡ x))
@@ -84,7 +71,6 @@ module _ (start : Start) (log : Past) (q slots cqid many : ℕ) (entries : List 
     submitted_is = rw other a.submitted_is;
     some_slots = a.some_slots;
     fetched_is = a.fetched_is;
-    not_excused = rw other a.not_excused;
     outs = λ i entry at unanswered. record { asks = (a.outs i entry at unanswered).asks; number_is = (a.outs i entry at unanswered).number_is };
   }
 
@@ -97,7 +83,6 @@ module _ (start : Start) (log : Past) (q slots cqid many : ℕ) (entries : List 
     submitted_is = a.submitted_is;
     some_slots = a.some_slots;
     fetched_is = a.fetched_is;
-    not_excused = a.not_excused;
     outs = λ i entry at unanswered. record { asks = (a.outs i entry at unanswered).asks; number_is = (a.outs i entry at unanswered).number_is };
   }
 
@@ -110,7 +95,6 @@ module _ (start : Start) (log : Past) (q slots cqid many : ℕ) (entries : List 
     submitted_is = a.submitted_is;
     some_slots = a.some_slots;
     fetched_is = rw other a.fetched_is;
-    not_excused = rw other a.not_excused;
     outs = λ i entry at unanswered. record { asks = rw other (a.outs i entry at unanswered).asks; number_is = rw other (a.outs i entry at unanswered).number_is };
   }
 
@@ -129,9 +113,6 @@ module _ (start : Start) (log : Past) (q slots cqid many : ℕ) (entries : List 
             (ap (λ (n : ℕ). many + gap n (many % n) slot) same);
         some_slots = λ some. omega (arith, below);
         fetched_is = a.fetched_is;
-        not_excused =
-            or_kept (sq == q) (tail_rules (qsize_in (ring_of start log q)) (submitted start log q) (fetched log q) slot) (is_sq_excused start log q)
-            (rw (a.ring_is, a.submitted_is, a.fetched_is) (tail_kept a.ring.qsize slots many (length entries) slot same below fits)) a.not_excused;
         outs = λ i entry at unanswered. record { asks = (a.outs i entry at unanswered).asks; number_is = (a.outs i entry at unanswered).number_is };
       }
 
@@ -146,7 +127,6 @@ module _ (start : Start) (log : Past) (q slots cqid many : ℕ) (entries : List 
     submitted_is = a.submitted_is;
     some_slots = λ some. a.some_slots (inl (omega (arith, more)));
     fetched_is = rw (eq-eqb sq q own) (omega (arith, a.fetched_is, length_push entries entry));
-    not_excused = rw (free, and_none (sq == q) false refl) a.not_excused;
     outs = λ i other at unanswered. elim (get_push entries entry i other at) [
       | inl earlier ↦ kept i other (a.outs i other earlier unanswered)
       | inr last ↦ new i other last.0 last.1
@@ -178,7 +158,6 @@ module _ (start : Start) (log : Past) (q slots cqid many : ℕ) (entries : List 
     submitted_is = rw unturned a.submitted_is;
     some_slots = a.some_slots;
     fetched_is = rw unturned a.fetched_is;
-    not_excused = rw unturned a.not_excused;
     outs = λ i entry at unanswered. let left = leaves i entry at unanswered in
         let o = a.outs i entry at left.0 in
         record { asks = rw (unturned, left.1) o.asks; number_is = o.number_is };
@@ -194,7 +173,6 @@ module _ (start : Start) (log : Past) (q slots cqid many : ℕ) (entries : List 
     submitted_is = a.submitted_is;
     some_slots = a.some_slots;
     fetched_is = a.fetched_is;
-    not_excused = a.not_excused;
     outs = λ i entry at unanswered. a.outs i entry at (leaves i unanswered);
   }
 
@@ -213,12 +191,6 @@ pub record CqAgrees (start : Start) (log : Past) (q slots many taken : ℕ) : Ty
   pub posted_is : posted log q ≡ many
   pub consumed_is : consumed start log q ≡ taken
   pub fits : taken ≤ many
-  pub not_excused : is_cq_excused start log q ≡ false
-
-head_kept : (qsize slots p c slot : ℕ) → slots_of qsize ≡ slots → slot < slots → c + gap slots (c % slots) slot ≤ p → is_kept (head_rules (Some qsize) p c slot) ≡ true
-head_kept qsize slots p c slot same below fits =
-    let moved : c + gap slots (c % slots) slot ≡ advanced qsize c slot = ap (λ (n : ℕ). c + gap n (c % n) slot) (sym same) in
-    rw (le-ltb qsize slot (omega (arith, same, below)), le-ltb p (advanced qsize c slot) (omega (arith, moved, fits))) refl
 
 no_cq_turn : (a : AdminCommand) (q : ℕ) (size : Option ℕ) → turns_cq a q ≡ false → qsize_by a q size ≡ size
 no_cq_turn (DeleteSq qid) q size h = refl
@@ -232,10 +204,10 @@ no_cq_turn Other q size h = refl
 
 module _ (start : Start) (log : Past) (q slots many taken : ℕ) where
   pub cq_tail : (sq slot : ℕ) → CqAgrees start log q slots many taken → CqAgrees start (Tail sq slot ∷ log) q slots many taken
-  cq_tail sq slot a = record { qsize = a.qsize; qsize_is = a.qsize_is; slots_are = a.slots_are; posted_is = a.posted_is; consumed_is = a.consumed_is; fits = a.fits; not_excused = a.not_excused }
+  cq_tail sq slot a = record { qsize = a.qsize; qsize_is = a.qsize_is; slots_are = a.slots_are; posted_is = a.posted_is; consumed_is = a.consumed_is; fits = a.fits }
 
   pub cq_fetch : (sq cid : ℕ) (slot : Option ℕ) (command : AdminCommand) → CqAgrees start log q slots many taken → CqAgrees start (Fetch sq slot cid command ∷ log) q slots many taken
-  cq_fetch sq cid slot command a = record { qsize = a.qsize; qsize_is = a.qsize_is; slots_are = a.slots_are; posted_is = a.posted_is; consumed_is = a.consumed_is; fits = a.fits; not_excused = a.not_excused }
+  cq_fetch sq cid slot command a = record { qsize = a.qsize; qsize_is = a.qsize_is; slots_are = a.slots_are; posted_is = a.posted_is; consumed_is = a.consumed_is; fits = a.fits }
 
   pub cq_other_head : (cq slot : ℕ) → (cq == q) ≡ false → CqAgrees start log q slots many taken → CqAgrees start (Head cq slot ∷ log) q slots many taken
   cq_other_head cq slot other a = record {
@@ -245,7 +217,6 @@ module _ (start : Start) (log : Past) (q slots many taken : ℕ) where
     posted_is = a.posted_is;
     consumed_is = rw other a.consumed_is;
     fits = a.fits;
-    not_excused = rw other a.not_excused;
   }
 
   pub cq_head : (cq slot : ℕ) → cq ≡ q → slot < slots → taken + gap slots (taken % slots) slot ≤ many → CqAgrees start log q slots many taken
@@ -261,9 +232,6 @@ module _ (start : Start) (log : Past) (q slots many taken : ℕ) where
             rw (eq-eqb cq q own, ap (λ (o : Option ℕ). advanced_where_open o (consumed start log q) slot) a.qsize_is, a.consumed_is)
             (ap (λ (n : ℕ). taken + gap n (taken % n) slot) same);
         fits = fits;
-        not_excused =
-            or_kept (cq == q) (head_rules (qsize_of start log q) (posted log q) (consumed start log q) slot) (is_cq_excused start log q)
-            (rw (a.qsize_is, a.posted_is, a.consumed_is) (head_kept a.qsize slots many taken slot same below fits)) a.not_excused;
       }
 
   pub cq_other_post : (cq : ℕ) (slot : Option ℕ) (completion : Completion) → turns_cq (done log completion) q ≡ false → (cq == q) ≡ false
@@ -275,7 +243,6 @@ module _ (start : Start) (log : Past) (q slots many taken : ℕ) where
     posted_is = rw (unturned, other) a.posted_is;
     consumed_is = rw unturned a.consumed_is;
     fits = a.fits;
-    not_excused = rw unturned a.not_excused;
   }
 
   pub cq_post : (cq : ℕ) (slot : Option ℕ) (completion : Completion) → turns_cq (done log completion) q ≡ false → cq ≡ q
@@ -287,5 +254,4 @@ module _ (start : Start) (log : Past) (q slots many taken : ℕ) where
     posted_is = rw (unturned, eq-eqb cq q own) (ap (λ (n : ℕ). n + 1) a.posted_is);
     consumed_is = rw unturned a.consumed_is;
     fits = (let few : taken ≤ many = a.fits in omega (arith, few));
-    not_excused = rw unturned a.not_excused;
   }

@@ -200,7 +200,6 @@ module _ (rules : FrontRules) where
             submitted_is = rw turned (sym none.0);
             some_slots = λ some. omega (arith, is.slots_are);
             fetched_is = rw turned (sym (ap length none.1));
-            not_excused = rw turned refl;
             outs = λ k x at open_it. absurd (none-some x (ap (λ (xs : List Sqe). slice_get xs k) (sym none.1) ∙ at));
           })
 

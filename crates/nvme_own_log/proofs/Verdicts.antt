@@ -97,7 +97,7 @@ module _ (start : Start) (log : Past) (q slots many taken : ℕ) (a : CqAgrees s
       let free : (start.tells.heads && nat_le ((cq_after start log q).consumed + a.qsize) (cq_after start log q).posted) ≡ false =
       and_false start.tells.heads _ (lt-leb ((cq_after start log q).consumed + a.qsize) (cq_after start log q).posted (omega (arith, a.posted_is, a.consumed_is, same, room))) in
       ap (λ (o : Option ℕ). slot_rules start.tells (cq_after start log q) o (Some slot) (Some phase)) a.qsize_is
-      ∙ rw (same_number slot _ slot_is, same_phase phase _ phase_is, free) refl
+      ∙ kept_if (cq_after start log q).early _ (rw (same_number slot _ slot_is, same_phase phase _ phase_is, free) refl)
 
 -- both
 pub post_kept : (start : Start) (log : Past) (cq : ℕ) (slot : Option ℕ) (completion : Completion)

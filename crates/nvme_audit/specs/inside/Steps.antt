@@ -14,7 +14,7 @@ use Rattle.nvme_audit.specs.declared.verdict.Verdict.{Verdict}
 use Rattle.nvme_audit.specs.declared.judge.Judge.{Judge}
 use Rattle.nvme_audit.specs.declared.repair.WholeJudge.{WholeJudge}
 use Rattle.nvme_audit.specs.Lives.{turns_sq}
-use Rattle.nvme_audit.specs.Queues.{ring_by, deletes_sq, turns_cq, qsize_by}
+use Rattle.nvme_audit.specs.Queues.{ring_by, deletes_sq, opens_sq, turns_cq, qsize_by, opens_cq, deletes_cq}
 use Rattle.nvme_audit.specs.Rings.{advanced_where_open, qsize_in}
 use Rattle.nvme_audit.specs.Turns.{sq_named, cq_named, cid_named, is_of_sqs, joins, is_on, creates, numbers_by}
 use Rattle.nvme_audit.specs.Aborts.{is_abort, names, is_aborted, told_of}
@@ -25,11 +25,11 @@ use Rattle.nvme_audit.specs.Repairs.{Queue, All, SQ, CQ, lets_go, is_of, turns}
 use Rattle.nvme_audit.specs.Standing.{sq_at, cq_at, command_at, gone_at, gone_in}
 
 -- ---- verdicts, by what is kept
-abbrev pub verdict_at : Judge → Event → Verdict
-verdict_at judge (Tail sq slot) = tail_verdict (sq_at judge sq) slot
-verdict_at judge (Head cq slot) = head_verdict (cq_at judge cq) slot
-verdict_at judge (Fetch sq slot cid command) = fetch_verdict judge.start.tells (sq_at judge sq) slot (is_some (command_at judge.commands sq cid))
-verdict_at judge (Post cq slot completion) =
+abbrev pub ruled_at : Judge → Event → Verdict
+ruled_at judge (Tail sq slot) = tail_verdict (sq_at judge sq) slot
+ruled_at judge (Head cq slot) = head_verdict (cq_at judge cq) slot
+ruled_at judge (Fetch sq slot cid command) = fetch_verdict judge.start.tells (sq_at judge sq) slot (is_some (command_at judge.commands sq cid))
+ruled_at judge (Post cq slot completion) =
     if_kept
     (post_verdict judge.start.tells cq (cq_at judge cq) (sq_at judge completion.sq) (command_at judge.commands completion.sq completion.cid) slot completion)
     (answer_verdict
@@ -98,6 +98,7 @@ cq_released cq slot verdict = record {
   answered = cq.answered;
   joined = cq.joined;
   parted = cq.parted;
+  early = cq.early;
 }
 
 abbrev pub sq_fetched : Sq → Option Command → Sq
@@ -123,6 +124,7 @@ cq_posted cq = record {
   answered = cq.answered;
   joined = cq.joined;
   parted = cq.parted;
+  early = (is_none cq.qsize && nat_lt cq.answered cq.asked) || cq.early;
 }
 
 abbrev pub sq_ended : Completion → Sq → Sq
@@ -145,7 +147,7 @@ sq_asking command q sq = record {
   submitted = sq.submitted;
   fetched = sq.fetched;
   deleted = sq.deleted;
-  excused = sq.excused;
+  excused = (not (opens_sq command q) || (nat_lt sq.answered sq.asked || is_some sq.ring)) && sq.excused;
   asked = if turns_sq command q then sq.asked + 1 else sq.asked;
   answered = sq.answered;
   doomed = deletes_sq command q || sq.doomed;
@@ -157,11 +159,12 @@ cq_asking command q cq = record {
   qsize = cq.qsize;
   posted = cq.posted;
   consumed = cq.consumed;
-  excused = cq.excused;
+  excused = (not (opens_cq command q) || (nat_lt cq.answered cq.asked || is_some cq.qsize)) && cq.excused;
   asked = if turns_cq command q then cq.asked + 1 else cq.asked;
   answered = cq.answered;
   joined = cq.joined;
   parted = cq.parted;
+  early = cq.early;
 }
 
 abbrev pub admin_asking : Bool → AdminCommand → Admin → Admin
@@ -177,10 +180,10 @@ admin_asking meets command admin = record {
 
 -- a Create or a Delete of the queue
 abbrev pub sq_asked : Bool → Sq → Sq
-sq_asked deletes sq = record { ring = sq.ring; submitted = sq.submitted; fetched = sq.fetched; deleted = sq.deleted; excused = sq.excused; asked = sq.asked + 1; answered = sq.answered; doomed = deletes || sq.doomed; stirred = sq.stirred }
+sq_asked deletes sq = record { ring = sq.ring; submitted = sq.submitted; fetched = sq.fetched; deleted = sq.deleted; excused = (deletes || (nat_lt sq.answered sq.asked || is_some sq.ring)) && sq.excused; asked = sq.asked + 1; answered = sq.answered; doomed = deletes || sq.doomed; stirred = sq.stirred }
 
-abbrev pub cq_asked : Cq → Cq
-cq_asked cq = record { qsize = cq.qsize; posted = cq.posted; consumed = cq.consumed; excused = cq.excused; asked = cq.asked + 1; answered = cq.answered; joined = cq.joined; parted = cq.parted }
+abbrev pub cq_asked : Bool → Cq → Cq
+cq_asked deletes cq = record { qsize = cq.qsize; posted = cq.posted; consumed = cq.consumed; excused = (deletes || (nat_lt cq.answered cq.asked || is_some cq.qsize)) && cq.excused; asked = cq.asked + 1; answered = cq.answered; joined = cq.joined; parted = cq.parted; early = cq.early }
 
 -- ---- when it is answered
 abbrev pub sq_answering : AdminCommand → ℕ → Sq → Sq
@@ -206,6 +209,7 @@ cq_answering command q cq = record {
   answered = if turns_cq command q then cq.answered + 1 else cq.answered;
   joined = cq.joined;
   parted = cq.parted;
+  early = cq.early;
 }
 
 abbrev pub admin_answering : AdminCommand → Admin → Admin
@@ -229,7 +233,7 @@ sq_turned command q sq = record {
   submitted = if turns_sq command q then 0 else sq.submitted;
   fetched = if turns_sq command q then 0 else sq.fetched;
   deleted = deletes_sq command q || sq.deleted;
-  excused = not (turns_sq command q) && sq.excused;
+  excused = sq.excused;
   asked = sq.asked;
   answered = sq.answered;
   doomed = sq.doomed;
@@ -241,18 +245,19 @@ cq_turned command ended q cq = record {
   qsize = qsize_by command q cq.qsize;
   posted = if turns_cq command q then 0 else cq.posted;
   consumed = if turns_cq command q then 0 else cq.consumed;
-  excused = not (turns_cq command q) && cq.excused;
+  excused = cq.excused;
   asked = cq.asked;
   answered = cq.answered;
   joined = if joins command q then cq.joined + 1 else cq.joined;
   parted = if is_on q ended then cq.parted + 1 else cq.parted;
+  early = not (deletes_cq command q) && cq.early;
 }
 
 abbrev pub cq_joined : Cq → Cq
-cq_joined cq = record { qsize = cq.qsize; posted = cq.posted; consumed = cq.consumed; excused = cq.excused; asked = cq.asked; answered = cq.answered; joined = cq.joined + 1; parted = cq.parted }
+cq_joined cq = record { qsize = cq.qsize; posted = cq.posted; consumed = cq.consumed; excused = cq.excused; asked = cq.asked; answered = cq.answered; joined = cq.joined + 1; parted = cq.parted; early = cq.early }
 
 abbrev pub cq_parted : Cq → Cq
-cq_parted cq = record { qsize = cq.qsize; posted = cq.posted; consumed = cq.consumed; excused = cq.excused; asked = cq.asked; answered = cq.answered; joined = cq.joined; parted = cq.parted + 1 }
+cq_parted cq = record { qsize = cq.qsize; posted = cq.posted; consumed = cq.consumed; excused = cq.excused; asked = cq.asked; answered = cq.answered; joined = cq.joined; parted = cq.parted + 1; early = cq.early }
 
 abbrev pub admin_noting : AdminCommand → Option ℕ → Admin → Admin
 admin_noting command dw0 admin = record {
@@ -269,6 +274,7 @@ admin_noting command dw0 admin = record {
 -- of a judge the facts of one submission queue change
 pub record PutsSq (old new : Judge) (q : ℕ) (sq : Sq) : Type 0 where
   pub start_stays : new.start ≡ old.start
+  pub lost_stays : new.lost ≡ old.lost
   pub puts : (k : ℕ) → sq_at new k ≡ (if q == k then sq else sq_at old k)
   pub cqs_stay : (k : ℕ) → cq_at new k ≡ cq_at old k
   pub admin_stays : new.admin ≡ old.admin
@@ -277,6 +283,7 @@ pub record PutsSq (old new : Judge) (q : ℕ) (sq : Sq) : Type 0 where
 -- of a judge the facts of one completion queue change
 pub record PutsCq (old new : Judge) (q : ℕ) (cq : Cq) : Type 0 where
   pub start_stays : new.start ≡ old.start
+  pub lost_stays : new.lost ≡ old.lost
   pub sqs_stay : (k : ℕ) → sq_at new k ≡ sq_at old k
   pub puts : (k : ℕ) → cq_at new k ≡ (if q == k then cq else cq_at old k)
   pub admin_stays : new.admin ≡ old.admin
@@ -284,6 +291,7 @@ pub record PutsCq (old new : Judge) (q : ℕ) (cq : Cq) : Type 0 where
 
 pub record KeepsFetch (old new : Judge) (sq cid : ℕ) (command : AdminCommand) : Type 0 where
   pub start_stays : new.start ≡ old.start
+  pub lost : new.lost ≡ ((sq == 0) && is_some (command_at old.commands sq cid)) || old.lost
   pub sqs : (k : ℕ) → sq_at new k ≡ (if sq == k then sq_fetched (sq_at old sq) (command_at old.commands sq cid) else sq_at old k)
   pub cqs_stay : (k : ℕ) → cq_at new k ≡ cq_at old k
   pub admin_stays : new.admin ≡ old.admin
@@ -297,20 +305,23 @@ flagged named owed (Some command) = Some (record { number = command.number; comm
 -- a Create or a Delete of one queue
 pub record AsksSq (old new : Judge) (q : ℕ) (deletes : Bool) : Type 0 where
   pub start_stays : new.start ≡ old.start
+  pub lost_stays : new.lost ≡ old.lost
   pub sqs : (k : ℕ) → sq_at new k ≡ (if q == k then sq_asked deletes (sq_at old q) else sq_at old k)
   pub cqs_stay : (k : ℕ) → cq_at new k ≡ cq_at old k
   pub admin : new.admin ≡ record { asked = old.admin.asked + 1; answered = old.admin.answered; met = nat_lt (sq_at old q).answered (sq_at old q).asked || old.admin.met; created = old.admin.created; numbers = old.admin.numbers; aborts_asked = old.admin.aborts_asked; aborts_answered = old.admin.aborts_answered }
   pub commands_stay : new.commands ≡ old.commands
 
-pub record AsksCq (old new : Judge) (q : ℕ) : Type 0 where
+pub record AsksCq (old new : Judge) (q : ℕ) (deletes : Bool) : Type 0 where
   pub start_stays : new.start ≡ old.start
+  pub lost_stays : new.lost ≡ old.lost
   pub sqs_stay : (k : ℕ) → sq_at new k ≡ sq_at old k
-  pub cqs : (k : ℕ) → cq_at new k ≡ (if q == k then cq_asked (cq_at old q) else cq_at old k)
+  pub cqs : (k : ℕ) → cq_at new k ≡ (if q == k then cq_asked deletes (cq_at old q) else cq_at old k)
   pub admin : new.admin ≡ record { asked = old.admin.asked; answered = old.admin.answered; met = nat_lt (cq_at old q).answered (cq_at old q).asked || old.admin.met; created = old.admin.created; numbers = old.admin.numbers; aborts_asked = old.admin.aborts_asked; aborts_answered = old.admin.aborts_answered }
   pub commands_stay : new.commands ≡ old.commands
 
 pub record Asks (old new : Judge) (command : AdminCommand) : Type 0 where
   pub start_stays : new.start ≡ old.start
+  pub lost_stays : new.lost ≡ old.lost
   pub sqs : (k : ℕ) → sq_at new k ≡ sq_asking command k (sq_at old k)
   pub cqs : (k : ℕ) → cq_at new k ≡ cq_asking command k (cq_at old k)
   pub admin : new.admin ≡ admin_asking (meets_at old command) command old.admin
@@ -318,6 +329,7 @@ pub record Asks (old new : Judge) (command : AdminCommand) : Type 0 where
 
 pub record KeepsPost (old new : Judge) (cq : ℕ) (completion : Completion) : Type 0 where
   pub start_stays : new.start ≡ old.start
+  pub lost_stays : new.lost ≡ old.lost
   pub sqs : (k : ℕ) → sq_at new k ≡ (if completion.sq == k then sq_ended completion (sq_at old completion.sq) else sq_at old k)
   pub cqs : (k : ℕ) → cq_at new k ≡ (if cq == k then cq_posted (cq_at old cq) else cq_at old k)
   pub admin_stays : new.admin ≡ old.admin
@@ -325,6 +337,7 @@ pub record KeepsPost (old new : Judge) (cq : ℕ) (completion : Completion) : Ty
 
 pub record AnswersSq (old new : Judge) (q : ℕ) : Type 0 where
   pub start_stays : new.start ≡ old.start
+  pub lost_stays : new.lost ≡ old.lost
   pub sqs : (k : ℕ) → sq_at new k ≡ (if q == k then sq_answered (sq_at old q) else sq_at old k)
   pub cqs_stay : (k : ℕ) → cq_at new k ≡ cq_at old k
   pub admin : new.admin ≡ record { asked = old.admin.asked; answered = old.admin.answered + 1; met = old.admin.met; created = old.admin.created; numbers = old.admin.numbers; aborts_asked = old.admin.aborts_asked; aborts_answered = old.admin.aborts_answered }
@@ -332,6 +345,7 @@ pub record AnswersSq (old new : Judge) (q : ℕ) : Type 0 where
 
 pub record Answers (old new : Judge) (command : AdminCommand) : Type 0 where
   pub start_stays : new.start ≡ old.start
+  pub lost_stays : new.lost ≡ old.lost
   pub sqs : (k : ℕ) → sq_at new k ≡ sq_answering command k (sq_at old k)
   pub cqs : (k : ℕ) → cq_at new k ≡ cq_answering command k (cq_at old k)
   pub admin : new.admin ≡ admin_answering command old.admin
@@ -343,6 +357,7 @@ told_at judge completion command = told_of (sq_at judge (sq_named command)).stir
 
 pub record Owes (old new : Judge) (command : AdminCommand) (told : Bool) : Type 0 where
   pub start_stays : new.start ≡ old.start
+  pub lost_stays : new.lost ≡ old.lost
   pub sqs_stay : (k : ℕ) → sq_at new k ≡ sq_at old k
   pub cqs_stay : (k : ℕ) → cq_at new k ≡ cq_at old k
   pub admin_stays : new.admin ≡ old.admin
@@ -355,7 +370,7 @@ sq_begun ring sq = record {
   submitted = 0;
   fetched = 0;
   deleted = is_none ring || sq.deleted;
-  excused = false;
+  excused = sq.excused;
   asked = sq.asked;
   answered = sq.answered;
   doomed = sq.doomed;
@@ -367,15 +382,17 @@ cq_begun qsize cq = record {
   qsize = qsize;
   posted = 0;
   consumed = 0;
-  excused = false;
+  excused = cq.excused;
   asked = cq.asked;
   answered = cq.answered;
   joined = cq.joined;
   parted = cq.parted;
+  early = is_some qsize && cq.early;
 }
 
 pub record BeginsSq (old new : Judge) (q : ℕ) (sq : Sq) : Type 0 where
   pub start_stays : new.start ≡ old.start
+  pub lost_stays : new.lost ≡ old.lost
   pub sqs : (k : ℕ) → sq_at new k ≡ (if q == k then sq else sq_at old k)
   pub cqs_stay : (k : ℕ) → cq_at new k ≡ cq_at old k
   pub admin_stays : new.admin ≡ old.admin
@@ -392,10 +409,12 @@ cq_joining begun ended q cq = record {
   answered = cq.answered;
   joined = if is_on q begun then cq.joined + 1 else cq.joined;
   parted = if is_on q ended then cq.parted + 1 else cq.parted;
+  early = cq.early;
 }
 
 pub record TurnsSq (old new : Judge) (q : ℕ) (ring : Option Ring) : Type 0 where
   pub start_stays : new.start ≡ old.start
+  pub lost_stays : new.lost ≡ old.lost
   pub sqs : (k : ℕ) → sq_at new k ≡ (if q == k then sq_begun ring (sq_at old q) else sq_at old k)
   pub cqs : (k : ℕ) → cq_at new k ≡ cq_joining ring (sq_at old q).ring k (cq_at old k)
   pub admin_stays : new.admin ≡ old.admin
@@ -403,6 +422,7 @@ pub record TurnsSq (old new : Judge) (q : ℕ) (ring : Option Ring) : Type 0 whe
 
 pub record Turns (old new : Judge) (command : AdminCommand) : Type 0 where
   pub start_stays : new.start ≡ old.start
+  pub lost_stays : new.lost ≡ old.lost
   pub sqs : (k : ℕ) → sq_at new k ≡ sq_turned command k (sq_at old k)
   pub cqs : (k : ℕ) → cq_at new k ≡ cq_turned command (ring_ended_at old command) k (cq_at old k)
   pub admin_stays : new.admin ≡ old.admin
@@ -410,6 +430,7 @@ pub record Turns (old new : Judge) (command : AdminCommand) : Type 0 where
 
 pub record Notes (old new : Judge) (command : AdminCommand) (dw0 : Option ℕ) : Type 0 where
   pub start_stays : new.start ≡ old.start
+  pub lost_stays : new.lost ≡ old.lost
   pub sqs_stay : (k : ℕ) → sq_at new k ≡ sq_at old k
   pub cqs_stay : (k : ℕ) → cq_at new k ≡ cq_at old k
   pub admin : new.admin ≡ admin_noting command dw0 old.admin
