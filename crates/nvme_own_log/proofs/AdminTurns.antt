@@ -150,7 +150,7 @@ pub data Turn (placing : Option Placing) (regions : List Region) (v : Verdict) (
   deletes : b ≡ true → command ≡ DeleteSq q → v ≡ verdict.BeginDelete q → Turn placing regions v command b q
   neither : ((region cqid : ℕ) (class : Class) → v ≡ verdict.OpenSq q region cqid class → ⊥) → (v ≡ verdict.BeginDelete q → ⊥) → (b ≡ true → turns_sq command q ≡ false) → Turn placing regions v command b q
 
-slots_get : (regions : List Region) (k : ℕ) (x : Region) → slice_get regions k ≡ Some x → slots_at regions k ≡ x.slots
+pub slots_get : (regions : List Region) (k : ℕ) (x : Region) → slice_get regions k ≡ Some x → slots_at regions k ≡ x.slots
 slots_get [] k x e = absurd (none-some x e)
 slots_get (y ∷ regions) zero x e = ap (λ (z : Region). z.slots) (same_Some y x e)
 slots_get (y ∷ regions) (suc k) x e = slots_get regions k x e

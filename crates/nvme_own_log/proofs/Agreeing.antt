@@ -48,7 +48,7 @@ and_none true b h = h
 and_none false b h = refl
 
 -- what stands in a list with one more
-get_push : (xs : List Sqe) (y : Sqe) (p : ℕ) (x : Sqe) → slice_get (xs ++ y ∷ []) p ≡ Some x → (slice_get xs p ≡ Some x) ⊎ ((p ≡ length xs) × (y ≡ x))
+pub get_push : (xs : List Sqe) (y : Sqe) (p : ℕ) (x : Sqe) → slice_get (xs ++ y ∷ []) p ≡ Some x → (slice_get xs p ≡ Some x) ⊎ ((p ≡ length xs) × (y ≡ x))
 get_push [] y zero x h = inr (refl, same_Some y x h)
 get_push [] y (suc p) x h = absurd (none-some x h)
 get_push (z ∷ xs) y zero x h = inl h
@@ -192,7 +192,7 @@ pub record CqAgrees (start : Start) (log : Past) (q slots many taken : ℕ) : Ty
   pub consumed_is : consumed start log q ≡ taken
   pub fits : taken ≤ many
 
-no_cq_turn : (a : AdminCommand) (q : ℕ) (size : Option ℕ) → turns_cq a q ≡ false → qsize_by a q size ≡ size
+pub no_cq_turn : (a : AdminCommand) (q : ℕ) (size : Option ℕ) → turns_cq a q ≡ false → qsize_by a q size ≡ size
 no_cq_turn (DeleteSq qid) q size h = refl
 no_cq_turn (CreateSq qid qsize prp1 cqid qprio pc) q size h = refl
 no_cq_turn (DeleteCq qid) q size h = rw h refl

@@ -40,7 +40,7 @@ names_free rules (shows.Post cq slot completion ∷ log) d = (tt, names_free rul
 
 module _ (rules : FrontRules) where
   -- the picks before a note are lawful too
-  run_before : (note : Note) (notes : Notes) → IsLimitedRun rules.mechanism rules.start.settings (arbitration_of (logged (note ∷ notes))) → IsLimitedRun rules.mechanism rules.start.settings (arbitration_of (logged notes))
+  pub run_before : (note : Note) (notes : Notes) → IsLimitedRun rules.mechanism rules.start.settings (arbitration_of (logged (note ∷ notes))) → IsLimitedRun rules.mechanism rules.start.settings (arbitration_of (logged notes))
   run_before (Logged e) notes l = lawful-before rules e (logged notes) l
   run_before note notes l = l
 

@@ -1,7 +1,7 @@
 -- What is shown of every submission queue agrees with its region at each note, so the fetches from it keep the rules.
-use Rattle.std.proofs.Common.{◌≡◌, ℕ, ◌%◌, ◌<◌, ◌==◌, ◌&&◌, Bool, true, false, if◌then◌else◌, List, [], ◌∷◌, ◌++◌, length, Option, Some, None, refl, sym, ap, ◌∙◌, subst, arith, ◌⊎◌, inl, inr, eqb-true, zero, suc}
+use Rattle.std.proofs.Common.{◌≡◌, ℕ, ◌%◌, ◌<◌, ◌==◌, ◌&&◌, Bool, true, false, if◌then◌else◌, List, [], ◌∷◌, ◌++◌, length, Option, Some, None, refl, sym, ap, ◌∙◌, subst, arith, ◌⊎◌, inl, inr, eqb-true}
 use Rattle.std.specs.Prelude.{slice_get}
-use Rattle.std.proofs.lemmas.Bool.{cases_eq, eq-eqb, ne_eqb, or_cases, or_parts, or_right, and_parts, false_from_ne_true}
+use Rattle.std.proofs.lemmas.Bool.{cases_eq, eq-eqb, ne_eqb, or_cases, or_parts, and_parts, false_from_ne_true}
 use Rattle.std.proofs.lemmas.Option.{none-some, same_Some}
 use Rattle.nvme_entry.specs.AdminCommand.{admin_command_of}
 use Rattle.nvme_entry.specs.declared.submission.Sqe.{Sqe}
@@ -9,25 +9,22 @@ use Rattle.nvme_entry.specs.declared.completion.Cqe.{Cqe}
 use Rattle.nvme_arbiter.specs.declared.settings.Class.{Class}
 use Rattle.nvme_arbiter.specs.Limits.{queue_limit}
 use Rattle.nvme_arbiter.specs.Lawful.{IsLimitedRun}
-use Rattle.nvme_admin.specs.Accepted.{queue_table, verdict_of}
+use Rattle.nvme_admin.specs.Accepted.{queue_table}
 use Rattle.nvme_admin.specs.History.{Submission}
 use Rattle.nvme_admin.specs.QueueTable.{admin_sq, admin_cq}
 use Rattle.nvme_admin.specs.declared.region.Region.{Region}
-use Rattle.nvme_admin.specs.declared.verdict.Verdict.{Verdict}
-use Rattle.nvme_admin.specs.declared.verdict.Verdict.TheVariants as verdict
 use Rattle.nvme_log.specs.declared.event.Event.{Event}
 use Rattle.nvme_log.specs.declared.event.Event.TheVariants.{Fetch, SetArbitration, OpenSq, OpenCq, Closing, Abort, Post, ClosedSq, ClosedCq}
 use Rattle.nvme_log.specs.declared.event.Event.TheVariants as event
 use Rattle.nvme_log.specs.Rules.{FrontRules, Past, Each, upto, sq_regions_of, cq_regions_of}
 use Rattle.nvme_log.specs.Queues.{Queue, admin_queue, open_sq, has_region, is_open_region, qid_of_region}
 use Rattle.nvme_log.specs.Places.{fetched, picked, fate_of, is_waiting}
-use Rattle.nvme_log.specs.Histories.{arbitration_of, table_history, admin_entry, applied}
+use Rattle.nvme_log.specs.Histories.{arbitration_of, table_history}
 use Rattle.nvme_log.specs.Completions.{is_posted}
 use Rattle.nvme_log.specs.Effects.{EffectsAtOnce}
 use Rattle.nvme_log.specs.Laws.{as_open, StartsWithAdmin}
 use Rattle.nvme_log.proofs.LoadedRegions.{region-owned}
 use Rattle.nvme_log.proofs.Turns.{region_0-used}
-use Rattle.nvme_log.proofs.UsedRegions.{used_after, used-entry, used-finished}
 use Rattle.nvme_ctrl_log.specs.Notes.{Notes, Note, Logged, Tail, Head, EachNote, logged}
 use Rattle.nvme_ctrl_log.specs.Doorbells.{sq_slots, submitted}
 use Rattle.nvme_ctrl_log.specs.Making.{placing_in}
@@ -38,6 +35,9 @@ use Rattle.nvme_audit.specs.Lives.{turns_sq}
 use Rattle.nvme_own_log.specs.Shown.{start_of, shown, fetch_of}
 use Rattle.nvme_own_log.specs.Duties.{IsFreeName, NamesAreFree, KeepsDuties, IsDutiful}
 use Rattle.nvme_own_log.proofs.AdminQueues.{AdminAt, admin_asks, admin_agrees, effects_of}
+use Rattle.nvme_own_log.proofs.Agreeing.{get_push}
+use Rattle.nvme_own_log.proofs.CqRegions.{region_with}
+use Rattle.nvme_own_log.proofs.SqRegions.{used_after_event}
 use Rattle.nvme_own_log.proofs.EachEvent.{free_before}
 use Rattle.nvme_own_log.proofs.AdminTurns.{takes_next, takes_other}
 use Rattle.nvme_own_log.proofs.Answered.{IsPosted, posted_so}
@@ -46,24 +46,15 @@ use Rattle.nvme_own_log.proofs.Phases.{IsPending, AreAlone, Stage, untold, told_
 use Rattle.nvme_own_log.proofs.PhaseSteps.{AreUsed, any_of, Telling, nothing, begins, finishes, at_fetch, at_post, at_closed, at_pick}
 use Rattle.nvme_own_log.proofs.Queues.{QueueAt, Seen, seen_tail, seen_head, seen_fetch, seen_post, seen_begins, seen_ends, unturned}
 
-get_push : (xs : List Sqe) (y : Sqe) (p : ℕ) (x : Sqe) → slice_get (xs ++ y ∷ []) p ≡ Some x → (slice_get xs p ≡ Some x) ⊎ ((p ≡ length xs) × (y ≡ x))
-get_push [] y zero x h = inr (refl, same_Some y x h)
-get_push [] y (suc p) x h = absurd (none-some x h)
-get_push (z ∷ xs) y zero x h = inl h
-get_push (z ∷ xs) y (suc p) x h = elim (get_push xs y p x h) [
-  | inl e ↦ inl e
-  | inr e ↦ inr (ap (λ (k : ℕ). suc k) e.0 ∙ refl, e.1)
-]
-
 -- the admin queues have their regions
-some_sqs : (rules : FrontRules) → StartsWithAdmin rules → 0 < length (sq_regions_of rules)
+pub some_sqs : (rules : FrontRules) → StartsWithAdmin rules → 0 < length (sq_regions_of rules)
 unfolding queue_table
 some_sqs rules starts = by (sq_regions_of rules) (starts.sq 0) where
   by : (rs : List Region) → Some admin_queue ≡ as_open (admin_sq rs) → 0 < length rs
   by [] e = cc e
   by (x ∷ rs) e = omega arith
 
-some_cqs : (rules : FrontRules) → StartsWithAdmin rules → 0 < length (cq_regions_of rules)
+pub some_cqs : (rules : FrontRules) → StartsWithAdmin rules → 0 < length (cq_regions_of rules)
 unfolding queue_table
 some_cqs rules starts = by (cq_regions_of rules) (starts.cq 0) where
   by : (rs : List Region) → Some 0 ≡ admin_cq rs → 0 < length rs
@@ -71,21 +62,6 @@ some_cqs rules starts = by (cq_regions_of rules) (starts.cq 0) where
   by (x ∷ rs) e = omega arith
 
 module _ (rules : FrontRules) where
-  -- ---- regions that are used
-  used_stays : (v : Verdict) (before : ℕ → Bool) (r : ℕ) → before r ≡ true → used_after v before r ≡ true
-  used_stays (verdict.OpenSq qid region cqid class) before r h = or_right (region == r) (before r) h
-  used_stays v before r h = h
-
-  pub used_after_event : (e : Event) (past : Past) → (r : ℕ)
-      → (queue_table rules.start (table_history rules past)).sq_region_used r ≡ true → (queue_table rules.start (table_history rules (e ∷ past))).sq_region_used r ≡ true
-  used_after_event (event.Pick seen pick) past r h = by (pick.qid == 0) (admin_entry past) where
-    by : (b : Bool) (o : Option Sqe) → (queue_table rules.start (if b then applied o ++ table_history rules past else table_history rules past)).sq_region_used r ≡ true
-    by false o = h
-    by true None = h
-    by true (Some entry) = used-entry rules.start (table_history rules past) entry r ∙ used_stays (verdict_of rules.start (table_history rules past) entry) _ r h
-  used_after_event (ClosedSq qid region) past r h = used-finished rules.start (table_history rules past) qid r ∙ h
-  used_after_event e past r h = h
-
   -- what holds at each note
   pub record QueuesAt (notes : Notes) : Type 0 where
     pub used : AreUsed rules (logged notes)
@@ -211,7 +187,7 @@ module _ (rules : FrontRules) where
       | inl same ↦ subst (λ (z : ℕ). QueueAt rules (Logged (Closing z region) ∷ notes) q) (sym same)
           (record {
             stage = x.stage;
-            phase = closing_own rules past q region x.stage (region-owned rules past effects q) (subst (λ (z : ℕ). EffectsAtOnce rules past (Closing z region)) same it.effects_at_once) x.phase;
+            phase = closing_own rules past q region x.stage (λ queue o. (region-owned rules past effects q queue o, region_with rules past effects q queue o)) (subst (λ (z : ℕ). EffectsAtOnce rules past (Closing z region)) same it.effects_at_once) x.phase;
             seen = now x.stage x.seen;
           })
       | inr other ↦ record {
@@ -298,7 +274,7 @@ module _ (rules : FrontRules) where
       };
     }
     at_event (event.Pick seen pick) notes h sound before admin duties free at = record {
-      used = λ r p own. used_after_event (event.Pick seen pick) (logged notes) r (at.used r p own);
+      used = λ r p own. used_after_event rules (event.Pick seen pick) (logged notes) r (at.used r p own);
       alone = at.alone;
       picked_posts = λ k p. let few = at.picked_posts k p in elim (cases_eq pick.qid 0) [
         | inl zero_is ↦ (let next = takes_next rules (logged notes) seen pick sound zero_is in omega (arith, few, next.one_more))
@@ -340,7 +316,7 @@ module _ (rules : FrontRules) where
       queue = λ q io. queue_post notes h.1 at q c s i cqe h.0 before admin free (at.queue q io);
     }
     at_event (ClosedSq qid s) notes h sound before admin duties free at = record {
-      used = λ r p own. used_after_event (ClosedSq qid s) (logged notes) r (at.used r p own);
+      used = λ r p own. used_after_event rules (ClosedSq qid s) (logged notes) r (at.used r p own);
       alone = at.alone;
       picked_posts = at.picked_posts;
       untouched = at.untouched;

@@ -1,5 +1,9 @@
 mod ExampleLogs
 mod OwnRegions
+mod PickEvents
+mod CqRegions
+mod SqRegions
+mod ShutRegions
 mod Agreeing
 mod Answered
 mod Steps
@@ -8,7 +12,14 @@ mod EachEvent
 mod AdminQueues
 mod AdminTurns
 mod Phases
+mod PickedCommands
 mod PhaseSteps
 mod Queues
 mod IoQueues
 mod Fetches
+mod CqsAlone
+mod CqTurns
+mod CqPhases
+mod CqSteps
+mod CqQueues
+mod Completions

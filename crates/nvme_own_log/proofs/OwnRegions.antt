@@ -1,5 +1,5 @@
 -- Region 0 is that of the admin queues, and of no other queue.
-use Rattle.std.proofs.Common.{◌≡◌, ℕ, ◌==◌, Bool, true, false, if◌then◌else◌, List, [], ◌∷◌, map, take, Option, Some, None, refl, ap, ◌∙◌, subst, inl, inr}
+use Rattle.std.proofs.Common.{◌≡◌, ℕ, ◌==◌, Bool, true, false, if◌then◌else◌, List, [], ◌∷◌, map, take, Option, Some, None, refl, sym, ap, ◌∙◌, subst, inl, inr}
 use Rattle.std.proofs.lemmas.Bool.{eqb-true, ne_eqb}
 use Rattle.std.proofs.lemmas.Option.{none-some, same_Some}
 use Rattle.nvme_arbiter.specs.declared.settings.Class.{Class}
@@ -26,6 +26,11 @@ cq_not_abort qid region r [] h = h
 cq_not_abort qid region r (k ∷ is) (inl e) = cc e
 cq_not_abort qid region r (k ∷ is) (inr h) = cq_not_abort qid region r is h
 
+closed_not_abort : (qid region r : ℕ) (is : List ℕ) → IsIn (ClosedCq qid region) (map (λ (k : ℕ). event.Abort r k) is) → ⊥
+closed_not_abort qid region r [] h = h
+closed_not_abort qid region r (k ∷ is) (inl e) = cc e
+closed_not_abort qid region r (k ∷ is) (inr h) = closed_not_abort qid region r is h
+
 -- a completion queue is opened by its Create
 pub cq_opened-by : (past : Past) (v : Verdict) (qid region : ℕ) → IsIn (OpenCq qid region) (made_by past v) → v ≡ verdict.OpenCq qid region
 cq_opened-by past (verdict.Done status dw0) qid region h = absurd h
@@ -46,9 +51,33 @@ cq_opened-by past (verdict.Abort s c) qid region h = by (target_of past s) h whe
   by (Some queue) k = absurd (cq_not_abort qid region queue.region (take 1 (named past queue.region c)) k)
 cq_opened-by past (verdict.SetArbitration settings) qid region h = absurd (let e : event.SetArbitration settings ≡ OpenCq qid region = only _ _ h in cc)
 
+-- and closed by its Delete
+pub cq_closed-by : (past : Past) (v : Verdict) (qid region : ℕ) → IsIn (ClosedCq qid region) (made_by past v) → (v ≡ verdict.CloseCq qid) × (open_cq past qid ≡ Some region)
+cq_closed-by past (verdict.Done status dw0) qid region h = absurd h
+cq_closed-by past (verdict.OpenSq q r c k) qid region h = absurd (let e : OpenSq q r c k ≡ ClosedCq qid region = only _ _ h in cc)
+cq_closed-by past (verdict.OpenCq q r) qid region h = absurd (let e : OpenCq q r ≡ ClosedCq qid region = only _ _ h in cc)
+cq_closed-by past (verdict.BeginDelete q) qid region h = by (open_sq past q) h where
+  by : (o : Option Queue) → IsIn (ClosedCq qid region) (closing_of past q o) → (verdict.BeginDelete q ≡ verdict.CloseCq qid) × (open_cq past qid ≡ Some region)
+  by None k = absurd k
+  by (Some queue) (inl e) = absurd (cc e)
+  by (Some queue) (inr k) = absurd (closed_not_abort qid region queue.region (waiting past queue.region) k)
+cq_closed-by past (verdict.CloseCq q) qid region h = by (open_cq past q) refl h where
+  by : (o : Option ℕ) → open_cq past q ≡ o → IsIn (ClosedCq qid region) (closed_cq_of q o) → (verdict.CloseCq q ≡ verdict.CloseCq qid) × (open_cq past qid ≡ Some region)
+  by None is k = absurd k
+  by (Some r) is k =
+      let e : ClosedCq q r ≡ ClosedCq qid region = only _ _ k in
+      let same : q ≡ qid = cc e in
+      let on : r ≡ region = cc e in
+      (ap (λ (z : ℕ). verdict.CloseCq z) same, ap (open_cq past) (sym same) ∙ is ∙ ap (λ (z : ℕ). Some z) on)
+cq_closed-by past (verdict.Abort s c) qid region h = by (target_of past s) h where
+  by : (o : Option Queue) → IsIn (ClosedCq qid region) (abort_in past c o) → (verdict.Abort s c ≡ verdict.CloseCq qid) × (open_cq past qid ≡ Some region)
+  by None k = absurd k
+  by (Some queue) k = absurd (closed_not_abort qid region queue.region (take 1 (named past queue.region c)) k)
+cq_closed-by past (verdict.SetArbitration settings) qid region h = absurd (let e : event.SetArbitration settings ≡ ClosedCq qid region = only _ _ h in cc)
+
 module _ (rules : FrontRules) where
   -- region 0 is used from the beginning
-  cq_region_0-used : (h : TableHistory) → (queue_table rules.start h).cq_region_used 0 ≡ true
+  pub cq_region_0-used : (h : TableHistory) → (queue_table rules.start h).cq_region_used 0 ≡ true
   unfolding queue_table
   cq_region_0-used h = refl
 

@@ -30,7 +30,7 @@ use Rattle.nvme_log.specs.Queues.{Queue, open_sq, has_region, is_open_region, qi
 use Rattle.nvme_log.specs.Places.{fetched, picked, waiting, entry_at}
 use Rattle.nvme_log.specs.Histories.{table_history}
 use Rattle.nvme_log.specs.Aborts.{is_index}
-use Rattle.nvme_log.specs.Completions.{is_posted, table_before}
+use Rattle.nvme_log.specs.Completions.{is_posted}
 use Rattle.nvme_log.specs.Effects.{closing_of, made_by, made_last, effects_since, EffectsAtOnce}
 use Rattle.nvme_log.specs.Laws.{as_open, StartsWithAdmin}
 use Rattle.nvme_log.proofs.AbortAnswers.{entry-stays}
@@ -47,7 +47,8 @@ use Rattle.nvme_ctrl_log.specs.Making.{placing_in}
 use Rattle.nvme_ctrl_log.proofs.FurtherHistories.{placing-stays}
 use Rattle.nvme_ctrl_log.proofs.TakenCommands.{IsSound}
 use Rattle.nvme_audit.specs.Lives.{turns_sq}
-use Rattle.nvme_own_log.proofs.AdminTurns.{TakesNext, takes_next, takes_other, few_picked, Turn, opens, deletes, neither, turn_of, regions_stay}
+use Rattle.nvme_own_log.proofs.AdminTurns.{TakesNext, takes_next, few_picked, Turn, opens, deletes, neither, turn_of, regions_stay}
+use Rattle.nvme_own_log.proofs.PickedCommands.{accepted_io, accepted_io_before, accepted_more, accepted_parts, made_is_by, pending_now, accepted_now}
 use Rattle.nvme_own_log.proofs.Phases.{NoTurn, QuietBy, quiet_whole, IsPending, IsAccepted, NoneAccepted, AreAlone, Stage, untold, told_on, IsCreate, IsServed, Phase, closed, creating, made, told, deleting_it, going}
 
 -- ---- lists
@@ -133,7 +134,7 @@ module _ (rules : FrontRules) where
         going k e r cq is (pending_fetch k e p) a o own
         (elim ends [
           | inl d ↦ inl d
-          | inr all ↦ inr (served_fetch r (λ same. none-some _ (sym o ∙ (open_on past sound.effects q r (ap (is_open_region past) (sym same) ∙ is_open) own).is_open)) all)
+          | inr all ↦ inr (served_fetch r (λ same. none-some _ (sym o ∙ (open_on past sound.effects q r (ap (is_open_region past) (sym same) ∙ is_open) own.0).is_open)) all)
         ])
         (λ t mine other. served_fetch t (λ same. none-some _ (sym o ∙ (open_on past sound.effects q t (ap (is_open_region past) (sym same) ∙ is_open) mine).is_open)) (served t mine other))
         (quiet_whole q _ _ h)
@@ -253,54 +254,25 @@ module _ (rules : FrontRules) where
     whole : effects_since past ≡ made_last rules past
     whole = sound.effects.0
 
-    accepted_io : (pick.qid ≡ 0 → ⊥) → (k : ℕ) (e : Sqe) → IsAccepted rules past k e → IsAccepted rules (event.Pick seen pick ∷ past) k e
-    accepted_io io k e a = (omega (arith, takes_other rules past seen pick sound io, a.0), rw (ne_eqb pick.qid 0 io) a.1)
-
-    accepted_io_before : (pick.qid ≡ 0 → ⊥) → (k : ℕ) (e : Sqe) → IsAccepted rules (event.Pick seen pick ∷ past) k e → IsAccepted rules past k e
-    accepted_io_before io k e a = (
-      omega (arith, takes_other rules past seen pick sound io, a.0),
-      subst (λ (b : Bool). is_success (status_of rules.start (if b && is_index k (slice_get (waiting past 0) 0) then table_history rules past else table_before rules past k) e) ≡ true) (ne_eqb pick.qid 0 io) a.1,
-    )
-
     io : (pick.qid ≡ 0 → ⊥) → (st : Stage) → Phase rules past q st → Phase rules (event.Pick seen pick ∷ past) q st
     io other = by where
       quiet : QuietBy q [] (made_last rules (event.Pick seen pick ∷ past))
       quiet = quiet_whole q [] (made_last rules (event.Pick seen pick ∷ past)) (rw (ne_eqb pick.qid 0 other) refl)
 
       by : (st : Stage) → Phase rules past q st → Phase rules (event.Pick seen pick ∷ past) q st
-      by st (closed o served n y) = closed o served (λ k e p a turns. n k e p (accepted_io_before other k e a) turns) quiet
+      by st (closed o served n y) = closed o served (λ k e p a turns. n k e p (accepted_io_before rules past seen pick sound other k e a) turns) quiet
       by st (creating k e r cqid class is p a o none made_is fresh served) = absurd (let same : [] ≡ OpenSq q r cqid class ∷ [] = sym none ∙ whole ∙ made_is in cc same)
-      by st (made k e queue is p a o served y) = made k e queue is p (accepted_io other k e a) o served quiet
-      by st (told queue o served n y) = told queue o served (λ k e p a turns. n k e p (accepted_io_before other k e a) turns) quiet
+      by st (made k e queue is p a o served y) = made k e queue is p (accepted_io rules past seen pick sound other k e a) o served quiet
+      by st (told queue o served n y) = told queue o served (λ k e p a turns. n k e p (accepted_io_before rules past seen pick sound other k e a) turns) quiet
       by st (deleting_it k e queue more is p a l o none made_is m served) = absurd (let same : [] ≡ Closing q queue.region ∷ more = sym none ∙ whole ∙ made_is in cc same)
-      by st (going k e r cq is p a o own ends served y) = going k e r cq is p (accepted_io other k e a) o own ends served quiet
+      by st (going k e r cq is p a o own ends served y) = going k e r cq is p (accepted_io rules past seen pick sound other k e a) o own ends served quiet
 
     module _ (admin : pick.qid ≡ 0) where
-      next : TakesNext rules past seen pick
+      abbrev next : TakesNext rules past seen pick
       next = takes_next rules past seen pick sound admin
 
       abbrev table : TableHistory
       table = table_history rules past
-
-      table_is : (k : ℕ) → (k ≡ picked past 0 → ⊥) → table_before rules (event.Pick seen pick ∷ past) k ≡ table_before rules past k
-      table_is k other = rw (eq-eqb pick.qid 0 admin, next.oldest, ne_eqb (picked past 0) k (λ e. other (sym e))) refl
-
-      table_now : table_before rules (event.Pick seen pick ∷ past) (picked past 0) ≡ table
-      table_now = rw (eq-eqb pick.qid 0 admin, next.oldest, eq-eqb (picked past 0) (picked past 0) refl) refl
-
-      accepted_more : (k : ℕ) (e : Sqe) → IsAccepted rules past k e → IsAccepted rules (event.Pick seen pick ∷ past) k e
-      accepted_more k e a =
-          let below : k < picked past 0 = a.0 in
-          (omega (arith, next.one_more, below), ap (λ (t : TableHistory). is_success (status_of rules.start t e)) (table_is k (λ same. omega (arith, same, below))) ∙ a.1)
-
-      made_is_by : made_last rules (event.Pick seen pick ∷ past) ≡ made_by past (verdict_of rules.start table next.entry)
-      made_is_by = rw (eq-eqb pick.qid 0 admin, next.entry_is) refl
-
-      pending_now : IsPending rules past (picked past 0) next.entry
-      pending_now = (next.is_there, unposted admin)
-
-      accepted_now : is_success (status_of rules.start table next.entry) ≡ true → IsAccepted rules (event.Pick seen pick ∷ past) (picked past 0) next.entry
-      accepted_now success = (omega (arith, next.one_more), ap (λ (t : TableHistory). is_success (status_of rules.start t next.entry)) table_now ∙ success)
 
       -- the open queues are those of the table
       queue_is : open_sq past q ≡ as_open (sq_at rules.start table q)
@@ -311,37 +283,32 @@ module _ (rules : FrontRules) where
       plain opens_none deletes_none leaves = by where
         quiet : QuietBy q [] (made_last rules (event.Pick seen pick ∷ past))
         quiet rest is =
-            let made_so : rest ≡ made_by past (verdict_of rules.start table next.entry) = is ∙ made_is_by in (
+            let made_so : rest ≡ made_by past (verdict_of rules.start table next.entry) = is ∙ made_is_by rules past seen pick sound admin in (
               (λ r c k h. opens_none r c k (opened-by past (verdict_of rules.start table next.entry) q r c k (subst (IsIn (OpenSq q r c k)) made_so h))),
               (λ r h. deletes_none (begun-by past (verdict_of rules.start table next.entry) q r (subst (IsIn (Closing q r)) made_so h))),
             )
 
         none_more : NoneAccepted rules past q → NoneAccepted rules (event.Pick seen pick ∷ past) q
-        none_more n k e p a turns = elim (cases_eq k (picked past 0)) [
-          | inl same ↦
-              let entry : next.entry ≡ e = same_Some next.entry e (sym next.is_there ∙ ap (entry_at past 0) (sym same) ∙ p.0) in
-              let success : is_success (status_of rules.start table next.entry) ≡ true =
-              subst (λ (x : Sqe). is_success (status_of rules.start table x) ≡ true) (sym entry) (subst (λ (t : TableHistory). is_success (status_of rules.start t e) ≡ true) (ap (table_before rules (event.Pick seen pick ∷ past)) same ∙ table_now) a.1) in
-              let no : turns_sq (admin_command_of next.entry) q ≡ false = leaves success in
-              let yes : turns_sq (admin_command_of next.entry) q ≡ true = ap (λ (x : Sqe). turns_sq (admin_command_of x) q) entry ∙ turns in
+        none_more n k e p a turns = elim (accepted_parts rules past seen pick sound admin k e p a) [
+          | inl earlier ↦ n k e p earlier turns
+          | inr mine ↦
+              let no : turns_sq (admin_command_of next.entry) q ≡ false = leaves mine.1 in
+              let yes : turns_sq (admin_command_of next.entry) q ≡ true = ap (λ (x : Sqe). turns_sq (admin_command_of x) q) mine.0 ∙ turns in
               cc (no, yes)
-          | inr other ↦
-              let below : k < picked (event.Pick seen pick ∷ past) 0 = a.0 in
-              n k e p (omega (arith, other, below, next.one_more), subst (λ (t : TableHistory). is_success (status_of rules.start t e) ≡ true) (table_is k other) a.1) turns
         ]
 
         by : (st : Stage) → Phase rules past q st → Phase rules (event.Pick seen pick ∷ past) q st
         by st (closed o served n y) = closed o served (none_more n) quiet
         by st (creating k e r cqid class is p a o none made_is fresh served) = absurd (let same : [] ≡ OpenSq q r cqid class ∷ [] = sym none ∙ whole ∙ made_is in cc same)
-        by st (made k e queue is p a o served y) = made k e queue is p (accepted_more k e a) o served quiet
+        by st (made k e queue is p a o served y) = made k e queue is p (accepted_more rules past seen pick sound admin k e a) o served quiet
         by st (told queue o served n y) = told queue o served (none_more n) quiet
         by st (deleting_it k e queue more is p a l o none made_is m served) = absurd (let same : [] ≡ Closing q queue.region ∷ more = sym none ∙ whole ∙ made_is in cc same)
-        by st (going k e r cq is p a o own ends served y) = going k e r cq is p (accepted_more k e a) o own ends served quiet
+        by st (going k e r cq is p a o own ends served y) = going k e r cq is p (accepted_more rules past seen pick sound admin k e a) o own ends served quiet
 
       -- the pending command that turned the queue is another
       not_both : (k : ℕ) (e : Sqe) → IsPending rules past k e → IsAccepted rules past k e → turns_sq (admin_command_of e) q ≡ true → turns_sq (admin_command_of next.entry) q ≡ true → ⊥
       not_both k e p a turns turns_too =
-          let same : k ≡ picked past 0 = alone q k (picked past 0) e next.entry p pending_now turns turns_too in
+          let same : k ≡ picked past 0 = alone q k (picked past 0) e next.entry p (pending_now rules past seen pick sound admin (unposted admin)) turns turns_too in
           let below : k < picked past 0 = a.0 in
           absurd (omega (arith, same, below))
 
@@ -375,7 +342,7 @@ module _ (rules : FrontRules) where
         by : (st : Stage) → Phase rules past q st → Phase rules (event.Pick seen pick ∷ past) q st
         by st (closed o served n y) =
             creating (picked past 0) next.entry region cqid class (record { qsize = qsize; prp1 = prp1; qprio = qprio; pc = pc; command_is = command_is; slots_are = slots_are })
-            pending_now (accepted_now success) o refl (made_is_by ∙ ap (made_by past) verdict_is) (unopened (qid_of_region past region) refl, used_now) served
+            (pending_now rules past seen pick sound admin (unposted admin)) (accepted_now rules past seen pick sound admin success) o refl (made_is_by rules past seen pick sound admin ∙ ap (made_by past) verdict_is) (unopened (qid_of_region past region) refl, used_now) served
         by st (creating k e r c cl is p a o none made_is fresh served) = absurd (let same : [] ≡ OpenSq q r c cl ∷ [] = sym none ∙ whole ∙ made_is in cc same)
         by st (made k e queue is p a o served y) = absurd (none-some queue (sym none_open ∙ o))
         by st (told queue o served n y) = absurd (none-some queue (sym none_open ∙ o))
@@ -405,9 +372,9 @@ module _ (rules : FrontRules) where
         by st (creating k e r c cl is p a o none made_is fresh served) = absurd (let same : [] ≡ OpenSq q r c cl ∷ [] = sym none ∙ whole ∙ made_is in cc same)
         by st (made k e queue is p a o served y) = absurd (not_both k e p a (ap (λ (x : AdminCommand). turns_sq x q) is.command_is ∙ eq-eqb q q refl) turns)
         by st (told queue o served n y) =
-            deleting_it (picked past 0) next.entry queue (map (λ (i : ℕ). Abort queue.region i) (waiting past queue.region)) command_is pending_now (accepted_now success)
+            deleting_it (picked past 0) next.entry queue (map (λ (i : ℕ). Abort queue.region i) (waiting past queue.region)) command_is (pending_now rules past seen pick sound admin (unposted admin)) (accepted_now rules past seen pick sound admin success)
             (rw (eq-eqb pick.qid 0 admin) next.oldest) o refl
-            (made_is_by ∙ ap (made_by past) verdict_is ∙ ap (closing_of past q) o)
+            (made_is_by rules past seen pick sound admin ∙ ap (made_by past) verdict_is ∙ ap (closing_of past q) o)
             (aborts_turn_none q queue.region (waiting past queue.region)) served
         by st (deleting_it k e queue more is p a l o none made_is m served) = absurd (let same : [] ≡ Closing q queue.region ∷ more = sym none ∙ whole ∙ made_is in cc same)
         by st (going k e r cq is p a o own d served y) = absurd (not_closed o)

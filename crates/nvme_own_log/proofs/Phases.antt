@@ -24,6 +24,7 @@ use Rattle.nvme_log.proofs.Promise.{first-is_made}
 use Rattle.nvme_ctrl_log.specs.Deletions.{deleting}
 use Rattle.nvme_ctrl_log.specs.Doorbells.{sq_slots}
 use Rattle.nvme_audit.specs.Lives.{turns_sq}
+use Rattle.nvme_own_log.proofs.CqRegions.{cqid_with}
 
 -- ---- events that turn a queue
 -- none of these opens the queue or begins its deletion
@@ -99,6 +100,10 @@ module _ (rules : FrontRules) where
   abbrev pub IsFresh : Past → ℕ → Type 0
   IsFresh past r = (qid_of_region past r ≡ None) × ((queue_table rules.start (table_history rules past)).sq_region_used r ≡ true)
 
+  -- a region was opened for a queue, by a Create that named a completion queue
+  abbrev pub IsOpenedFor : Past → (r q cqid : ℕ) → Type 0
+  IsOpenedFor past r q cqid = (qid_of_region past r ≡ Some q) × (cqid_with past r ≡ Some cqid)
+
   -- ---- phases
   pub data Phase (past : Past) (q : ℕ) : Stage → Type 0 where
     -- no queue is there
@@ -117,7 +122,7 @@ module _ (rules : FrontRules) where
         → OthersServed past q queue.region → Phase past q (told_on queue.region queue.cqid)
     -- the deletion began, and the host isn't told of its end
     going : (k : ℕ) (entry : Sqe) (r cqid : ℕ) → admin_command_of entry ≡ DeleteSq q → IsPending past k entry → IsAccepted past k entry
-        → open_sq past q ≡ None → qid_of_region past r ≡ Some q → (deleting past r ≡ Some k) ⊎ IsServed past r → OthersServed past q r → Quiet past q → Phase past q (told_on r cqid)
+        → open_sq past q ≡ None → IsOpenedFor past r q cqid → (deleting past r ≡ Some k) ⊎ IsServed past r → OthersServed past q r → Quiet past q → Phase past q (told_on r cqid)
 
   -- ---- effects
   -- effects that turn no submission queue
@@ -169,6 +174,9 @@ module _ (rules : FrontRules) where
     still : (s : ℕ) → qid_of_region past s ≡ Some q → qid_of_region (OpenSq qid region c class ∷ past) s ≡ Some q
     still s is = rw (ne_eqb region s (λ same. none-some q (sym fresh ∙ ap (qid_of_region past) same ∙ is))) is
 
+    still_for : (s cqid : ℕ) → IsOpenedFor past s q cqid → IsOpenedFor (OpenSq qid region c class ∷ past) s q cqid
+    still_for s cqid own = (still s own.0, rw (ne_eqb region s (λ same. none-some q (sym fresh ∙ ap (qid_of_region past) same ∙ own.0))) own.1)
+
     pub open_other : (st : Stage) → EffectsAtOnce rules past (OpenSq qid region c class) → Phase past q st → Phase (OpenSq qid region c class ∷ past) q st
     open_other st h (closed o s n y) = closed (same_open ∙ o) (λ t is. s t (before t is)) n (quiet_more q _ (effects_since past) (made_last rules past) y)
     open_other st h (creating k entry r cqid cl is p a o none made_is f s) =
@@ -177,7 +185,7 @@ module _ (rules : FrontRules) where
     open_other st h (told queue o s n y) = told queue (same_open ∙ o) (λ t own. s t (before t own)) n (quiet_more q _ (effects_since past) (made_last rules past) y)
     open_other st h (deleting_it k entry queue more is p a l o none made_is m s) =
         absurd (let same : OpenSq qid region c class ≡ Closing q queue.region = first-is_made rules past (OpenSq qid region c class) (Closing q queue.region) more h none made_is in cc same)
-    open_other st h (going k entry r cq is p a o own ends s y) = going k entry r cq is p a (same_open ∙ o) (still r own) ends (λ t is. s t (before t is)) (quiet_more q _ (effects_since past) (made_last rules past) y)
+    open_other st h (going k entry r cq is p a o own ends s y) = going k entry r cq is p a (same_open ∙ o) (still_for r cq own) ends (λ t is. s t (before t is)) (quiet_more q _ (effects_since past) (made_last rules past) y)
 
   -- the queue is opened
   pub open_own : (past : Past) (q r c : ℕ) (class : Class) (st : Stage) → EffectsAtOnce rules past (OpenSq q r c class) → Phase past q st → Phase (OpenSq q r c class ∷ past) q st
@@ -215,10 +223,10 @@ module _ (rules : FrontRules) where
     by z (deleting_it k entry queue more is p a l o none made_is m s) =
         absurd (let same : Closing qid region ≡ Closing q queue.region = first-is_made rules past (Closing qid region) (Closing q queue.region) more h none made_is in other (cc same))
     by z (going k entry r cq is p a o own ends s y) =
-        going k entry r cq is p a (same_open ∙ o) own (elim ends [ inl d ↦ inl (rw (ne_eqb region r (λ same. apart r own (sym same))) d) | inr d ↦ inr d ]) s (quiet_more q _ (effects_since past) (made_last rules past) y)
+        going k entry r cq is p a (same_open ∙ o) own (elim ends [ inl d ↦ inl (rw (ne_eqb region r (λ same. apart r own.0 (sym same))) d) | inr d ↦ inr d ]) s (quiet_more q _ (effects_since past) (made_last rules past) y)
 
   -- the queue's own deletion begins
-  pub closing_own : (past : Past) (q r : ℕ) (st : Stage) → ((queue : Queue) → open_sq past q ≡ Some queue → qid_of_region past queue.region ≡ Some q) → EffectsAtOnce rules past (Closing q r) → Phase past q st → Phase (Closing q r ∷ past) q st
+  pub closing_own : (past : Past) (q r : ℕ) (st : Stage) → ((queue : Queue) → open_sq past q ≡ Some queue → IsOpenedFor past queue.region q queue.cqid) → EffectsAtOnce rules past (Closing q r) → Phase past q st → Phase (Closing q r ∷ past) q st
   closing_own past q r st owned h (closed o s n y) = absurd (quiet_closing q r _ _ y h)
   closing_own past q r st owned h (creating k entry s cqid cl is p a o none made_is fresh served) =
       absurd (let same : Closing q r ≡ OpenSq q s cqid cl = first-is_made rules past (Closing q r) (OpenSq q s cqid cl) [] h none made_is in cc same)

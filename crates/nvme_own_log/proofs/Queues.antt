@@ -33,6 +33,7 @@ use Rattle.nvme_own_log.proofs.Answered.{IsPosted, IsDoneBy, posted_so, of_devic
 use Rattle.nvme_own_log.proofs.AdminQueues.{AdminAt, admin_asks, effects_of}
 use Rattle.nvme_own_log.proofs.Steps.{SqAt, sq_step}
 use Rattle.nvme_own_log.proofs.PhaseSteps.{IsOpenOn, open_on, Turns}
+use Rattle.nvme_own_log.proofs.CqRegions.{cqid_with, region_with}
 use Rattle.nvme_own_log.proofs.OwnRegions.{admin_qid, admin_posts_to, admin_cqid}
 use Rattle.nvme_own_log.proofs.Phases.{IsPending, IsAccepted, AreAlone, IsCreate, OthersServed, Stage, untold, told_on, Phase, closed, creating, made, told, deleting_it, going}
 
@@ -105,7 +106,20 @@ module _ (rules : FrontRules) where
   owned_by past h q st (made k x queue is p a o served y) = tt
   owned_by past h q st (told queue o served n y) = region-owned rules past h q queue o
   owned_by past h q st (deleting_it k x queue more is p a l o none made_is m served) = region-owned rules past h q queue o
-  owned_by past h q st (going k x r cq is p a o mine ends served y) = mine
+  owned_by past h q st (going k x r cq is p a o mine ends served y) = mine.0
+
+  -- the completion queue of a told queue is the one that its Create named
+  abbrev pub IsNamed : Past → Stage → Type 0
+  IsNamed past untold = Unit {0}
+  IsNamed past (told_on r cqid) = cqid_with past r ≡ Some cqid
+
+  pub named_by : (past : Past) → Each (EffectsAtOnce rules) past → (q : ℕ) (st : Stage) → Phase rules past q st → IsNamed past st
+  named_by past h q st (closed o served n y) = tt
+  named_by past h q st (creating k x r cqid class is p a o none made_is fresh served) = tt
+  named_by past h q st (made k x queue is p a o served y) = tt
+  named_by past h q st (told queue o served n y) = region_with rules past h q queue o
+  named_by past h q st (deleting_it k x queue more is p a l o none made_is m served) = region_with rules past h q queue o
+  named_by past h q st (going k x r cq is p a o mine ends served y) = mine.1
 
   -- ---- note by note
   module _ (notes : Notes) (h : EachNote (IsLawful rules) notes) (q : ℕ) where

@@ -1,5 +1,5 @@
 -- Where a log agrees with a queue's own side, the rules of rings and of names are kept.
-use Rattle.std.proofs.Common.{◌≡◌, ℕ, ◌+◌, ◌%◌, ◌<◌, ◌≤◌, ◌==◌, ◌&&◌, nat_le, Bool, true, false, if◌then◌else◌, List, length, Option, Some, is_some, refl, sym, ap, ◌∙◌, arith, inl, inr}
+use Rattle.std.proofs.Common.{◌≡◌, ℕ, ◌+◌, ◌%◌, ◌<◌, ◌≤◌, ◌==◌, ◌&&◌, nat_le, Bool, true, false, if◌then◌else◌, List, length, Option, Some, None, is_some, refl, sym, ap, ◌∙◌, arith, inl, inr}
 use Rattle.std.specs.Prelude.{slice_get}
 use Rattle.std.proofs.lemmas.Bool.{eq-eqb, lt-leb}
 use Rattle.std.proofs.lemmas.Option.{slice_get_within}
@@ -18,6 +18,7 @@ use Rattle.nvme_audit.specs.Queues.{ring_of, qsize_of}
 use Rattle.nvme_audit.specs.Rings.{slots_of, number_of, phase_of}
 use Rattle.nvme_audit.specs.Aborts.{was_named}
 use Rattle.nvme_audit.specs.Marks.{mark_of, owes}
+use Rattle.nvme_audit.specs.Early.{is_early}
 use Rattle.nvme_audit.specs.Facts.{sq_after, cq_after, command_with, outstanding}
 use Rattle.nvme_audit.specs.Rules.{is_other, is_other_phase, is_head_of, fetch_rules, fetch_verdict, name_rules, name_verdict, slot_rules, if_kept, post_verdict}
 use Rattle.nvme_audit.proofs.HeadLemmas.{heads}
@@ -98,6 +99,11 @@ module _ (start : Start) (log : Past) (q slots many taken : ℕ) (a : CqAgrees s
       and_false start.tells.heads _ (lt-leb ((cq_after start log q).consumed + a.qsize) (cq_after start log q).posted (omega (arith, a.posted_is, a.consumed_is, same, room))) in
       ap (λ (o : Option ℕ). slot_rules start.tells (cq_after start log q) o (Some slot) (Some phase)) a.qsize_is
       ∙ kept_if (cq_after start log q).early _ (rw (same_number slot _ slot_is, same_phase phase _ phase_is, free) refl)
+
+-- a post into a queue of which completions came before the host was told
+pub early_slot : (start : Start) (log : Past) (q : ℕ) (slot : Option ℕ) (phase : Option Bool) (qsize : Option ℕ) → is_some qsize ≡ true → is_early start log q ≡ true → slot_rules start.tells (cq_after start log q) qsize slot phase ≡ Kept
+early_slot start log q slot phase None some early = cc some
+early_slot start log q slot phase (Some n) some early = rw early refl
 
 -- both
 pub post_kept : (start : Start) (log : Past) (cq : ℕ) (slot : Option ℕ) (completion : Completion)

@@ -5,7 +5,7 @@ use Rattle.nvme_audit.specs.declared.event.Event.{Event}
 use Rattle.nvme_audit.specs.declared.event.Event.TheVariants.{Tail, Fetch}
 use Rattle.nvme_audit.specs.declared.facts.Start.{Start}
 use Rattle.nvme_audit.specs.Lives.{Past, asked, turns_sq}
-use Rattle.nvme_audit.specs.Queues.{ring_of}
+use Rattle.nvme_audit.specs.Queues.{ring_of, turns_cq}
 use Rattle.nvme_entry.specs.declared.admin.AdminCommand.{AdminCommand}
 use Rattle.nvme_own_log.specs.Shown.{EachShown}
 
@@ -31,3 +31,14 @@ IsDutiful start past e = Unit {0}
 
 abbrev pub KeepsDuties : Start → Past → Type 0
 KeepsDuties start log = EachShown (IsDutiful start) log
+
+-- ---- completion queues
+-- a Create or a Delete of a completion queue is fetched while no other of that queue is outstanding: no log tells which of two takes effect first, and
+-- admin commands may be answered in another order than they were fetched
+abbrev pub TurnsCqAlone : Past → Event → Type 0
+TurnsCqAlone past (Fetch sq slot cid command) = sq ≡ 0 → (name : ℕ) (other : AdminCommand) → asked past 0 name ≡ Some other → (q : ℕ) → turns_cq command q ≡ true → turns_cq other q ≡ true → ⊥
+TurnsCqAlone past e = Unit {0}
+
+-- a host turns a completion queue by one command at a time
+abbrev pub TurnsCqsAlone : Past → Type 0
+TurnsCqsAlone log = EachShown TurnsCqAlone log

@@ -13,7 +13,7 @@ use Rattle.nvme_audit.specs.Lives.{Past}
 use Rattle.nvme_audit.specs.Facts.{sq_after, cq_after, outstanding}
 use Rattle.nvme_audit.specs.Rules.{fetch_verdict, post_verdict}
 use Rattle.nvme_own_log.specs.Shown.{start_of, shown, EachShown}
-use Rattle.nvme_own_log.specs.Duties.{NamesAreFree, KeepsDuties}
+use Rattle.nvme_own_log.specs.Duties.{NamesAreFree, KeepsDuties, TurnsCqsAlone}
 
 -- a fetch from the admin queue, and a completion of one of its commands, keep all rules of rings and of names
 abbrev pub IsKeptByAdmin : Start → Past → Event → Type 0
@@ -36,3 +36,15 @@ IsFetchKept start past e = Unit {0}
 abbrev pub FetchesAreLawful : Type 0
 FetchesAreLawful = (rules : FrontRules) (notes : Notes) → StartsWithAdmin rules → placing_in rules ≡ None → IsAccount rules notes → KeepsDuties (start_of rules) (shown rules notes)
     → EachShown (IsFetchKept (start_of rules)) (shown rules notes)
+
+-- a completion of any queue keeps the rules of rings and of names: its completion queue is open, or a Create of it is outstanding; its slot is the next
+-- and free, with the phase tag of its pass, where these are known; its queue is open and posts there, its command is outstanding, and its head is after it
+abbrev pub IsPostKept : Start → Past → Event → Type 0
+IsPostKept start past (Post cq slot completion) =
+    post_verdict start.tells cq (cq_after start past cq) (sq_after start past completion.sq) (outstanding past completion.sq completion.cid) slot completion ≡ Kept
+IsPostKept start past e = Unit {0}
+
+-- so it is of what an account shows, where fetches are lawful so, and the host turns a completion queue too by one command at a time
+abbrev pub CompletionsAreLawful : Type 0
+CompletionsAreLawful = (rules : FrontRules) (notes : Notes) → StartsWithAdmin rules → placing_in rules ≡ None → IsAccount rules notes → KeepsDuties (start_of rules) (shown rules notes)
+    → TurnsCqsAlone (shown rules notes) → EachShown (IsPostKept (start_of rules)) (shown rules notes)

@@ -6,7 +6,7 @@ ghost use Rattle.nvme_ctrl_log.specs.Examples.{deletion_noted, two_passes};
 ghost use Rattle.nvme_audit.specs.Lawful.{IsFaultlessLog};
 ghost use Rattle.nvme_own_log.specs.Shown.{shown, start_of};
 ghost use Rattle.nvme_own_log.specs.Examples.{deletion_shown, passes_shown};
-ghost use Rattle.nvme_own_log.specs.Laws.{AdminQueuesAreLawful, FetchesAreLawful};
+ghost use Rattle.nvme_own_log.specs.Laws.{AdminQueuesAreLawful, CompletionsAreLawful, FetchesAreLawful};
 
 /// Worked: what two logs of a controller show, and that the judge finds no fault with them.
 pub fn worked_logs_are_shown()
@@ -29,4 +29,13 @@ pub fn admin_queues_are_lawful()
 /// the start, and the host waits for completions (`KeepsDuties`).
 pub fn fetches_are_lawful()
     ensures { FetchesAreLawful }
+{}
+
+/// What an account shows of completions, of any queue and into any completion queue, keeps all rules of rings and of names:
+/// completions are written slot by slot, with the phase tag of their pass, into a slot that is free of a completion queue
+/// that is open; and each is of an outstanding command of an open queue that posts there, with a head after it. A host may
+/// use a completion queue before its Create is answered, but then the judge doesn't know its slots. It is so under the
+/// premises of `FetchesAreLawful`, where the host turns a completion queue too by one command at a time (`TurnsCqsAlone`).
+pub fn completions_are_lawful()
+    ensures { CompletionsAreLawful }
 {}
