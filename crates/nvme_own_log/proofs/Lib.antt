@@ -23,3 +23,4 @@ mod CqPhases
 mod CqSteps
 mod CqQueues
 mod Completions
+mod TurnExamples

@@ -2,3 +2,4 @@ pub mod Shown
 pub mod Duties
 pub mod Examples
 pub mod Laws
+pub mod TurnExamples

@@ -1,11 +1,17 @@
 //! Laws of what the notes of a controller show, over the definitions alone. Each function does nothing: its contract is the
 //! law.
-ghost use Rattle.std.specs.Prelude.{◌≡◌};
+ghost use Rattle.std.specs.Prelude.{◌≡◌, Some};
 ghost use Rattle.nvme_log.specs.Examples.{one_deletion, two_slots};
 ghost use Rattle.nvme_ctrl_log.specs.Examples.{deletion_noted, two_passes};
-ghost use Rattle.nvme_audit.specs.Lawful.{IsFaultlessLog};
-ghost use Rattle.nvme_own_log.specs.Shown.{shown, start_of};
+ghost use Rattle.nvme_ctrl_log.specs.Account.{IsAccount};
+ghost use Rattle.nvme_audit.specs.declared.event.Event.TheVariants.{Post};
+ghost use Rattle.nvme_audit.specs.declared.verdict.Rule.TheVariants.{PostClosed};
+ghost use Rattle.nvme_audit.specs.declared.verdict.Verdict.TheVariants.{Broken};
+ghost use Rattle.nvme_audit.specs.Lawful.{IsFaultlessLog, verdict};
+ghost use Rattle.nvme_own_log.specs.Shown.{completion_of, shown, start_of};
+ghost use Rattle.nvme_own_log.specs.Duties.{KeepsDuties};
 ghost use Rattle.nvme_own_log.specs.Examples.{deletion_shown, passes_shown};
+ghost use Rattle.nvme_own_log.specs.TurnExamples.{answer, read_answered, read_told, two_rings};
 ghost use Rattle.nvme_own_log.specs.Laws.{AdminQueuesAreLawful, CompletionsAreLawful, FetchesAreLawful};
 
 /// Worked: what two logs of a controller show, and that the judge finds no fault with them.
@@ -38,4 +44,13 @@ pub fn fetches_are_lawful()
 /// premises of `FetchesAreLawful`, where the host turns a completion queue too by one command at a time (`TurnsCqsAlone`).
 pub fn completions_are_lawful()
     ensures { CompletionsAreLawful }
+{}
+
+/// Worked: why the host turns a completion queue by one command at a time. An account in which a Create of a completion
+/// queue is answered before the Delete that took effect before it: all other duties are kept, and the judge takes the queue
+/// as deleted, so that it blames the controller for the next completion.
+pub fn worked_turns()
+    ensures account { IsAccount two_rings read_told }
+    ensures duties { KeepsDuties (start_of two_rings) (shown two_rings read_told) }
+    ensures judged { verdict (start_of two_rings) (shown two_rings read_answered) (Post 1 (Some 0) (completion_of (answer 1 0 1))) ≡ Broken PostClosed }
 {}
