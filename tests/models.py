@@ -55,6 +55,18 @@ read = "100us"
 arrivals = { every = "150us" }
 """
 
+# Eight commands out, and a channel that runs each for 100 us.
+CLOSED = """version = 1
+[simulation]
+commands = 1000
+warm_up = 100
+[device]
+channels = 1
+read = "100us"
+[[queue]]
+arrivals = { closed = 8 }
+"""
+
 NONE_LEFT = "nvmearb: note: the warm-up of 1 commands leaves none of 1 for the answer\n"
 
 OVERLOAD = re.compile(

@@ -343,8 +343,12 @@ def numbers(sources):
     path, inner = "crates/nvme_numbers/src", "crates/nvme_model/src"
     written = re.findall(r'\\"(\w+)\\":\{(\w+)\}', sources.text(f"{path}/answer/object.rt"))
     key_of = {field: key for key, field in written}
-    rows = [[code(it), says] for it, says in members(sources, f"{path}/row.rt", "Row").items() if it != "spread"]
-    rows += [[code(key_of[it]), says] for it, says in members(sources, f"{path}/row.rt", "Spread").items()]
+    rows = [[code(it), says] for it, says in members(sources, f"{path}/row.rt", "Row").items() if it not in ("spread", "fed")]
+    spread = [[code(key_of[it]), says] for it, says in members(sources, f"{path}/row.rt", "Spread").items()]
+    fed_of = {"time": "fed_ps"}
+    fed = [[code(fed_of.get(it, f"{it}_fed")), says] for it, says in members(sources, f"{path}/row.rt", "Fed").items()]
+    above = [row for row in spread if "above" in row[0]]
+    rows += [row for row in spread if row not in above] + fed + above
     columns = sources.text(f"{path}/finish_log.rt").split('NAMES: &str =\n    "')[1].split('"')[0].split(",")
     told = members(sources, f"{inner}/finished.rt", "Finished") | members(sources, f"{inner}/times.rt", "Times")
     log_rows = [[code(it), told[it.removesuffix("_ps")]] for it in columns]

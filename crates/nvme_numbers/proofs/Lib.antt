@@ -1,4 +1,6 @@
 pub mod Classes
+pub mod FedUnions
+pub mod Feeds
 pub mod Jain
 pub mod Ranks
 pub mod Tallies

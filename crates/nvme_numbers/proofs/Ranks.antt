@@ -8,10 +8,12 @@ use Rattle.nvme_arbiter.specs.declared.settings.Class.{Class}
 use Rattle.nvme_latency.specs.Times.{ranked_times, times_of}
 use Rattle.nvme_model.specs.declared.queue.Queue.{Queue}
 use Rattle.nvme_numbers.specs.Collected.{AreFresh, IsFresh, queues_of}
-use Rattle.nvme_numbers.specs.Rows.{IsRow}
+use Rattle.nvme_numbers.specs.Rows.{IsFedRow, IsRow}
 use Rattle.nvme_numbers.specs.Sums.{no_sums, sums_plus}
 use Rattle.nvme_numbers.specs.Told.{IsQueueRow, Tells, TellsUnion, all_classes, commands_of, has_queue, is_of, latencies_in, span_of, tallied_sums, tallied_times, totals_in}
-use Rattle.nvme_numbers.specs.inside.Unions.{AreClassRows, AreRanked, AreRows, IsRanked, IsRowOf, IsUnionRow, RowsAgree, all_sums, all_times, has_ranked, sums_in, times_in}
+use Rattle.nvme_numbers.specs.Feeds.{settled}
+use Rattle.nvme_numbers.specs.inside.Unions.{AreClassRows, AreRanked, AreRows, FedAgree, IsRanked, IsRowOf, IsUnionRow, RowsAgree, all_sums, all_times, has_ranked, sums_in, times_in}
+use Rattle.nvme_numbers.specs.declared.answer.Coming.{Coming}
 use Rattle.nvme_numbers.specs.declared.answer.Member.{Member}
 use Rattle.nvme_numbers.specs.declared.answer.RankedQueue.{RankedQueue}
 use Rattle.nvme_numbers.specs.declared.numbers.QueueTally.{QueueTally}
@@ -38,7 +40,7 @@ one class q r is = rw is.priority (either (is_of class q.class) (times_of q.tall
 one_sums : (class : Option Class) (q : QueueTally) (r : RankedQueue) → IsRanked q r → tallied_sums class q ≡ sums_in class r
 one_sums class q r is = rw (is.priority, is.sums) refl
 
-rest : (q : QueueTally) (r : RankedQueue) (queues : List QueueTally) (ranked : List RankedQueue) → AreRanked (q ∷ queues) (r ∷ ranked) → AreRanked queues ranked
+pub rest : (q : QueueTally) (r : RankedQueue) (queues : List QueueTally) (ranked : List RankedQueue) → AreRanked (q ∷ queues) (r ∷ ranked) → AreRanked queues ranked
 rest q r queues ranked is = record { count = omega (arith, is.count); each = λ k a b l. is.each (suc k) a b (omega (arith, l)) }
 
 pub same_times : (class : Option Class) (queues : List QueueTally) (ranked : List RankedQueue) → AreRanked queues ranked
@@ -81,6 +83,13 @@ rows_more span whole i queues rows next q m size there at here is so = rw is (re
   each = placed_more (IsRowOf span whole) i queues rows q m size there at here so.each;
 })
 
+-- and what was done of it
+pub fed_more : (c : Coming) (i : ℕ) (queues : List RankedQueue) (rows next : List Member) (q : RankedQueue) (m : Member) → length rows ≡ i → i < length queues
+    → q ≡ get_or queues i q → IsFedRow c.time (settled c.count q.feed) m.row.fed → next ≡ rows ++ m ∷ [] → FedAgree c queues rows → FedAgree c queues next
+fed_more c i queues rows next q m size there at here is so = rw is (record {
+  each = placed_more (λ (r : RankedQueue) (n : Member). IsFedRow c.time (settled c.count r.feed) n.row.fed) i queues rows q m size there at here so.each;
+})
+
 -- one queue more
 pub fresh_more : (i : ℕ) (queues : List Queue) (tallies next : List QueueTally) (q : Queue) (t : QueueTally) → length tallies ≡ i → i < length queues
     → q ≡ get_or queues i q → IsFresh q t → next ≡ tallies ++ t ∷ [] → AreFresh queues tallies → AreFresh queues next
@@ -92,7 +101,7 @@ same_row : (span others whole all : ℕ) (times : List ℕ) (sums same : Sums) (
 same_row span others whole all times sums same row a b e is = rw (← a, ← b, ← e) is
 
 -- the first of some
-first_of : {A : Type 0} (xs : List A) → 0 < length xs → A
+pub first_of : {A : Type 0} (xs : List A) → 0 < length xs → A
 first_of [] l = absurd (omega (arith, l))
 first_of (x ∷ xs) l = x
 
@@ -113,10 +122,10 @@ queue_told n end span whole q r m a b is row = (
   row.1 ∙ is.priority,
 )
 
-pub told : (n : Numbers) (end span : ℕ) (ranked : List RankedQueue) (rows classes : List Member) (all : Row) → span ≡ span_of n end → AreRanked (queues_of n) ranked
-    → IsUnionRow span all.commands None ranked all → AreRows span all.commands ranked rows → AreClassRows span all.commands ranked all_classes classes
+pub told : (n : Numbers) (end : ℕ) (c : Coming) (span : ℕ) (ranked : List RankedQueue) (rows classes : List Member) (all : Row) → span ≡ span_of n end → AreRanked (queues_of n) ranked
+    → IsUnionRow span all.commands None ranked all → AreRows c span all.commands ranked rows → AreClassRows c span all.commands ranked all_classes classes
     → Tells n end rows classes all
-told n end span ranked rows classes all a so together each by_class =
+told n end c span ranked rows classes all a so together each by_class =
     let whole : all.commands ≡ commands_of n =
     together.commands ∙ length_permutation (latencies_in None (queues_of n)) (all_times None ranked) (same_times None (queues_of n) ranked so) in
     record {

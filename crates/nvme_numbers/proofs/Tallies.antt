@@ -32,6 +32,10 @@ spread_any_order times others sums same s is =
       arbitration = rw size is.arbitration;
       device = rw size is.device;
       service = rw size is.service;
+      above_p50 = rw size is.above_p50;
+      above_p95 = rw size is.above_p95;
+      above_p99 = rw size is.above_p99;
+      above_p999 = rw size is.above_p999;
     }
 
 spreads_any_order : (times others : List ℕ) (sums : Sums) → IsPermutation times others → (s : Option Spread)

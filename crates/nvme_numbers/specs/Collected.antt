@@ -5,7 +5,10 @@ use Rattle.nvme_latency.specs.Times.{times_of}
 use Rattle.nvme_model.specs.declared.finished.Finished.{Finished}
 use Rattle.nvme_model.specs.declared.model.Model.{Model}
 use Rattle.nvme_model.specs.declared.queue.Queue.{Queue}
+use Rattle.nvme_numbers.specs.Feeding.{Event}
 use Rattle.nvme_numbers.specs.Sums.{no_sums, sums_with}
+use Rattle.nvme_numbers.specs.Feeds.{IsComingsOf, IsFeedOf, no_feed}
+use Rattle.nvme_numbers.specs.declared.feed.Comings.{Comings}
 use Rattle.nvme_numbers.specs.declared.numbers.Asked.{Asked}
 use Rattle.nvme_numbers.specs.declared.numbers.Numbers.{Numbers}
 use Rattle.nvme_numbers.specs.declared.numbers.QueueTally.{QueueTally}
@@ -26,6 +29,19 @@ settings_of n = (asked_of n).settings
 abbrev pub began_of : Numbers → Option ℕ
 began_of n = n.began
 
+-- how commands came so far
+abbrev pub comings_of : Numbers → Comings
+comings_of n = n.comings
+
+-- of the commands that came first, so many warm up
+abbrev pub warm_up_of : Numbers → ℕ
+warm_up_of n = (asked_of n).warm_up
+
+-- what is kept of the time in which commands come is that of events, the newest first
+pub record IsFedBy (events : List Event) (n : Numbers) : Type 0 where
+  pub comings : IsComingsOf (warm_up_of n) events (comings_of n)
+  pub each : (k : ℕ) (d : QueueTally) → k < length (queues_of n) → IsFeedOf (warm_up_of n) (k + 1) events (slice_index_or (queues_of n) k d).feed
+
 -- the earlier of two times, the first of which may be missing
 abbrev pub earlier_of : Option ℕ → ℕ → ℕ
 earlier_of None time = time
@@ -36,6 +52,7 @@ pub record IsFresh (q : Queue) (t : QueueTally) : Type 0 where
   pub priority : t.class ≡ q.class
   pub times : times_of t.tally.latencies ≡ []
   pub sums : t.tally.sums ≡ no_sums
+  pub feed : t.feed ≡ no_feed
 
 -- nor of the queues at their places
 pub record AreFresh (queues : List Queue) (tallies : List QueueTally) : Type 0 where
@@ -55,6 +72,7 @@ pub record IsNew (m : Model) (n : Numbers) : Type 0 where
   pub fresh : AreFresh m.queues.items (queues_of n)
   pub began : began_of n ≡ None
   pub says : SaysAsModel m (asked_of n)
+  pub fed : IsFedBy [] n
 
 -- a queue with one command more: exactly its latency and the times of its parts are added
 pub record AddsCommand (f : Finished) (old new : QueueTally) : Type 0 where
@@ -70,6 +88,8 @@ pub record Adds (f : Finished) (old new : Numbers) : Type 0 where
   pub others : (k : ℕ) (d : QueueTally) → ¬ (k + 1 ≡ f.queue) → slice_index_or (queues_of new) k d ≡ slice_index_or (queues_of old) k d
   pub began : 1 ≤ f.queue → f.queue ≤ length (queues_of old) → began_of new ≡ Some (earlier_of (began_of old) f.times.came)
   pub says : asked_of new ≡ asked_of old
+  pub feeds : (k : ℕ) (d : QueueTally) → (slice_index_or (queues_of new) k d).feed ≡ (slice_index_or (queues_of old) k d).feed
+  pub comings : comings_of new ≡ comings_of old
 
 -- what was counted stays
 pub record Keeps (old new : Numbers) : Type 0 where
@@ -79,3 +99,8 @@ pub record Keeps (old new : Numbers) : Type 0 where
   pub sums : (k : ℕ) (d : QueueTally) → (slice_index_or (queues_of new) k d).tally.sums ≡ (slice_index_or (queues_of old) k d).tally.sums
   pub began : began_of new ≡ began_of old
   pub says : asked_of new ≡ asked_of old
+
+-- an event is heeded where the time is told in which commands come, and what was counted stays
+pub record Heeds (e : Event) (old new : Numbers) : Type 0 where
+  pub fed : (events : List Event) → IsFedBy events old → IsFedBy (e ∷ events) new
+  pub keeps : Keeps old new

@@ -2,6 +2,8 @@ pub mod Answers
 pub mod Collected
 pub mod Examples
 pub mod Fairness
+pub mod Feeding
+pub mod Feeds
 pub mod inside
 pub mod Names
 pub mod Quotients
@@ -9,3 +11,4 @@ pub mod Rows
 pub mod Sums
 pub mod Texts
 pub mod Told
+pub mod ToldFed

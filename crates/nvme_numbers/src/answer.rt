@@ -3,18 +3,20 @@ ghost use Rattle.std.specs.Prelude.{◌≡◌, ◌++◌, IfOk, OnOk, option_to_l
 ghost use Rattle.nvme_latency.specs.Times.{times_of};
 ghost use Rattle.nvme_numbers.specs.Answers.{busy_of};
 ghost use Rattle.nvme_numbers.specs.Fairness.{IsJain, IsJainByWeight, commands_of_each, level_part, level_parts};
+ghost use Rattle.nvme_numbers.specs.Rows.{IsFedRow};
 ghost use Rattle.nvme_numbers.specs.Sums.{sums_plus};
 ghost use Rattle.nvme_numbers.specs.Told.{is_of};
-ghost use Rattle.nvme_numbers.specs.inside.Unions.{AreClassRows, AreRanked, AreRows, IsRanked, IsUnion, IsUnionRow, has_ranked, sums_in, times_in};
+ghost use Rattle.nvme_numbers.specs.inside.Unions.{AreClassRows, AreRanked, AreRows, IsRanked, IsUnion, IsUnionFed, IsUnionRow, all_amounts, amount_in, coming_of, has_ranked, sums_in, times_in};
 
 mod object;
 mod sheet;
 mod table;
 mod wording;
 
+use crate::feed::{Amount, Comings, Feed, NONE_DONE};
 use crate::numbers::{Asked, Numbers, QueueTally};
 use crate::quotient::{jain, quotient};
-use crate::row::{Row, row_of};
+use crate::row::{Fed, Row, fed_of, row_of};
 use crate::tally::{RankedTally, Tally};
 use nvme_arbiter::{Class, Mechanism, Settings};
 use nvme_channels::Channel;
@@ -86,16 +88,36 @@ pub struct Answer<'a> {
 struct RankedQueue {
     class: Class,
     tally: RankedTally,
+    feed: Feed,
+}
+
+// How many commands came, and how long they came in picoseconds, from the first one that counts.
+#[derive(Clone, Copy)]
+struct Coming {
+    count: u64,
+    time: u64,
+}
+
+// How commands came in all.
+fn coming_of(comings: &Comings) -> Coming
+    ensures { result ≡ coming_of comings.now }
+{
+    let last = comings.last;
+    Coming {
+        count: comings.count,
+        time: last.saturating_sub(comings.first.unwrap_or(last)),
+    }
 }
 
 // Ranks the latencies of a queue.
 fn ranked_queue(queue: QueueTally) -> RankedQueue
     ensures { IsRanked queue result }
 {
-    let QueueTally { class, tally } = queue;
+    let QueueTally { class, tally, feed } = queue;
     RankedQueue {
         class,
         tally: tally.ranked(),
+        feed,
     }
 }
 
@@ -136,20 +158,43 @@ fn union_of(
     Ok(union.ranked())
 }
 
+// What was done of a queue while commands came, where it is of a class, or of any.
+fn amount_in(queue: &RankedQueue, class: Option<Class>, count: u64) -> Amount
+    ensures { result ≡ amount_in class count queue.now }
+{
+    match class {
+        Some(class) if class.number() != queue.class.number() => NONE_DONE,
+        _ => queue.feed.settled(count),
+    }
+}
+
+// What was done of the queues of a class, or of all, while commands came.
+fn fed_in(queues: &[RankedQueue], class: Option<Class>, coming: Coming) -> Fed
+    ensures { IsFedRow coming.time (all_amounts class coming.count queues.now) result }
+{
+    let mut done = NONE_DONE;
+    for queue in queues {
+        done = done.plus(amount_in(queue, class, coming.count));
+    }
+    fed_of(done, coming.time)
+}
+
 // The rows of queues.
 fn queue_rows(
     alloc: Global,
     queues: &[RankedQueue],
+    coming: Coming,
     span: u64,
     whole: usize,
 ) -> Result<Vec<Member>, AllocError>
-    ensures { IfOk result (λ rows. AreRows span whole queues.now rows.items) }
+    ensures { IfOk result (λ rows. AreRows coming span whole queues.now rows.items) }
 {
     let mut rows = Vec::with_capacity(alloc, queues.len())?;
     for queue in queues {
+        let fed = fed_of(queue.feed.settled(coming.count), coming.time);
         rows.push(Member {
             class: queue.class,
-            row: row_of(&queue.tally, span, whole),
+            row: row_of(&queue.tally, span, whole, fed),
         })?;
     }
     Ok(rows)
@@ -160,21 +205,31 @@ fn class_row(
     alloc: Global,
     queues: &[RankedQueue],
     class: Class,
+    coming: Coming,
     span: u64,
     whole: usize,
 ) -> Result<Row, AllocError>
-    ensures { IfOk result (IsUnionRow span whole (Some class) queues.now) }
+    ensures row { IfOk result (IsUnionRow span whole (Some class) queues.now) }
+    ensures fed { IfOk result (IsUnionFed coming (Some class) queues.now) }
 {
     let union = union_of(alloc, queues, Some(class))?;
-    Ok(row_of(&union, span, whole))
+    let fed = fed_in(queues, Some(class), coming);
+    Ok(row_of(&union, span, whole, fed))
 }
 
 // The row of all queues.
-fn all_row(alloc: Global, queues: &[RankedQueue], span: u64) -> Result<Row, AllocError>
-    ensures { IfOk result (λ row. IsUnionRow span row.commands None queues.now row) }
+fn all_row(
+    alloc: Global,
+    queues: &[RankedQueue],
+    coming: Coming,
+    span: u64,
+) -> Result<Row, AllocError>
+    ensures row { IfOk result (λ row. IsUnionRow span row.commands None queues.now row) }
+    ensures fed { IfOk result (IsUnionFed coming None queues.now) }
 {
     let union = union_of(alloc, queues, None)?;
-    Ok(row_of(&union, span, union.latencies.count()))
+    let fed = fed_in(queues, None, coming);
+    Ok(row_of(&union, span, union.latencies.count(), fed))
 }
 
 // Whether a queue is of a class.
@@ -196,16 +251,17 @@ fn class_rows(
     alloc: Global,
     queues: &[RankedQueue],
     classes: &[Class],
+    coming: Coming,
     span: u64,
     whole: usize,
 ) -> Result<Vec<Member>, AllocError>
-    ensures { IfOk result (λ rows. AreClassRows span whole queues.now classes.now rows.items) }
+    ensures { IfOk result (λ rows. AreClassRows coming span whole queues.now classes.now rows.items) }
 {
     let mut rows = Vec::new(alloc);
     for class in classes {
         let class = *class;
         if has_queue(queues, class) {
-            let row = class_row(alloc, queues, class, span, whole)?;
+            let row = class_row(alloc, queues, class, coming, span, whole)?;
             rows.push(Member { class, row })?;
         }
     }
@@ -282,8 +338,11 @@ fn busy_of(channels: &[Channel]) -> u128
 
 impl Numbers {
     ghost use Rattle.nvme_numbers.specs.Answers.{about_in, asked_in};
-    ghost use Rattle.nvme_numbers.specs.Collected.{asked_of, began_of, settings_of};
+    ghost use Rattle.std.specs.Prelude.{List};
+    ghost use Rattle.nvme_numbers.specs.Collected.{IsFedBy, asked_of, began_of, settings_of};
+    ghost use Rattle.nvme_numbers.specs.Feeding.{Event};
     ghost use Rattle.nvme_numbers.specs.Told.{Tells};
+    ghost use Rattle.nvme_numbers.specs.ToldFed.{TellsFed};
 
     /// What is told of the simulation, which ended at this time and left the channels like this. The latencies of the commands
     /// are ranked, and those of a class and of all once more, one after another.
@@ -294,6 +353,7 @@ impl Numbers {
         about: About<'a>,
     ) -> Result<Answer<'a>, AllocError>
         ensures told { IfOk result (λ a. Tells self end a.queues.items a.classes.items a.all) }
+        ensures fed { IfOk result (λ a. (events : List Event) → IsFedBy events self → TellsFed events self a.queues.items a.classes.items a.all) }
         ensures jain { IfOk result (λ a. IsJain (commands_of_each a.queues.items) a.jain) }
         ensures jain_by_weight { IfOk result (λ a. IsJainByWeight (asked_of self).mechanism (level_parts (settings_of self) a.queues.items) a.jain_by_weight) }
         ensures began { IfOk result (λ a. a.began ≡ began_of self) }
@@ -305,20 +365,22 @@ impl Numbers {
         let Numbers {
             asked,
             queues,
+            comings,
             began,
             alloc,
         } = self;
         let span = end.saturating_sub(began.unwrap_or(end));
+        let coming = coming_of(&comings);
         let ranked = ranked_queues(alloc, queues)?;
-        let all = all_row(alloc, &ranked, span)?;
+        let all = all_row(alloc, &ranked, coming, span)?;
         let whole = all.commands;
-        let rows = queue_rows(alloc, &ranked, span, whole)?;
+        let rows = queue_rows(alloc, &ranked, coming, span, whole)?;
         Ok(Answer {
             about,
             asked,
             began,
             end,
-            classes: class_rows(alloc, &ranked, &CLASSES, span, whole)?,
+            classes: class_rows(alloc, &ranked, &CLASSES, coming, span, whole)?,
             all,
             channels,
             jain: jain_of_queues(alloc, &rows)?,

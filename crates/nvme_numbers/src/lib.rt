@@ -4,6 +4,7 @@
 #![tactic(auto)]
 
 mod answer;
+mod feed;
 mod finish_log;
 mod groups;
 pub mod laws;
@@ -19,4 +20,4 @@ pub use finish_log::{log_header, log_line};
 pub use names::{PickingWords, class_name};
 pub use numbers::Numbers;
 pub use nvme_output::WriteFault;
-pub use row::{Row, Spread};
+pub use row::{Fed, Row, Spread};

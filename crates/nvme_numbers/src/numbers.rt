@@ -1,7 +1,10 @@
 // Collects the numbers of a simulation.
 ghost use Rattle.std.specs.Prelude.{◌≡◌, IfOk, OnErr, OnOk};
-ghost use Rattle.nvme_numbers.specs.Collected.{Adds, IsNew, Keeps, earlier_of};
+ghost use Rattle.nvme_numbers.specs.Collected.{Adds, Heeds, IsNew, Keeps, earlier_of};
+ghost use Rattle.nvme_numbers.specs.Feeding.{Comes, Ends};
+ghost use Rattle.nvme_numbers.specs.Feeds.{IsFed};
 
+use crate::feed::{Comings, Feed, NO_FEED, NONE_CAME};
 use crate::tally::Tally;
 use nvme_arbiter::{Class, Mechanism, Settings};
 use nvme_model::{Device, Finished, Model};
@@ -12,6 +15,7 @@ use std::alloc::{AllocError, Global};
 pub struct QueueTally {
     pub class: Class,
     pub tally: Tally,
+    pub feed: Feed,
 }
 
 /// What an answer tells of its model.
@@ -29,6 +33,7 @@ pub struct Asked {
 pub struct Numbers {
     pub(crate) asked: Asked,
     pub(crate) queues: Vec<QueueTally>,
+    pub(crate) comings: Comings,
     pub(crate) began: Option<u64>,
     pub(crate) alloc: Global,
 }
@@ -43,6 +48,7 @@ impl Numbers {
             queues.push(QueueTally {
                 class: queue.class,
                 tally: Tally::new(alloc),
+                feed: NO_FEED,
             })?;
         }
         Ok(Numbers {
@@ -54,6 +60,7 @@ impl Numbers {
                 warm_up: model.warm_up,
             },
             queues,
+            comings: NONE_CAME,
             began: None,
             alloc,
         })
@@ -73,6 +80,34 @@ impl Numbers {
             self.began = Some(earlier(self.began, finished.times.came));
         }
         Ok(())
+    }
+
+    /// So many commands came in all, the last of them at this time, in picoseconds. Where no more came than before, none came.
+    pub fn come(&mut self, count: u64, at: u64)
+        ensures { Heeds (Comes count at) self.old self.new }
+    {
+        self.comings = self.comings.with(self.asked.warm_up, count, at);
+    }
+
+    // A command of a queue is done.
+    fn feed(&mut self, finished: &Finished)
+        ensures fed { IsFed finished.now self.old self.new }
+        ensures keeps { Keeps self.old self.new }
+    {
+        let Some(at) = usize::from(finished.queue).checked_sub(1) else {
+            return;
+        };
+        if at < self.queues.len() && self.comings.is_behind(finished) {
+            let feed = self.queues[at].feed;
+            self.queues[at].feed = feed.with(self.comings.count, self.comings.last, finished);
+        }
+    }
+
+    /// A command is done, one of the warm-up too. Only what is told of the time in which commands come heeds it.
+    pub fn end(&mut self, finished: &Finished)
+        ensures { Heeds (Ends finished.now) self.old self.new }
+    {
+        self.feed(finished);
     }
 }
 

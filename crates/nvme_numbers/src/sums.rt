@@ -3,8 +3,8 @@ ghost use Rattle.std.specs.Prelude.{◌≡◌, ◌-◌, ◌^◌};
 
 use nvme_model::Finished;
 
-// The bytes of a block.
-const BLOCK_BYTES: u64 = 512;
+/// The bytes of a block.
+pub const BLOCK_BYTES: u64 = 512;
 
 /// Sums over commands: bytes, and the times in each part of their way in picoseconds.
 #[derive(Clone, Copy, Debug, PartialEq, Eq)]

@@ -67,15 +67,16 @@ fn count(numbers: &mut Numbers, command: &Finished, counts: bool) -> Result<(), 
     Ok(())
 }
 
-// What happened is counted and written.
+// What happened in a simulation just now is counted and written.
 fn note<L: Write, T: Write, P: Write>(
     happening: &Happening,
+    simulation: &Simulation,
     watch: &Watch,
     bounds: &mut Option<Bounds>,
     numbers: &mut Numbers,
     streams: &mut Streams<L, T, P>,
 ) -> Result<(), SimulateFault>
-    ensures { OnOk result (Takes happening.now numbers.old numbers.new) }
+    ensures { OnOk result (Takes simulation.now happening.now numbers.old numbers.new) }
 {
     match happening {
         Happening::Picked(picked) => {
@@ -90,10 +91,14 @@ fn note<L: Write, T: Write, P: Write>(
             if let Some(bounds) = bounds {
                 bounds.finish(command, *counts);
             }
+            numbers.end(command);
             count(numbers, command, *counts)
         }
-        Happening::Came { .. }
-        | Happening::Settled
+        Happening::Came { .. } => {
+            numbers.come(simulation.occupancy().came, simulation.time());
+            Ok(())
+        }
+        Happening::Settled
         | Happening::Paused { .. }
         | Happening::Resumed { .. }
         | Happening::Over => Ok(()),
@@ -111,13 +116,13 @@ fn step<L: Write, T: Write, P: Write>(
     requires stands { IsSimulation simulation.old }
     ensures stands { IsSimulation simulation.new }
     ensures steps { IfOk result (GoesOn simulation.old simulation.new) }
-    ensures takes { IfOk result (λ h. Takes h numbers.old numbers.new) }
+    ensures takes { IfOk result (λ h. Takes simulation.new h numbers.old numbers.new) }
 {
     if streams.trace.is_some() && simulation.picks() {
         watch.look(simulation)?;
     }
     let happening = simulation.go_on()?;
-    note(&happening, watch, bounds, numbers, streams)?;
+    note(&happening, simulation, watch, bounds, numbers, streams)?;
     Ok(happening)
 }
 

@@ -66,7 +66,7 @@ pauses          none           every, for: durations, of each channel  pauses = 
 
 Each [[queue]], 1 to 64, of which the first is queue 1:
 class           "medium"       "urgent", "high", "medium", "low"       class = "high"
-slots           1024           2 to 4096 of each ring                  slots = 64
+slots           1024           2 to 4096; window min(256, slots - 1)   slots = 64
 arrivals        (required)     one of those below                      arrivals = { poisson = 11667 }
 mix             reads alone    read, write, flush: shares, 0 to 2^32-1 mix = { read = 7, write = 3 }
 blocks          8              1 to 65536 of each command              blocks = 64

@@ -2,7 +2,7 @@
 use super::wording::{put_index, put_number, put_share, put_utilization};
 use super::{Answer, Member};
 use crate::names::{class_name, mechanism_name};
-use crate::row::{Row, Spread};
+use crate::row::{Fed, Row, Spread};
 use nvme_arbiter::Class;
 use nvme_channels::Placement;
 use nvme_model::Device;
@@ -57,6 +57,36 @@ fn put_no_spread<W: Write>(writer: &mut W) -> io::Result<()> {
     )
 }
 
+// Writes what was done while commands came.
+fn put_fed<W: Write>(fed: &Fed, writer: &mut W) -> io::Result<()> {
+    writer.write_all(b",\"iops_fed\":")?;
+    put_number(fed.iops, NULL, writer)?;
+    writer.write_all(b",\"bytes_per_second_fed\":")?;
+    put_number(fed.bytes_per_second, NULL, writer)?;
+    let time = fed.time;
+    write!(writer, ",\"fed_ps\":{time}")
+}
+
+// Writes how many commands lie above percentiles.
+fn put_above<W: Write>(spread: Option<&Spread>, writer: &mut W) -> io::Result<()> {
+    let Some(spread) = spread else {
+        return writer.write_all(
+            b",\"above_p50\":null,\"above_p95\":null,\"above_p99\":null,\"above_p999\":null",
+        );
+    };
+    let Spread {
+        above_p50,
+        above_p95,
+        above_p99,
+        above_p999,
+        ..
+    } = *spread;
+    write!(
+        writer,
+        ",\"above_p50\":{above_p50},\"above_p95\":{above_p95},\"above_p99\":{above_p99},\"above_p999\":{above_p999}"
+    )
+}
+
 // Writes a row as the rest of an object.
 fn put_row<W: Write>(row: &Row, writer: &mut W) -> io::Result<()> {
     let commands = row.commands;
@@ -70,6 +100,8 @@ fn put_row<W: Write>(row: &Row, writer: &mut W) -> io::Result<()> {
         Some(spread) => put_spread(spread, writer)?,
         None => put_no_spread(writer)?,
     }
+    put_fed(&row.fed, writer)?;
+    put_above(row.spread.as_ref(), writer)?;
     writer.write_all(b"}")
 }
 

@@ -7,7 +7,7 @@ use std::io::{self, Write};
 
 // The names of the columns.
 const NAMES: &[u8] =
-    b"seed,version,digest,scope,name,class,commands,share,iops,bytes_per_second,latency_mean_ps,latency_p50_ps,latency_p95_ps,latency_p99_ps,latency_p999_ps,latency_max_ps,host_mean_ps,arbitration_mean_ps,device_mean_ps,service_mean_ps,utilization,jain,jain_by_weight\n";
+    b"seed,version,digest,scope,name,class,commands,share,iops,bytes_per_second,latency_mean_ps,latency_p50_ps,latency_p95_ps,latency_p99_ps,latency_p999_ps,latency_max_ps,host_mean_ps,arbitration_mean_ps,device_mean_ps,service_mean_ps,utilization,jain,jain_by_weight,iops_fed,bytes_per_second_fed,fed_ps,above_p50,above_p95,above_p99,above_p999\n";
 
 // Writes which program simulated what, with a comma behind it.
 fn put_about<W: Write>(answer: &Answer, writer: &mut W) -> io::Result<()> {
@@ -52,6 +52,27 @@ fn put_row<W: Write>(row: &Row, writer: &mut W) -> io::Result<()> {
     }
 }
 
+// Writes the rest of a row behind a comma, and ends the line.
+fn put_rest<W: Write>(row: &Row, writer: &mut W) -> io::Result<()> {
+    let time = row.fed.time;
+    writer.write_all(b",")?;
+    put_number(row.fed.iops, "", writer)?;
+    writer.write_all(b",")?;
+    put_number(row.fed.bytes_per_second, "", writer)?;
+    write!(writer, ",{time}")?;
+    let Some(spread) = &row.spread else {
+        return writer.write_all(b",,,,\n");
+    };
+    let Spread {
+        above_p50,
+        above_p95,
+        above_p99,
+        above_p999,
+        ..
+    } = *spread;
+    writeln!(writer, ",{above_p50},{above_p95},{above_p99},{above_p999}")
+}
+
 // Writes a line for each queue.
 fn put_queues<W: Write>(answer: &Answer, writer: &mut W) -> io::Result<()> {
     let mut number = 1usize;
@@ -60,7 +81,8 @@ fn put_queues<W: Write>(answer: &Answer, writer: &mut W) -> io::Result<()> {
         let class = class_name(queue.class);
         write!(writer, "queue,{number},{class}")?;
         put_row(&queue.row, writer)?;
-        writer.write_all(b",,,\n")?;
+        writer.write_all(b",,,")?;
+        put_rest(&queue.row, writer)?;
         number = number.saturating_add(1);
     }
     Ok(())
@@ -73,7 +95,8 @@ fn put_classes<W: Write>(answer: &Answer, writer: &mut W) -> io::Result<()> {
         let name = class_name(class.class);
         write!(writer, "class,{name},{name}")?;
         put_row(&class.row, writer)?;
-        writer.write_all(b",,,\n")?;
+        writer.write_all(b",,,")?;
+        put_rest(&class.row, writer)?;
     }
     Ok(())
 }
@@ -89,7 +112,7 @@ fn put_all<W: Write>(answer: &Answer, writer: &mut W) -> io::Result<()> {
     put_index(answer.jain, "", writer)?;
     writer.write_all(b",")?;
     put_index(answer.jain_by_weight, "", writer)?;
-    writer.write_all(b"\n")
+    put_rest(&answer.all, writer)
 }
 
 /// Writes the lines.

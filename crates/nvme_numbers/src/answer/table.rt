@@ -12,6 +12,9 @@ use std::io::{self, Write};
 // How many channels stand on a line.
 const CHANNELS_A_LINE: usize = 8;
 
+// A percentile is told beside a note where fewer commands lie above it.
+const FEW: usize = 20;
+
 // What a table tells of each row.
 #[derive(Clone, Copy)]
 enum Columns {
@@ -225,6 +228,42 @@ fn put_rows<W: Write>(answer: &Answer, columns: Columns, writer: &mut W) -> io::
     put_columns(columns, &answer.all, writer)
 }
 
+// The fewest commands above each percentile of rows: p50, p95, p99 and p99.9.
+type Fewest = [usize; 4];
+
+// The same with one row more.
+fn fewest_with(fewest: Fewest, row: &Row) -> Fewest {
+    let [p50, p95, p99, p999] = fewest;
+    match &row.spread {
+        Some(spread) => [
+            p50.min(spread.above_p50),
+            p95.min(spread.above_p95),
+            p99.min(spread.above_p99),
+            p999.min(spread.above_p999),
+        ],
+        None => fewest,
+    }
+}
+
+// Writes above which percentiles of a row few commands lie, if there are such ones.
+fn put_few<W: Write>(answer: &Answer, writer: &mut W) -> io::Result<()> {
+    let mut fewest = fewest_with([FEW; 4], &answer.all);
+    for member in answer.queues.iter().chain(answer.classes.iter()) {
+        fewest = fewest_with(fewest, &member.row);
+    }
+    let [p50, p95, p99, p999] = fewest;
+    if p999 >= FEW {
+        return Ok(());
+    }
+    write!(writer, "fewer than {FEW} commands lie above ")?;
+    for (above, name) in [(p50, "p50, "), (p95, "p95, "), (p99, "p99, ")] {
+        if above < FEW {
+            writer.write_all(name.as_bytes())?;
+        }
+    }
+    writer.write_all(b"p99.9 of a row\n")
+}
+
 /// Writes the tables.
 pub fn put_table<W: Write>(answer: &Answer, writer: &mut W) -> io::Result<()> {
     put_about(answer, writer)?;
@@ -236,5 +275,6 @@ pub fn put_table<W: Write>(answer: &Answer, writer: &mut W) -> io::Result<()> {
     writer.write_all(b"latency in us\n")?;
     put_rows(answer, Columns::Latencies, writer)?;
     writer.write_all(b"its parts, mean in us\n")?;
-    put_rows(answer, Columns::Parts, writer)
+    put_rows(answer, Columns::Parts, writer)?;
+    put_few(answer, writer)
 }

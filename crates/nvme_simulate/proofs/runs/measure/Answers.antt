@@ -1,3 +1,4 @@
+use Rattle.nvme_simulate.proofs.Played.{played_fed}
 use Rattle.nvme_simulate.proofs.runs.measure.Goals as goal
 
 pub returns : goal.returns
@@ -7,4 +8,5 @@ returns g c = record {
   end = _;
   played = c.in_ok-played.ensures;
   tells = c.in_ok-answer.ensures.told;
+  fed = c.in_ok-answer.ensures.fed _ (played_fed _ _ _ _ c.in_ok-played.ensures);
 }
