@@ -241,7 +241,7 @@ module _ (rules : FrontRules) where
   unseen note notes q (told_on r cqid) c seen = seen
 
   module _ (starts : StartsWithAdmin rules) (by_regions : placing_in rules ≡ None) where
-    sound : (notes : Notes) → EachNote (IsLawful rules) notes → IsLimitedRun rules.mechanism rules.start.settings (arbitration_of (logged notes)) → IsSound rules (logged notes)
+    pub sound : (notes : Notes) → EachNote (IsLawful rules) notes → IsLimitedRun rules.mechanism rules.start.settings (arbitration_of (logged notes)) → IsSound rules (logged notes)
     sound notes h l = sound-notes rules Submission 0 0 (some_sqs rules starts) (some_cqs rules starts) notes h l
 
     -- an event that shows nothing and turns no submission queue

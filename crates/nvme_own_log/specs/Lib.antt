@@ -1,5 +1,6 @@
 pub mod Shown
 pub mod Duties
 pub mod Examples
+pub mod Statuses
 pub mod Laws
 pub mod TurnExamples
