@@ -1,5 +1,7 @@
 // What the bytes of a simulation file say.
 ghost use Rattle.std.specs.Prelude.{◌≡◌, IfOk};
+ghost use Rattle.toml.specs.View.{table_view};
+ghost use Rattle.nvme_model_form.specs.Models.{Says};
 ghost use Rattle.nvme_model_file.specs.Documents.{SaysIn, is_simulation_text};
 
 use crate::fault::ModelFault;
@@ -8,6 +10,7 @@ use nvme_model::Model;
 use nvme_model_form::{Source, is_simulation, model_of, sources_of};
 use nvme_workload::{DocumentError, document};
 use std::alloc::{AllocError, Global};
+use toml::Table;
 
 /// Whether the bytes of a file are a TOML document with the key `device` or `simulation`. The error is that memory was
 /// refused.
@@ -38,10 +41,25 @@ pub fn model_in(alloc: Global, bytes: &[u8]) -> Result<Model, ModelFault>
         Err(DocumentError::NoMemory) => return Err(ModelFault::NoMemory),
         Err(DocumentError::NotToml(error)) => return Err(bad_text(text, error)),
     };
-    match model_of(alloc, &table) {
+    model_at(alloc, bytes, &table)
+}
+
+// The model that a document says, or its first fault, with its place in the text from which the document was read.
+fn model_at(alloc: Global, text: &[u8], document: &Table) -> Result<Model, ModelFault>
+    ensures { IfOk result (Says (table_view document.now)) }
+{
+    match model_of(alloc, document) {
         Ok(model) => Ok(model),
-        Err(error) => Err(fault_in(alloc, bytes, &table, error)),
+        Err(error) => Err(fault_in(alloc, text, document, error)),
     }
+}
+
+/// The model that the document of a simulation file says, or its first fault with what is told of it, but for its place: no
+/// text is at hand. `NoMemory` comes in a fault's place where memory was refused.
+pub fn model_in_document(alloc: Global, document: &Table) -> Result<Model, ModelFault>
+    ensures { IfOk result (Says (table_view document.now)) }
+{
+    model_at(alloc, b"", document)
 }
 
 /// The files that the queues of a simulation file replay, in the order of the queues, or the first fault of what is said of
@@ -55,8 +73,18 @@ pub fn sources_in(alloc: Global, bytes: &[u8]) -> Result<Vec<Source>, ModelFault
         Err(DocumentError::NoMemory) => return Err(ModelFault::NoMemory),
         Err(DocumentError::NotToml(_)) => return Ok(Vec::new(alloc)),
     };
-    match sources_of(alloc, &table) {
+    sources_at(alloc, bytes, &table)
+}
+
+// The files that the queues of a document replay, or the first fault, with its place in the text from which it was read.
+fn sources_at(alloc: Global, text: &[u8], document: &Table) -> Result<Vec<Source>, ModelFault> {
+    match sources_of(alloc, document) {
         Ok(sources) => Ok(sources),
-        Err(error) => Err(fault_in(alloc, bytes, &table, error)),
+        Err(error) => Err(fault_in(alloc, text, document, error)),
     }
+}
+
+/// The files that the queues of a simulation file's document replay, as `sources_in` tells them, but for a fault's place.
+pub fn sources_in_document(alloc: Global, document: &Table) -> Result<Vec<Source>, ModelFault> {
+    sources_at(alloc, b"", document)
 }

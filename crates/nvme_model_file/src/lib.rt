@@ -6,7 +6,7 @@ mod faults;
 mod file;
 
 pub use fault::{Flaw, ModelFault, Told};
-pub use file::{model_in, simulation_in, sources_in};
+pub use file::{model_in, model_in_document, simulation_in, sources_in, sources_in_document};
 pub use nvme_model_form::{
     Fault, Key, Kind, ModelError, Owner, Place, Refusal, Source, Target, is_simulation, model_of,
     sources_of,

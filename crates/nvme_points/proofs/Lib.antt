@@ -1,2 +1,5 @@
 mod Combinations
+mod Digits
+mod Documents
+mod Puts
 mod Standing

@@ -62,8 +62,14 @@ pub record IsRowOver (runs : List Run) (scope : Scope) (row : SweepRow) : Type 0
   pub longest : IsOver runs scope 6 (get_or row.numbers 6 untold)
 
 -- the scopes of a run: its queues, the classes that have one, and all
+abbrev pub classes_of : List Member → List Class
+classes_of queues = map (λ (it : Member). it.class) queues
+
+abbrev pub scopes_by : List Class → List Scope
+scopes_by classes = map (λ (p : ℕ × Class). Queue p.0 p.1) (enumerate_from 0 classes)
+
 abbrev pub queue_scopes : List Member → List Scope
-queue_scopes queues = map (λ (p : ℕ × Member). Queue p.0 p.1.class) (enumerate_from 0 queues)
+queue_scopes queues = scopes_by (classes_of queues)
 
 abbrev pub class_scopes : List Member → List Scope
 class_scopes classes = map (λ (it : Member). OfClass it.class) classes

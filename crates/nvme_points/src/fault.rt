@@ -1,4 +1,7 @@
 // Why there is no sweep.
+ghost use Rattle.std.specs.Prelude.{◌≡◌};
+ghost use Rattle.nvme_points.specs.declared.fault.SweepFault.TheVariants.{NoMemory};
+
 use nvme_arbiter::Class;
 use nvme_model_file::ModelFault;
 use nvme_numbers::class_name;
@@ -49,6 +52,8 @@ pub enum SweepFault<'a> {
 }
 
 impl From<AllocError> for SweepFault<'_> {
+    ghost from_gives = { λ _ e. e ≡ NoMemory };
+
     fn from(_error: AllocError) -> Self {
         SweepFault::NoMemory
     }

@@ -6,6 +6,7 @@ mod axis;
 mod estimates;
 mod fault;
 pub mod laws;
+mod overridden;
 mod place;
 mod points;
 mod rows;

@@ -1,6 +1,6 @@
 // The numbers of a point over its seeds.
-ghost use Rattle.std.specs.Prelude.{◌≡◌, IfOk, filter_map};
-ghost use Rattle.nvme_points.specs.Rows.{AreRowsFor, AreRowsOver, IsOver, IsRowOver, number_in, numbers_of, class_scopes, first_scopes, member_in, queue_scopes, row_in, scopes_of};
+ghost use Rattle.std.specs.Prelude.{◌≡◌, IfOk, filter_map, get_or, None};
+ghost use Rattle.nvme_points.specs.Rows.{AreRowsFor, AreRowsOver, IsOver, IsRowOver, number_in, numbers_of, class_scopes, first_scopes, member_in, classes_of, scopes_by, queue_scopes, row_in, scopes_of};
 
 use crate::estimates::{Estimate, estimate_of};
 use nvme_arbiter::Class;
@@ -92,12 +92,19 @@ fn row_of(run: &Measured, scope: Scope) -> Option<Row>
     Some(member.row)
 }
 
+// The number at an index, where there is one and it is told.
+fn told_at(numbers: &[Option<u128>], index: usize) -> Option<u128>
+    ensures { result ≡ get_or numbers.now index None }
+{
+    numbers.get(index).copied().flatten()
+}
+
 // The number at an index of a scope in a run.
 fn number_of(run: &Run, scope: Scope, index: usize) -> Option<u128>
     ensures { result ≡ number_in index scope run.now }
 {
     let row = row_of(&run.measured, scope)?;
-    numbers_of(&row).get(index).copied().flatten()
+    told_at(&numbers_of(&row), index)
 }
 
 // The numbers at an index of a scope in runs.
@@ -146,14 +153,28 @@ fn row_over(alloc: Global, runs: &[Run], scope: Scope) -> Result<SweepRow, Alloc
     })
 }
 
+// The classes of queues.
+fn classes_of(alloc: Global, queues: &[Member]) -> Result<Vec<Class>, AllocError>
+    ensures { IfOk result (λ classes. classes.items ≡ classes_of queues.now) }
+{
+    queues.iter().map(|member| member.class).collect(alloc)
+}
+
+// The scopes of queues of these classes.
+fn scopes_by(alloc: Global, classes: &[Class]) -> Result<Vec<Scope>, AllocError>
+    ensures { IfOk result (λ scopes. scopes.items ≡ scopes_by classes.now) }
+{
+    let numbered = classes.iter().enumerate();
+    numbered
+        .map(|(at, class)| Scope::Queue(at, *class))
+        .collect(alloc)
+}
+
 // The scopes of queues.
 fn queue_scopes(alloc: Global, queues: &[Member]) -> Result<Vec<Scope>, AllocError>
     ensures { IfOk result (λ scopes. scopes.items ≡ queue_scopes queues.now) }
 {
-    let numbered = queues.iter().enumerate();
-    numbered
-        .map(|(at, member)| Scope::Queue(at, member.class))
-        .collect(alloc)
+    scopes_by(alloc, &classes_of(alloc, queues)?)
 }
 
 // The scopes of classes.

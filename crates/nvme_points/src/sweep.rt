@@ -1,17 +1,24 @@
 // Runs a simulation at each point.
-ghost use Rattle.std.specs.Prelude.{◌≡◌, ◌<◌, IfOk};
+ghost use Rattle.std.specs.Prelude.{◌≡◌, ◌<◌, IfOk, IfSome, None};
+ghost use Rattle.std.specs.Result.{IsErrAnd};
+ghost use Rattle.nvme_points.specs.Overridden.{TellsOverridden, overridden};
+ghost use Rattle.toml.specs.View.{table_view};
+ghost use Rattle.nvme_model_form.specs.Models.{Says};
 ghost use Rattle.nvme_points.specs.Points.{count_of};
 ghost use Rattle.nvme_points.specs.Rows.{AreRowsOver};
-ghost use Rattle.nvme_points.specs.Runs.{IsRunOf, Stand, first_seed};
+ghost use Rattle.nvme_points.specs.Runs.{AreOptionsAt, IsDocumentAt, IsListed, IsLoadAt, IsModelAt, IsRunOf, Stand, first_seed, is_list, replays};
 ghost use Rattle.nvme_points.specs.Values.{chosen, lengths_of, values_at, values_by};
 
 use crate::axis::{Axis, lengths_of};
 use crate::fault::SweepFault;
-use crate::place::{COMMANDS, LOAD, SEED, TIME, WARM_UP, put};
+use crate::overridden::overridden;
+use crate::place::{load_among, put_all};
 use crate::points::{choices_at, points_of};
 use crate::rows::{Run, SweepRow, rows_of};
 use nvme_arbiter::Class;
-use nvme_model_file::{ModelFault, model_in, sources_in};
+use nvme_load::Arrivals;
+use nvme_model::Queue;
+use nvme_model_file::{ModelFault, model_in_document, sources_in_document};
 use nvme_simulate::{
     Listings, Load, LoadFault, Model, Overrides, Progress, ReplayError, SimulateFault, measure,
     overload_of,
@@ -19,6 +26,21 @@ use nvme_simulate::{
 use nvme_workload::{DocumentError, document};
 use std::alloc::{AllocError, Global};
 use std::io::Write;
+use toml::Table;
+
+// Whether the commands of a queue are those of a list.
+fn is_list(queue: &Queue) -> bool
+    ensures { result ≡ is_list queue.now.arrivals }
+{
+    matches!(queue.arrivals, Arrivals::Replay(_))
+}
+
+// Whether a queue replays a list.
+fn replays(queues: &[Queue]) -> bool
+    ensures { result ≡ replays queues.now }
+{
+    queues.iter().any(is_list)
+}
 
 /// The points of a sweep over the keys of a simulation file, and over its load.
 #[derive(Drop)]
@@ -129,24 +151,14 @@ impl<'a> Sweep<'a> {
         Ok(name)
     }
 
-    // The text of the file with these values at the keys. The load is none of them.
-    fn text_at(&self, alloc: Global, values: &[&'a str]) -> Result<String, SweepFault<'a>> {
-        if values.is_empty() {
-            return Ok(String::from_str(alloc, self.text)?);
-        }
-        let mut table = match document(alloc, self.text) {
-            Ok(table) => table,
-            Err(DocumentError::NoMemory) => return Err(SweepFault::NoMemory),
-            Err(DocumentError::NotToml(_)) => return Err(SweepFault::NotToml),
-        };
-        for (axis, value) in self.axes.iter().zip(values) {
-            if axis.key != LOAD {
-                put(alloc, &mut table, axis.key, value)?;
-            }
-        }
-        match toml::table_to_string(alloc, &table) {
-            Ok(text) => Ok(text),
-            Err(_) => Err(SweepFault::NoMemory),
+    // The document of the file with these values at the keys. The load is none of them.
+    fn document_at(&self, alloc: Global, values: &[&'a str]) -> Result<Table, SweepFault<'a>>
+        ensures { IfOk result (λ t. IsDocumentAt self.now.text.now self.now.axes.items values.now (table_view t)) }
+    {
+        match document(alloc, self.text) {
+            Ok(file) => put_all(alloc, file, &self.axes, values),
+            Err(DocumentError::NoMemory) => Err(SweepFault::NoMemory),
+            Err(DocumentError::NotToml(_)) => Err(SweepFault::NotToml),
         }
     }
 
@@ -158,15 +170,20 @@ impl<'a> Sweep<'a> {
         }
     }
 
-    // The model of a text at a point with the lists of the files that its queues replay.
+    // The model of a document at a point with the lists of the files that its queues replay.
     fn with_lists(
         &self,
         alloc: Global,
         values: &[&str],
-        text: &str,
+        document: &Table,
         model: Model,
-    ) -> Result<Model, SweepFault<'a>> {
-        let sources = match sources_in(alloc, text.as_bytes()) {
+    ) -> Result<Model, SweepFault<'a>>
+        ensures { IfOk result (IsListed model) }
+    {
+        if !replays(&model.queues) {
+            return Ok(model);
+        }
+        let sources = match sources_in_document(alloc, document) {
             Ok(sources) => sources,
             Err(fault) => return Err(self.fault_at(alloc, values, fault)),
         };
@@ -183,11 +200,9 @@ impl<'a> Sweep<'a> {
 
     // What stands in place of what the file says at a point with these values.
     fn overrides_at(&self, values: &[&str]) -> Result<Overrides, LoadFault>
-        ensures seed { IfOk result (λ o. o.seed ≡ self.now.overrides.seed) }
-        ensures end { IfOk result (λ o. o.end ≡ self.now.overrides.end) }
-        ensures warm_up { IfOk result (λ o. o.warm_up ≡ self.now.overrides.warm_up) }
+        ensures { IfOk result (AreOptionsAt self.now.axes.items values.now self.now.overrides) }
     {
-        let load = match self.load_at(values) {
+        let load = match load_among(&self.axes, values) {
             Some(value) => Some(Load::new(value)?),
             None => self.overrides.load,
         };
@@ -197,66 +212,39 @@ impl<'a> Sweep<'a> {
         })
     }
 
-    // The load at a point with these values, where it is swept.
-    fn load_at<'t>(&self, values: &[&'t str]) -> Option<&'t str> {
-        for (axis, value) in self.axes.iter().zip(values) {
-            if axis.key == LOAD {
-                return Some(*value);
-            }
-        }
-        None
-    }
-
     // A model with what stands in place of its own at a point with these values.
-    #[tactic(auto, using(crate::proofs::Standing::stands_so))]
     fn replaced(&self, values: &[&str], model: Model) -> Result<Model, LoadFault>
-        ensures { IfOk result (Stand self.now.overrides) }
+        ensures { IfOk result (λ m. (chosen : Overrides) × AreOptionsAt self.now.axes.items values.now self.now.overrides chosen × Stand chosen model m) }
     {
         self.overrides_at(values)?.applied(model)
     }
 
-    // The model of a text at a point, with the lists of the files that its queues replay, and with what stands in place of
-    // what the file says.
-    fn model_at(&self, alloc: Global, values: &[&str], text: &str) -> Result<Model, SweepFault<'a>>
-        ensures { IfOk result (Stand self.now.overrides) }
+    // The model that a document says at a point, with the lists of the files that its queues replay.
+    fn listed_at(
+        &self,
+        alloc: Global,
+        values: &[&str],
+        document: &Table,
+    ) -> Result<Model, SweepFault<'a>>
+        ensures { IfOk result (λ m. (said : Model) × Says (table_view document.now) said × IsListed said m) }
     {
-        let model = match model_in(alloc, text.as_bytes()) {
-            Ok(model) => self.with_lists(alloc, values, text, model)?,
-            Err(fault) => return Err(self.fault_at(alloc, values, fault)),
-        };
+        match model_in_document(alloc, document) {
+            Ok(model) => self.with_lists(alloc, values, document, model),
+            Err(fault) => Err(self.fault_at(alloc, values, fault)),
+        }
+    }
+
+    // The model of a point with these values: that of the file's document, with the lists of the files that its queues replay,
+    // and with what stands in place of what the file says.
+    fn model_at(&self, alloc: Global, values: &[&'a str]) -> Result<Model, SweepFault<'a>>
+        ensures { IfOk result (IsModelAt self.now.text.now self.now.axes.items self.now.overrides values.now) }
+    {
+        let document = self.document_at(alloc, values)?;
+        let model = self.listed_at(alloc, values, &document)?;
         match self.replaced(values, model) {
             Ok(model) => Ok(model),
             Err(fault) => Err(SweepFault::Load(self.name_of(alloc, values)?, fault)),
         }
-    }
-
-    // The option that says when a simulation ends, where one does.
-    fn end_option(&self) -> Option<&'static str> {
-        match self.overrides.end?.time {
-            Some(_) => Some("--time"),
-            None => Some("--commands"),
-        }
-    }
-
-    // The option that stands in the place of a key, where one does.
-    fn option_for(&self, key: &str) -> Option<&'static str> {
-        match key {
-            LOAD => self.overrides.load.map(|_| "--load"),
-            SEED => self.overrides.seed.map(|_| "--seed"),
-            WARM_UP => self.overrides.warm_up.map(|_| "--warm-up"),
-            COMMANDS | TIME => self.end_option(),
-            _ => None,
-        }
-    }
-
-    // The first swept key in whose place an option would stand, with that option.
-    fn overridden(&self) -> Option<(&'static str, &'a str)> {
-        for axis in &self.axes {
-            if let Some(option) = self.option_for(axis.key) {
-                return Some((option, axis.key));
-            }
-        }
-        None
     }
 
     // Whether a picture shows a queue of this model.
@@ -268,17 +256,19 @@ impl<'a> Sweep<'a> {
         }
     }
 
-    /// Reads the file at each point, and runs nothing. The error is the first fault. The answer is at which points more
-    /// commands come than the device can run.
-    pub fn look(&self, alloc: Global) -> Result<Overloads, SweepFault<'a>> {
-        if let Some((option, key)) = self.overridden() {
+    /// Reads the file at each point, and runs nothing. The error is the first fault, of which an option in place of a swept key
+    /// comes before all others. The answer is at which points more commands come than the device can run.
+    pub fn look(&self, alloc: Global) -> Result<Overloads, SweepFault<'a>>
+        ensures taken { IfOk result (λ _. overridden self.now.overrides self.now.axes.items ≡ None) }
+        ensures overridden { IfSome (overridden self.now.overrides self.now.axes.items) (λ p. IsErrAnd result (TellsOverridden p)) }
+    {
+        if let Some((option, key)) = overridden(&self.overrides, &self.axes) {
             return Err(SweepFault::Overridden(option, key));
         }
         let (mut overloads, mut is_drawn) = (Overloads::new(alloc), false);
         for point in 0..self.points(alloc)? {
             let values = self.values_at(alloc, point)?;
-            let text = self.text_at(alloc, &values)?;
-            let model = self.model_at(alloc, &values, &text)?;
+            let model = self.model_at(alloc, &values)?;
             is_drawn |= self.is_drawn(&model);
             if overload_of(&model).is_some() {
                 overloads.add(self.name_of(alloc, &values)?);
@@ -298,11 +288,11 @@ impl<'a> Sweep<'a> {
         number: u64,
         terminal: Option<P>,
     ) -> Result<Run, SweepFault<'a>>
-        ensures { IfOk result (IsRunOf self.now.overrides number) }
+        ensures { point < count_of (lengths_of self.now.axes.items) → IfOk result
+            (IsRunOf self.now.text.now self.now.axes.items self.now.overrides (values_at self.now.axes.items point) number) }
     {
         let values = self.values_at(alloc, point)?;
-        let text = self.text_at(alloc, &values)?;
-        let mut model = self.model_at(alloc, &values, &text)?;
+        let mut model = self.model_at(alloc, &values)?;
         let seed = model.seed.wrapping_add(number);
         model.seed = seed;
         let progress = Progress::new(terminal, model.end);

@@ -2,6 +2,8 @@
 //
 // Decided: lines are put in order of time, since traces of several processors aren't. Offsets that are no whole blocks
 // are refused: rounding would change what was asked for.
+ghost use Rattle.std.specs.Prelude.{◌≡◌, IfOk, length};
+
 use nvme_load::Arrivals;
 use nvme_model::Model;
 use nvme_model_file::Source;
@@ -84,13 +86,17 @@ impl Listings {
         }
     }
 
-    /// A model with the lists of the queues that replay these files. The error is the first file that has none.
+    /// A model with the lists of the queues that replay these files. All else of it stays. The error is the first file that has
+    /// none.
     pub fn put_into<'a>(
         &self,
         alloc: Global,
         sources: &'a [Source],
         mut model: Model,
-    ) -> Result<Model, FileFault<'a>> {
+    ) -> Result<Model, FileFault<'a>>
+        ensures rest { IfOk result (λ m. m ≡ record model { queues = m.queues; some = m.some; at_most = m.at_most }) }
+        ensures count { IfOk result (λ m. length m.queues.items ≡ length model.queues.items) }
+    {
         for source in sources {
             match self.arrivals_of(alloc, source) {
                 Ok(arrivals) => model.put_arrivals(source.wanted.queue, arrivals),

@@ -1,14 +1,10 @@
-use Rattle.std.proofs.Common.{refl}
+use Rattle.std.proofs.Common.{refl, subst, ◌∙◌}
+use Rattle.nvme_points.specs.Runs.{IsModelAt}
 use Rattle.nvme_points.proofs.sweep.Sweep.run.Goals as goal
 
 pub returns-in-Ok : goal.returns-in-Ok
-returns-in-Ok g c = record {
-  first = c.in_ok-model.model.seed;
+returns-in-Ok g c inside = record {
   model = _;
-  first_is = c.in_ok-model.ensures.seed;
-  seed = refl;
-  ran_with = refl;
-  end = c.in_ok-model.ensures.end;
-  warm_up = c.in_ok-model.ensures.warm_up;
-  measured = c.in-Ok.ensures;
+  is_model = subst (λ values. IsModelAt c.args.self.now.text.now c.args.self.now.axes.items c.args.self.now.overrides values c.in_ok-model.model) (c.deref.ensures.value ∙ c.in_ok-values.ensures inside) c.in_ok-model.ensures;
+  runs = record { seed = refl; ran = _; ran_is = refl; queues = refl; measured = c.in-Ok.ensures };
 }
