@@ -47,8 +47,9 @@ def make_guest(sources):
 
 def boot(device, words, longest, **options):
     """Boots the guest, and gives the lines of its console, and the status of QEMU."""
-    for it in os.listdir(f"{FOLDER}/traces"):
-        os.remove(f"{FOLDER}/traces/{it}")
+    for folder in (f"{FOLDER}/traces", f"{FOLDER}/logs"):
+        shutil.rmtree(folder, ignore_errors=True)
+        os.makedirs(folder)
     how = {"stdin": subprocess.DEVNULL, "stdout": subprocess.PIPE, "stderr": subprocess.STDOUT, "start_new_session": True}
     it = subprocess.Popen([BOOT, device, f"{FOLDER}/guest", *words], env={**os.environ, **options}, **how)
     try:
@@ -90,7 +91,7 @@ def take_over(case, lines):
 
 
 class GuestCase(ProgramCase):
-    """What a guest said on its console, how QEMU ended, and the traces of the device's picks."""
+    """What a guest said on its console, how QEMU ended, the traces of the device's picks, and its logs."""
 
     program, lines, status = Program([]), [], 0
 
@@ -110,3 +111,14 @@ class GuestCase(ProgramCase):
             picks += int(found[1])
         assert picks, "there are no traces"
         self.tells(f"{picks} in {len(traces)} traces")
+
+    def are_audited(self):
+        """By no log the device breaks a rule. A test of the guest's does: it writes doorbells that it may not."""
+        lines, logs = 0, sorted(os.listdir(f"{FOLDER}/logs"), key=int)
+        for it in logs:
+            said = self.program("audit", f"{FOLDER}/logs/{it}")
+            found = re.match(rb"lawful: (\d+) lines\n", said.output)
+            assert found and said.status in (0, 4), f"log {it}: {said}"
+            lines += int(found[1])
+        assert lines, "there are no logs"
+        self.tells(f"{lines} lines of {len(logs)} logs")

@@ -138,6 +138,7 @@ static void move(void)
 {
     struct nvme *d = knobs.device;
     struct nvme_state *state = malloc(sizeof *state);
+    FILE *log = d->log;
     if (!state)
         return;
     if (d->host.settle)
@@ -146,6 +147,7 @@ static void move(void)
     nvme_reset(d);
     if (!nvme_restore(d, state))
         abort();
+    d->log = log; /* it goes on, since nothing happened in between */
     free(state);
 }
 

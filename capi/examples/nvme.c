@@ -32,6 +32,8 @@ static void fetch(struct nvme *d, uint16_t qid, uint16_t slot)
             d->state.registers[CSTS] |= CFS;
             return;
         }
+        if (d->log)
+            log_fetch(d->log, qid, slot, bytes);
         nvmearb_ctrl_fetched(&d->state.ctrl, d->state.slots, NVME_COMMANDS, qid, bytes, qid);
     } while (nvmearb_ctrl_fetch(&d->state.ctrl, qid, &slot) == NVMEARB_OK);
 }
@@ -52,6 +54,8 @@ static int post(struct nvme *d, uint16_t cqid)
     struct nvme_ring *ring = &d->state.cqs[cqid];
     int has_posted = 0;
     while (nvmearb_ctrl_post(&d->state.ctrl, d->state.slots, NVME_COMMANDS, cqid, &it) == NVMEARB_OK) {
+        if (d->log)
+            log_post(d->log, cqid, it.slot, it.bytes);
         if (!put_completion(d, ring->address + it.slot * sizeof it.bytes, &it)) {
             d->state.registers[CSTS] |= CFS;
             return 0;

@@ -19,6 +19,7 @@
 #ifndef NVME_H
 #define NVME_H
 
+#include "log.h"
 #include "trace.h"
 
 #include <nvmearb.h>
@@ -161,6 +162,8 @@ struct nvme {
     struct nvme_request *requests; /* those in flight */
     uint16_t in_flight[NVME_NAMESPACES];
     uint8_t has_ended; /* whether a request ended since queues were held */
+    /* NULL, or where a log is written (log.h): for `enabled` to choose, until the next reset or restore. */
+    FILE *log;
 };
 
 /* Makes a device, which isn't enabled. It must be zero but for what is chosen. */

@@ -28,6 +28,8 @@ static void enable(struct nvme *d)
     nvme_own(d);
     if (d->host.enabled)
         d->host.enabled(d->host.context, &config);
+    if (d->log)
+        log_start(d->log, asq.slots, acq.slots);
     s->registers[CSTS] = RDY;
 }
 
@@ -42,6 +44,7 @@ static void forget(struct nvme *d)
     s->masked = 0;
     s->held_count = 0;
     s->pending = s->told = 0;
+    d->log = NULL; /* a log has one start */
     nvme_reset_features(d);
 }
 
@@ -81,6 +84,8 @@ static void ring_doorbell(struct nvme *d, uint64_t index, uint32_t value)
     nvmearb_ctrl *ctrl = &d->state.ctrl;
     uint16_t qid = (uint16_t)(index / 2), to = (uint16_t)value;
     uint32_t told = index % 2 ? nvmearb_ctrl_cq_head(ctrl, qid, to) : nvmearb_ctrl_sq_tail(ctrl, qid, to);
+    if (d->log)
+        (index % 2 ? log_head : log_tail)(d->log, qid, to);
     if (told == NVMEARB_OK && index % 2)
         d->state.cqs[qid].head = to;
     if (told == NVMEARB_NONE || told == NVMEARB_EARG)
@@ -197,5 +202,6 @@ int nvme_restore(struct nvme *d, const struct nvme_state *from)
     d->state.counts.begun = d->host.now(d->host.context) - from->counts.begun;
     d->state.is_asserted = 0; /* so that the next turn tells it */
     d->has_ended = 1;         /* no namespace is busy */
+    d->log = NULL;
     return 1;
 }

@@ -15,6 +15,7 @@
  * most        the most commands at the drive (32), for the reason that nvme.h gives; 0: no limit
  * vectors     the number of MSI-X vectors (65), or 0: the pin alone
  * trace       a folder for traces of the picks: FOLDER/n from the n-th enabling on
+ * log         the same for logs of doorbells, fetches and completions
  */
 #include "qemu/osdep.h"
 #include "qemu/main-loop.h"
@@ -40,9 +41,9 @@ struct NvmearbState {
     HostMemoryBackend *backend;
     BlockConf conf;
     QEMUBH *bottom;
-    char *serial, *mechanism, *classes, *folder;
+    char *serial, *mechanism, *classes, *traces, *logs;
     uint32_t most, vectors, enabled;
-    FILE *trace;
+    FILE *trace, *log;
     struct nvme device;
     struct nvme_state saved; /* for a migration */
 };
@@ -81,14 +82,22 @@ static uint64_t nvmearb_now(void *context)
     return qemu_clock_get_ns(QEMU_CLOCK_VIRTUAL);
 }
 
+/* Begins the file of an enabling in place of that before. It is NULL without a folder, or where it can't be opened. */
+static FILE *nvmearb_reopen(FILE *before, const char *folder, uint32_t enabled)
+{
+    g_autofree char *name = folder ? g_strdup_printf("%s/%u", folder, enabled) : NULL;
+    if (before) {
+        fclose(before);
+    }
+    return name ? fopen(name, "we") : NULL;
+}
+
 static void nvmearb_enabled(void *context, const nvmearb_config *config)
 {
     NvmearbState *s = context;
-    g_autofree char *name = g_strdup_printf("%s/%u", s->folder, ++s->enabled);
-    if (s->trace) {
-        fclose(s->trace);
-    }
-    s->trace = fopen(name, "we");
+    s->enabled++;
+    s->trace = nvmearb_reopen(s->trace, s->traces, s->enabled);
+    s->device.log = s->log = nvmearb_reopen(s->log, s->logs, s->enabled);
     if (s->trace) {
         trace_head(s->trace, config);
     }
@@ -296,9 +305,9 @@ static void nvmearb_realize(PCIDevice *pci, Error **errp)
         return;
     }
     s->bottom = qemu_bh_new(nvmearb_turn, s);
-    if (s->folder) {
+    if (s->traces || s->logs) {
         host.enabled = nvmearb_enabled;
-        host.picked = nvmearb_picked;
+        host.picked = s->traces ? nvmearb_picked : NULL;
     }
     s->device.host = host;
     nvme_init(&s->device);
@@ -312,9 +321,8 @@ static void nvmearb_exit(PCIDevice *pci)
         host_memory_backend_set_mapped(s->backend, false);
     }
     qemu_bh_delete(s->bottom);
-    if (s->trace) {
-        fclose(s->trace);
-    }
+    s->trace = nvmearb_reopen(s->trace, NULL, 0);
+    s->log = nvmearb_reopen(s->log, NULL, 0);
     if (s->vectors) {
         msix_uninit_exclusive_bar(pci);
     }
@@ -327,6 +335,9 @@ static void nvmearb_reset(DeviceState *dev)
     nvme_reset(&s->device);
     if (s->trace) {
         fflush(s->trace);
+    }
+    if (s->log) {
+        fflush(s->log);
     }
 }
 
@@ -375,7 +386,8 @@ static Property nvmearb_properties[] = {
     DEFINE_PROP_STRING("serial", NvmearbState, serial),
     DEFINE_PROP_STRING("mechanism", NvmearbState, mechanism),
     DEFINE_PROP_STRING("classes", NvmearbState, classes),
-    DEFINE_PROP_STRING("trace", NvmearbState, folder),
+    DEFINE_PROP_STRING("trace", NvmearbState, traces),
+    DEFINE_PROP_STRING("log", NvmearbState, logs),
     DEFINE_PROP_UINT32("most", NvmearbState, most, 32),
     DEFINE_PROP_UINT32("vectors", NvmearbState, vectors, NVME_QUEUES + 1),
     DEFINE_PROP_END_OF_LIST(),
