@@ -206,7 +206,7 @@ def decided_in(lines):
 
 def decisions(sources):
     """A line for each file whose head tells decisions."""
-    found = [path for pattern in DECIDING for path in sorted(glob.glob(pattern, root_dir=TOP, recursive=True))]
+    found = [path for pattern in DECIDING for path in sorted(glob.glob(pattern, root_dir=TOP, recursive=True)) if "/out/" not in path]
     told = [(path, decided_in(sources.lines(path))) for path in found if os.path.isfile(f"{TOP}/{path}")]
     return "".join(f"- [`{path.removeprefix('crates/')}`](../{path}): {' '.join(said)}\n" for path, said in told if said)
 
