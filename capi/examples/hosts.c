@@ -196,10 +196,15 @@ static void put_admin(void)
 
 static int take(uint16_t cqid);
 
-/* A Create or a Delete succeeded. What a deleted queue left is taken before it may come again. */
+/*
+ * A Create or a Delete succeeded. Where it is of a queue that there may not be, the controller is wrong. What a deleted
+ * queue left is taken before it may come again.
+ */
 static void turned(const nvmearb_sqe *it)
 {
     uint16_t qid = it->cdw10 & 0xffff, slots = (uint16_t)((it->cdw10 >> 16) + 1);
+    if (qid == 0 || qid > HOSTS_QUEUES)
+        return;
     switch (it->opcode) {
     case NVMEARB_OPC_CREATE_CQ:
         cqs[qid] = (struct cq){.slots = slots, .phase = 1};

@@ -1,10 +1,11 @@
 /*
  * Random hosts over a controller, whose log this prints, for `nvmearb audit`:
  *
- *   logged [SEED [STEPS]]
+ *   logged [SEED [STEPS [RUDE]]]
  *
  * The device executes nothing. It has at most a few commands at a time, and ends them in any order. By an odd SEED it
- * is handed Aborts of what it has. The status is 0 where each command was answered in the end.
+ * is handed Aborts of what it has. The status is 0 where each command was answered in the end. With a RUDE above 0 any
+ * doorbell is written with any value once in so many steps, and it is always 0.
  */
 #include "hosts.h"
 #include "log.h"
@@ -136,25 +137,38 @@ static int pick(void)
     return 1;
 }
 
-int main(int count, char **words)
+/* The hosts submit no more. Returns how many of their commands stay unanswered. */
+static unsigned settle(void)
 {
-    static int (*const parts[])(void) = {fetch, fetch, pick, end_one, post, finish};
-    uint64_t seed = count > 1 ? strtoull(words[1], NULL, 0) : 1;
-    uint64_t steps = count > 2 ? strtoull(words[2], NULL, 0) : 20000;
     unsigned left = 1;
-    if (!nvmearb_is_of_this_header() || !enable(seed))
-        return 3;
-    hosts_begin(seed, rings);
-    for (; steps; steps--) {
-        hosts_step();
-        parts[hosts_draw(sizeof parts / sizeof *parts)]();
-    }
     for (int turns = 0; left && turns < 1000; turns++) {
         left = hosts_settle();
         while (fetch() | pick() | end_one() | post() | finish())
             ;
     }
-    if (left || hosts_strays())
-        fprintf(stderr, "logged: %u commands weren't answered, %u completions named none\n", left, hosts_strays());
-    return left || hosts_strays() || fflush(stdout);
+    return left;
+}
+
+int main(int count, char **words)
+{
+    static int (*const parts[])(void) = {fetch, fetch, pick, end_one, post, finish};
+    uint64_t seed = count > 1 ? strtoull(words[1], NULL, 0) : 1;
+    uint64_t steps = count > 2 ? strtoull(words[2], NULL, 0) : 20000;
+    uint32_t rude = count > 3 ? (uint32_t)strtoul(words[3], NULL, 0) : 0;
+    if (!nvmearb_is_of_this_header() || !enable(seed)) {
+        fprintf(stderr, "logged: libnvmearb isn't that of nvmearb.h, or an unproved build\n");
+        return 3;
+    }
+    hosts_begin(seed, rings);
+    for (; steps; steps--) {
+        hosts_step();
+        if (rude && hosts_draw(rude) == 0)
+            rings((uint16_t)hosts_draw(HOSTS_QUEUES + 2), (int)hosts_draw(2), (uint16_t)hosts_draw(20));
+        parts[hosts_draw(sizeof parts / sizeof *parts)]();
+    }
+    unsigned left = settle();
+    if (rude || (left == 0 && hosts_strays() == 0))
+        return fflush(stdout) ? 3 : 0;
+    fprintf(stderr, "logged: %u commands weren't answered, %u completions named none\n", left, hosts_strays());
+    return 1;
 }

@@ -1,10 +1,11 @@
 /*
  * Random hosts over the device of ../examples/nvme.h, whose log this prints, for `nvmearb audit`:
  *
- *   logged_device [SEED [STEPS]]
+ *   logged_device [SEED [STEPS [RUDE]]]
  *
  * The backend ends requests late and in any order, and takes some back. By an odd SEED the device acts at each
- * doorbell, by an even one only at times. The status is 0 where each command was answered in the end.
+ * doorbell, by an even one only at times. The status is 0 where each command was answered in the end. With a RUDE
+ * above 0 any doorbell is written with any value once in so many steps, and it is always 0.
  */
 #include "../examples/hosts.h"
 #include "../examples/nvme.h"
@@ -106,29 +107,39 @@ static void ring(uint16_t qid, int is_head, uint16_t slot)
     nvme_write(&device, AT_DOORBELLS + 8u * qid + 4u * (unsigned)is_head, slot, 4);
 }
 
-int main(int words, char **word)
+/* The hosts submit no more. Returns how many of their commands stay unanswered. */
+static unsigned settle(void)
 {
-    uint64_t seed = words > 1 ? strtoull(word[1], NULL, 0) : 1;
-    uint64_t steps = words > 2 ? strtoull(word[2], NULL, 0) : 20000;
     unsigned left = 1;
-    if (!nvmearb_is_of_this_header() || !enable(seed))
-        return 3;
-    hosts_begin(seed, ring);
-    for (; steps; steps--) {
-        hosts_step();
-        if (hosts_draw(3) == 0)
-            end_one();
-        if (hosts_draw(3) == 0)
-            nvme_turn(&device);
-    }
     for (int turns = 0; left && turns < 1000; turns++) {
         left = hosts_settle();
         do
             nvme_turn(&device);
         while (end_one());
     }
-    if (left || hosts_strays())
-        fprintf(stderr, "logged_device: %u commands weren't answered, %u completions named none\n", left,
-                hosts_strays());
-    return left || hosts_strays() || fflush(stdout);
+    return left;
+}
+
+int main(int words, char **word)
+{
+    uint64_t seed = words > 1 ? strtoull(word[1], NULL, 0) : 1;
+    uint64_t steps = words > 2 ? strtoull(word[2], NULL, 0) : 20000;
+    uint32_t rude = words > 3 ? (uint32_t)strtoul(word[3], NULL, 0) : 0;
+    if (!nvmearb_is_of_this_header() || !enable(seed))
+        return 3;
+    hosts_begin(seed, ring);
+    for (; steps; steps--) {
+        hosts_step();
+        if (rude && hosts_draw(rude) == 0)
+            ring((uint16_t)hosts_draw(HOSTS_QUEUES + 2), (int)hosts_draw(2), (uint16_t)hosts_draw(20));
+        if (hosts_draw(3) == 0)
+            end_one();
+        if (hosts_draw(3) == 0)
+            nvme_turn(&device);
+    }
+    unsigned left = settle();
+    if (rude || (left == 0 && hosts_strays() == 0))
+        return fflush(stdout) ? 3 : 0;
+    fprintf(stderr, "logged_device: %u commands weren't answered, %u completions named none\n", left, hosts_strays());
+    return 1;
 }
