@@ -101,7 +101,7 @@ class Post(NamedTuple):
 
 class Controller:
     """A controller whose queues may lie anywhere in memory, with its admin queues alone. `slots` is how many commands it
-    holds at once."""
+    holds at once. At a reset of the device call `reset`: to a new controller a tag of before may name another command."""
 
     def __init__(
         self, config: Config = Config(), placement: Placement = Placement(), slots: Optional[int] = None
@@ -125,6 +125,7 @@ class Controller:
             regions.append(RegionFields(address, slots))
         fields = ConfigFields(*regions, *config[2:])
         checked(self._call("init_anywhere", byref(fields), byref(PlacementFields(*placement))))
+        self._fetch_turn = self._post_turn = MAX_QUEUES - 1
 
     def own_opcode(self, opcode: int) -> None:
         """From now on the admin commands of this opcode are the device's."""
@@ -167,12 +168,11 @@ class Controller:
         return (qid.value, slot.value) if found else None
 
     def to_fetch(self) -> Iterator[tuple[int, int]]:
-        """The submission queues that have an entry to fetch, in turn, each with its slot. Each entry is to be fetched before
-        the next one is asked for."""
-        qid = MAX_QUEUES - 1
-        while (found := self.next_fetch(qid)) is not None:
-            qid, slot = found
-            yield qid, slot
+        """The submission queues that have an entry to fetch, in turn, each with its slot: from behind the queue that was told
+        last, by an earlier iteration too. Each entry is to be fetched before the next one is asked for."""
+        while (found := self.next_fetch(self._fetch_turn)) is not None:
+            self._fetch_turn = found[0]
+            yield found
 
     def fetched(self, qid: int, entry: bytes, cookie: int = 0) -> None:
         """The entry in the slot that `fetch` told was read: its command waits to be picked."""
@@ -226,10 +226,10 @@ class Controller:
         return cqid.value if self._found("next_to_post", byref(cqid)) else None
 
     def posts(self) -> Iterator[tuple[int, Post]]:
-        """The completions that can be posted, each with its completion queue: those of one queue after those of another."""
-        cqid = MAX_QUEUES - 1
-        while (found := self.next_to_post(cqid)) is not None:
-            cqid = found
+        """The completions that can be posted, each with its completion queue: those of one queue after those of another, from
+        behind the queue that was told last, by an earlier iteration too."""
+        while (cqid := self.next_to_post(self._post_turn)) is not None:
+            self._post_turn = cqid
             while (post := self.post(cqid)) is not None:
                 yield cqid, post
 
