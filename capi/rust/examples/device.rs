@@ -2,9 +2,7 @@
 //! A device over a controller, to be copied: an array stands for guest memory, and another one for the blocks of its
 //! namespace. It serves the admin queues and one I/O queue pair. The host is at the bottom.
 use nvmearb::{admin_opcode, io_opcode};
-use nvmearb::{
-    Answer, Asked, Config, Controller, Cqe, DoorbellError, Error, Mechanism, Placement, Region, Slot,
-};
+use nvmearb::{Answer, Asked, Config, Controller, Cqe, DoorbellError, Error, Mechanism, Placement, Region, Slot};
 use nvmearb::{Sqe, Status, StatusFlags, Step, Verdict, CQE_BYTES, NO_LIMIT, SQE_BYTES};
 
 /// The slots of each ring.
@@ -20,7 +18,8 @@ const BLOCK: usize = 512;
 const PAGE: u64 = 4096;
 
 struct Device {
-    ctrl: Controller<[Slot; COMMANDS]>,
+    /// None until the host enables it for the first time. At a reset it is made anew over its slots.
+    ctrl: Option<Controller<[Slot; COMMANDS]>>,
     /// Where the rings lie, by the identifiers of their queues.
     sqs: [u64; 2],
     cqs: [u64; 2],
@@ -37,8 +36,14 @@ fn place(ring: u64, slot: u16, bytes: usize) -> Option<std::ops::Range<usize>> {
 }
 
 impl Device {
-    /// CC.EN becomes 1: the host has written ASQ and ACQ.
-    fn enabled(asq: u64, acq: u64) -> Result<Device, Error> {
+    fn new() -> Device {
+        let (blocks, memory) = (vec![0; BLOCKS * BLOCK], vec![0; 0x8000]);
+        Device { ctrl: None, sqs: [0; 2], cqs: [0; 2], has_failed: false, blocks, memory }
+    }
+
+    /// CC.EN becomes 1: the host has written ASQ and ACQ. Nothing is left of before but the generations of the slots: what
+    /// the device completes late, under a tag of before, is refused.
+    fn enable(&mut self, asq: u64, acq: u64) -> Result<(), Error> {
         let config = Config {
             asq: Region { address: asq, slots: RING },
             acq: Region { address: acq, slots: RING },
@@ -50,9 +55,16 @@ impl Device {
             admin_depth: RING,
         };
         let placement = Placement { page: PAGE as u32, mqes: RING - 1, vectors: 1 };
-        let ctrl = Controller::anywhere(&config, &placement, [Slot::EMPTY; COMMANDS])?;
-        let (blocks, memory) = (vec![0; BLOCKS * BLOCK], vec![0; 0x8000]);
-        Ok(Device { ctrl, sqs: [asq, 0], cqs: [acq, 0], has_failed: false, blocks, memory })
+        match &mut self.ctrl {
+            Some(ctrl) => ctrl.reset_anywhere(&config, &placement)?,
+            None => self.ctrl = Some(Controller::anywhere(&config, &placement, [Slot::EMPTY; COMMANDS])?),
+        }
+        (self.sqs, self.cqs, self.has_failed) = ([asq, 0], [acq, 0], false);
+        Ok(())
+    }
+
+    fn ctrl(&mut self) -> &mut Controller<[Slot; COMMANDS]> {
+        self.ctrl.as_mut().expect("the host enabled it")
     }
 
     /// Keeps where the queue lies that a Create made. With interrupts, the vector and the enable bit are kept too.
@@ -66,7 +78,7 @@ impl Device {
 
     /// Fetches what the host submitted.
     fn fetch(&mut self) {
-        while let Some((qid, slot)) = self.ctrl.to_fetch().next() {
+        while let Some((qid, slot)) = self.ctrl().to_fetch().next() {
             let mut bytes = [0; SQE_BYTES]; // a copy: the host may write there
             let at = place(self.sqs[usize::from(qid)], slot, SQE_BYTES);
             match at.and_then(|at| self.memory.get(at)) {
@@ -76,7 +88,7 @@ impl Device {
                     return;
                 }
             }
-            self.ctrl.fetched(qid, &bytes, qid.into()).expect("the slot was told");
+            self.ctrl().fetched(qid, &bytes, qid.into()).expect("the slot was told");
         }
     }
 
@@ -113,17 +125,17 @@ impl Device {
     /// they did anything.
     fn work(&mut self) -> bool {
         let mut did = false;
-        while let Some(step) = self.ctrl.pick(NO_LIMIT).expect("nothing else wrote into the controller").made() {
+        while let Some(step) = self.ctrl().pick(NO_LIMIT).expect("nothing else wrote into the controller").made() {
             did = true;
             if let Step::CarriedOut(answer, asked) = step {
                 self.keep(answer, asked);
-                self.ctrl.finish(); // of an empty queue, before a Delete of its completion queue
+                self.ctrl().finish(); // of an empty queue, before a Delete of its completion queue
             }
-            while let Some(command) = self.ctrl.take() {
+            while let Some(command) = self.ctrl().take() {
                 let status = self.execute(&command.entry);
                 // (what fails here would fail again)
                 let flags = if status == Status::SUCCESS { StatusFlags::default() } else { StatusFlags::DO_NOT_RETRY };
-                self.ctrl.complete_with(command.tag, status, 0, flags).expect("the command was taken");
+                self.ctrl().complete_with(command.tag, status, 0, flags).expect("the command was taken");
             }
         }
         did
@@ -132,7 +144,7 @@ impl Device {
     /// Writes the completions that can be posted, and would send the interrupts.
     fn post(&mut self) -> bool {
         let mut did = false;
-        for (cqid, post) in self.ctrl.posts() {
+        while let Some((cqid, post)) = self.ctrl().posts().next() {
             did = true;
             let at = place(self.cqs[usize::from(cqid)], post.slot, CQE_BYTES);
             let entry = match at.and_then(|at| self.memory.get_mut(at)) {
@@ -154,14 +166,15 @@ impl Device {
         self.fetch();
         let mut did = self.work();
         did |= self.post();
-        did | self.ctrl.finish().is_some()
+        did | self.ctrl().finish().is_some()
     }
 
     /// A doorbell write: `doorbell` is 2 * QID, or 2 * QID + 1 for a completion queue. An invalid one is an error
-    /// event.
+    /// event. Before the first enabling there is no queue.
     fn ring(&mut self, doorbell: u16, value: u32) -> Result<(), DoorbellError> {
         let (qid, to) = (doorbell / 2, value as u16);
-        let rung = if doorbell % 2 == 0 { self.ctrl.sq_tail(qid, to) } else { self.ctrl.cq_head(qid, to) };
+        let ctrl = self.ctrl.as_mut().ok_or(DoorbellError::Register)?;
+        let rung = if doorbell % 2 == 0 { ctrl.sq_tail(qid, to) } else { ctrl.cq_head(qid, to) };
         while !self.has_failed && self.pass() {}
         rung
     }
@@ -200,12 +213,21 @@ impl Pair {
     }
 }
 
-fn main() {
-    let mut device = Device::enabled(SQS[0], CQS[0]).expect("its numbers are in their ranges");
-    let (mut admin, mut io) = (Pair::new(0), Pair::new(1));
+/// The host enables the device, over rings without entries, and creates both queues 1.
+fn boot(device: &mut Device) -> (Pair, Pair) {
+    device.memory.fill(0);
+    device.enable(SQS[0], CQS[0]).expect("its numbers are in their ranges");
+    let (mut admin, io) = (Pair::new(0), Pair::new(1));
     let create = |opcode, prp1, cdw11| Sqe { opcode, prp1, cdw10: 0x0007_0001, cdw11, ..Sqe::default() };
-    assert_eq!(admin.run(&mut device, create(admin_opcode::CREATE_CQ, CQS[1], 1)), Status::SUCCESS);
-    assert_eq!(admin.run(&mut device, create(admin_opcode::CREATE_SQ, SQS[1], 0x0001_0001)), Status::SUCCESS);
+    assert_eq!(admin.run(device, create(admin_opcode::CREATE_CQ, CQS[1], 1)), Status::SUCCESS);
+    assert_eq!(admin.run(device, create(admin_opcode::CREATE_SQ, SQS[1], 0x0001_0001)), Status::SUCCESS);
+    (admin, io)
+}
+
+fn main() {
+    let mut device = Device::new();
+    assert_eq!(device.ring(0, 1), Err(DoorbellError::Register)); // it isn't enabled
+    let (mut admin, mut io) = boot(&mut device);
     let write = Sqe { opcode: io_opcode::WRITE, nsid: 1, prp1: 0x5000, cdw10: 3, ..Sqe::default() };
     let read = Sqe { opcode: io_opcode::READ, prp1: 0x6000, ..write };
     for n in 0..20 {
@@ -224,5 +246,8 @@ fn main() {
     let delete = Sqe { opcode: admin_opcode::DELETE_SQ, cdw10: 1, ..Sqe::default() };
     assert_eq!(admin.run(&mut device, delete), Status::SUCCESS);
     assert_eq!(device.ring(2, 0), Err(DoorbellError::Register)); // the doorbell of a queue that is gone
+    let (_, mut io) = boot(&mut device); // a reset: the blocks are still there
+    assert_eq!(io.run(&mut device, read), Status::SUCCESS);
+    assert!(device.memory[0x6000..0x6000 + BLOCK].iter().all(|byte| *byte == 19));
     println!("1 passed, 0 failed");
 }

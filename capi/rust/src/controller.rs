@@ -1,10 +1,9 @@
 // SPDX-License-Identifier: MIT
 //! The controller.
 use crate::error::{checked, filled, found, rung, sure, written};
+use crate::queues::Turns;
 use crate::sys::{self, nvmearb_ctrl, nvmearb_slot};
-use crate::{
-    check_version, DoorbellError, Error, Mechanism, OneCaller, Pick, Priority, Region, Seen, Slots, Sqe, Status, Step,
-};
+use crate::{check_version, DoorbellError, Error, Mechanism, Pick, Priority, Region, Seen, Slots, Sqe, Status, Step};
 use crate::{CQE_BYTES, SQE_BYTES};
 use core::fmt;
 
@@ -158,20 +157,22 @@ impl Post {
 /// 1. When the host enables the controller (CC.EN), [`Controller::anywhere`] or [`Controller::reset_anywhere`] with the
 ///    admin queues: the host chooses where its queues lie. (After [`Controller::new`] a Create names a region that was
 ///    added by [`Controller::add_sq_region`] or [`Controller::add_cq_region`].) When CC.EN becomes 0, make no call until
-///    it is 1 again. What the device completes late under a [`Tag`] from before the reset is refused.
+///    it is 1 again, and then [`Controller::reset_anywhere`]: what the device completes late under a [`Tag`] from before
+///    is refused. To a controller that is made anew over other slots such a tag may name one of its own commands.
 /// 2. [`Controller::own_opcode`] and [`Controller::own_feature`] for the admin commands that the device answers itself,
 ///    such as Identify.
 /// 3. At each doorbell write [`Controller::sq_tail`] or [`Controller::cq_head`].
-/// 4. While [`Controller::next_fetch`] tells a queue and a slot: read the entry there, and [`Controller::fetched`].
-///    [`Controller::to_fetch`] tells all queues that have one, and [`Controller::fetch`] asks a single queue.
+/// 4. While `to_fetch().next()` tells a queue and a slot: read the entry there, and [`Controller::fetched`]. Queues take
+///    turns ([`Controller::to_fetch`]). [`Controller::next_fetch`] asks for the queue behind another, and
+///    [`Controller::fetch`] a single one.
 /// 5. While [`Controller::take`] gives a command, execute it. Where it has none, [`Controller::pick`], and begin again,
 ///    until that picks nothing either. At a step that created a queue keep its [`Asked`](crate::Asked) by the
 ///    identifier, those of submission queues and of completion queues apart. At one that began a deletion do 8. at once.
 /// 6. [`Controller::complete`] or [`Controller::complete_with`] for each command that ends, in any order and at any
 ///    time.
-/// 7. While [`Controller::next_to_post`] tells a completion queue, and while [`Controller::post`] gives a completion of
-///    it: write that into the slot of the ring, and then send the interrupt of the queue's vector, if its enable bit is
-///    set. [`Controller::posts`] gives all of them.
+/// 7. For each of [`Controller::posts`]: write the completion into the slot of the ring, and then send the interrupt of the
+///    queue's vector, if its enable bit is set. [`Controller::next_to_post`] and [`Controller::post`] ask for a queue, and
+///    for one of its completions.
 /// 8. After a pick that began a deletion, [`Controller::finish`] at once and after each 7., while it ends one. Until it
 ///    ends, nothing is fetched or picked of that queue, and a Delete of its completion queue is refused with
 ///    [`Status::INVALID_QUEUE_DELETION`], also one that came with it. What the device has of the queue may still be
@@ -222,7 +223,8 @@ pub struct Controller<S> {
     // These two go together: the library wrote what is in both, and nothing else writes into them.
     pub(crate) ctrl: nvmearb_ctrl,
     pub(crate) slots: S,
-    one_caller: OneCaller,
+    // (these make it `!Sync`: calls run one after another)
+    pub(crate) turns: Turns,
 }
 
 impl<S: Slots> Controller<S> {
@@ -232,6 +234,10 @@ impl<S: Slots> Controller<S> {
     /// be open have together, `admin_depth + nsq * depth`, one is free for each command that may be fetched otherwise,
     /// while queues are being deleted too. With fewer, commands of one queue may keep those of another from being
     /// fetched. Commands that a deletion drops hold their slots until their completions are posted.
+    ///
+    /// The slots keep their generations, by which a [`Tag`] of an earlier controller over them is refused. Over other slots,
+    /// such as [`Slot::EMPTY`](crate::Slot::EMPTY) ones, such a tag may name a command of this controller. So at a reset of
+    /// the device take [`Controller::reset`], or the slots that [`Controller::into_slots`] gives back.
     ///
     /// The call takes some 34 KB of stack, and each other call 1 KB.
     ///
@@ -251,7 +257,7 @@ impl<S: Slots> Controller<S> {
     }
 
     pub(crate) fn of(ctrl: nvmearb_ctrl, slots: S) -> Controller<S> {
-        Controller { ctrl, slots, one_caller: OneCaller::default() }
+        Controller { ctrl, slots, turns: Turns::default() }
     }
 
     /// Makes the controller anew with the slots that it has, as at a controller reset: nothing of before is left but the
@@ -259,11 +265,20 @@ impl<S: Slots> Controller<S> {
     pub fn reset(&mut self, config: &Config) -> Result<(), Error> {
         let (ctrl, slots, count) = self.parts();
         // SAFETY: references.
-        checked(unsafe { sys::nvmearb_ctrl_init(ctrl, slots, count, &config.fields()) })
+        checked(unsafe { sys::nvmearb_ctrl_init(ctrl, slots, count, &config.fields()) })?;
+        self.turns = Turns::default();
+        Ok(())
+    }
+
+    /// The slots, with their generations: a controller that is made over them refuses what is completed under a [`Tag`] of
+    /// this one.
+    pub fn into_slots(self) -> S {
+        self.slots
     }
 
     /// A controller whose queues may lie anywhere in memory, as [`Controller::new`] makes one whose queues lie on
-    /// regions.
+    /// regions. At a reset of the device take [`Controller::reset_anywhere`]: over other slots a [`Tag`] of before, which
+    /// the device completes late, may name a command of the new controller, as [`Controller::new`] tells.
     ///
     /// The first of these that applies refuses a Create that isn't fused. [`Status::INVALID_QUEUE_SIZE`]: QSIZE is
     /// above `mqes`. [`Status::PRP_OFFSET_INVALID`]: PRP1 isn't a multiple of the page.
@@ -293,7 +308,9 @@ impl<S: Slots> Controller<S> {
         let (ctrl, slots, count) = self.parts();
         let (config, placement) = (config.fields(), placement.fields());
         // SAFETY: references.
-        checked(unsafe { sys::nvmearb_ctrl_init_anywhere(ctrl, slots, count, &config, &placement) })
+        checked(unsafe { sys::nvmearb_ctrl_init_anywhere(ctrl, slots, count, &config, &placement) })?;
+        self.turns = Turns::default();
+        Ok(())
     }
 
     /// Adds a submission region, which a Create I/O Submission Queue may name, and answers its number.
