@@ -8,10 +8,11 @@
  * The order of calls, with a controller (docs/IN_C.md has the loop):
  *   1. nvmearb_is_of_this_header.
  *   2. When CC.EN becomes 1, nvmearb_ctrl_init_anywhere with the admin queues (AQA, ASQ, ACQ). Where it refuses what
- *      the host wrote, set CSTS.CFS. Check CC.IOSQES (6) and CC.IOCQES (4) yourself. When CC.EN becomes 0, make no call
- *      until it is 1 again, and begin here. Drop what the backend ends meanwhile, or complete it after the making, for
- *      NVMEARB_NONE. Tags don't stop a data transfer: end each before CSTS.RDY becomes 0. A shutdown (CC.SHN) is the
- *      device's, and no call tells of it: go on, flush, and set CSTS.SHST.
+ *      the host wrote, set CSTS.CFS. Check CC.IOSQES (6) and CC.IOCQES (4) yourself: a host may choose them until its
+ *      first Create (capi/examples/registers.c). When CC.EN becomes 0, make no call until it is 1 again, and begin
+ *      here. Drop what the backend ends meanwhile, or complete it after the making, for NVMEARB_NONE. Tags don't stop a
+ *      data transfer: end each before CSTS.RDY becomes 0. A shutdown (CC.SHN) is the device's, and no call tells of it:
+ *      go on, flush, and set CSTS.SHST.
  *   3. nvmearb_ctrl_own_opcode and nvmearb_ctrl_own_feature for the device's own admin commands, such as Identify.
  *   4. nvmearb_ctrl_sq_tail or nvmearb_ctrl_cq_head at each doorbell write.
  *   5. While nvmearb_ctrl_next_fetch tells a queue and a slot: read the entry there, and nvmearb_ctrl_fetched.
@@ -25,9 +26,9 @@
  *   10. Go back to 5. until a pass does nothing, and once the device has more room than at its last pick, or no longer
  *       holds a queue.
  *
- * Every function is proved (crates/nvme_capi), unless NVMEARB_UNPROVED says otherwise. None allocates, waits, starts a
- * thread, keeps a pointer, or reads or writes anything but what its arguments point to. All return, whatever bytes the
- * arguments, states and slots have. The caller sees to this:
+ * Every function is proved (crates/nvme_capi), unless NVMEARB_UNPROVED says otherwise, but for the two that are inline
+ * here. None allocates, waits, starts a thread, keeps a pointer, or reads or writes anything but what its arguments
+ * point to. All return, whatever bytes the arguments, states and slots have. The caller sees to this:
  *   - Each pointer, also to an array of length 0, isn't null, is aligned, and points to as many objects as its comment
  *     says, which outlive the call.
  *   - Nothing else writes during the call what a pointer points to: hand in a copy of an entry that others may write.
@@ -99,6 +100,23 @@ uint32_t nvmearb_size(uint32_t state);
 #define NVMEARB_ESIZE 6u  /* a region has 2 to 4096 slots */
 #define NVMEARB_BUSY 7u   /* picked commands are to be taken first */
 #define NVMEARB_NOROOM 8u /* the device has room for no command */
+
+/* Returns the name of a result and what it says, for a message. The comments of a call say more. */
+static inline const char *nvmearb_text(uint32_t result)
+{
+    static const char *const texts[] = {
+        "NVMEARB_OK: done",
+        "NVMEARB_NONE: nothing to do, no such queue or command",
+        "NVMEARB_EARG: an argument isn't valid",
+        "NVMEARB_ESTATE: the state isn't valid: not initialised, overwritten, or of another version",
+        "NVMEARB_EUSED: another region has this address",
+        "NVMEARB_EMANY: there are NVMEARB_MAX_REGIONS regions of this kind, or queues may lie anywhere",
+        "NVMEARB_ESIZE: a region has 2 to 4096 slots",
+        "NVMEARB_BUSY: picked commands are to be taken first",
+        "NVMEARB_NOROOM: the device has room for no command",
+    };
+    return result < sizeof texts / sizeof texts[0] ? texts[result] : "no result of nvmearb.h";
+}
 
 /* Entries: their fields, and the status of an I/O command. No call keeps a state. */
 
