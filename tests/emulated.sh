@@ -54,8 +54,8 @@ make -s -C "$top/capi" TARGET="$target" UNPROVED="${UNPROVED:-}" ${1:+LIBRARY="$
 for name in tests/{entries,arbiter,board,table,ctrl,turns,batches,room,full_forever,one_queue_stops_all,stuck,anywhere,verify,stale_tag,hostile,garbage}.c examples/{loop,device}.c; do
     runs "$name"
 done
-over_memory=({nvme,registers,prp,io,admin,pages,memory,trace}.c)
-for name in tests/{guest_hang,hang}.c; do
+over_memory=({nvme,registers,prp,io,admin,pages,saving,memory,trace}.c)
+for name in tests/{guest_hang,hang,enabling,messages}.c; do
     runs "$name" "${over_memory[@]/#/$top/capi/examples/}"
 done
 echo "$passed passed, $failed failed"

@@ -129,6 +129,22 @@ static const struct feature *feature_of(uint32_t fid)
     return NULL;
 }
 
+int nvme_are_features(const struct nvme_state *s)
+{
+    for (int k = 0; k < FEATURES; k++) {
+        const struct feature *it = &features[k];
+        if (it->scope == NVME_OF_CONTROLLER && s->features[it->fid] & (~it->bits | it->zero))
+            return 0;
+        for (int nsid = 1; it->scope == NVME_OF_NAMESPACE && nsid <= NVME_NAMESPACES; nsid++)
+            if (s->recovery[nsid - 1] & (~it->bits | it->zero))
+                return 0;
+    }
+    for (int vector = 0; vector <= NVME_QUEUES; vector++)
+        if (s->uncoalesced[vector] > 1)
+            return 0;
+    return 1;
+}
+
 int nvme_feature_scope(uint32_t fid)
 {
     const struct feature *it = feature_of(fid);
@@ -142,6 +158,8 @@ static nvmearb_status feature(struct nvme *d, const nvmearb_sqe *entry, uint32_t
 {
     const struct feature *it = feature_of(entry->cdw10 & 0xff);
     int sets = entry->opcode == NVMEARB_OPC_SET_FEATURES;
+    if (!it && (sets || !nvme_feature_scope(entry->cdw10 & 0xff)))
+        return nvme_invalid_field;
     nvmearb_status status = it ? check_nsid(d, it, entry->nsid, sets) : nvme_success;
     if (nvme_is_error(status))
         return status;
@@ -222,6 +240,7 @@ static uint32_t abort_command(struct nvme *d, const nvmearb_sqe *entry)
     return 0;
 }
 
+/* What isn't the device's doesn't come here, but of a controller that something else wrote into. */
 void nvme_admin(struct nvme *d, const nvmearb_command *command)
 {
     const nvmearb_sqe *entry = &command->entry;
@@ -240,11 +259,14 @@ void nvme_admin(struct nvme *d, const nvmearb_command *command)
     case NVMEARB_OPC_ABORT:
         dw0 = abort_command(d, entry);
         break;
-    case NVME_VENDOR:
-        status = d->host.vendor(d->host.context, entry, &dw0);
+    case NVMEARB_OPC_SET_FEATURES:
+    case NVMEARB_OPC_GET_FEATURES:
+        status = feature(d, entry, &dw0);
         break;
     default:
-        status = feature(d, entry, &dw0);
+        status = generic(NVMEARB_SC_INVALID_OPCODE);
+        if (entry->opcode == NVME_VENDOR && d->host.vendor)
+            status = d->host.vendor(d->host.context, entry, &dw0);
     }
     nvme_complete(d, command->tag, status, dw0);
 }

@@ -40,7 +40,9 @@ int main(void)
     nvmearb_sim_happening told;
     nvmearb_sim_numbers numbers;
     uint32_t result;
-    if (nvmearb_sim_version() != NVMEARB_VERSION || !sim || nvmearb_sim_init(sim, bytes, &config, queues) != NVMEARB_OK)
+    if (!nvmearb_is_of_this_header() || nvmearb_sim_version() != NVMEARB_VERSION) /* (device.c says which it isn't) */
+        return 1;
+    if (!sim || nvmearb_sim_init(sim, bytes, &config, queues) != NVMEARB_OK)
         return 1;
     while ((result = nvmearb_sim_step(sim, UINT64_MAX, &told)) == NVMEARB_OK)
         if (told.kind == NVMEARB_SIM_STARTED)

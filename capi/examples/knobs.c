@@ -137,18 +137,17 @@ static nvmearb_status choose(void *context, const nvmearb_sqe *entry, uint32_t *
 static void move(void)
 {
     struct nvme *d = knobs.device;
-    struct nvme_state *state = malloc(sizeof *state);
+    struct nvme_saved *saved = malloc(sizeof *saved);
     FILE *log = d->log;
-    if (!state)
+    if (!saved)
         return;
-    if (d->host.settle)
+    while (!nvme_save(d, saved))
         d->host.settle(d->host.context);
-    nvme_save(d, state);
     nvme_reset(d);
-    if (!nvme_restore(d, state))
+    if (!nvme_restore(d, saved))
         abort();
     d->log = log; /* it goes on, since nothing happened in between */
-    free(state);
+    free(saved);
 }
 
 int knobs_turn(void)

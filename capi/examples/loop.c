@@ -55,6 +55,8 @@ static int turn(void)
 int main(void)
 {
     unsigned wrong = 0;
+    if (!nvmearb_is_of_this_header()) /* or an unproved one, which -DNVMEARB_ALLOW_UNPROVED takes */
+        return 1;
     nvmearb_arbiter_init(&arbiter, NVMEARB_WEIGHTED, 0x01000001); /* burst 2, high 2, low 1 */
     for (uint16_t k = 0; k < QUEUES; k++) {
         queues[k].phase = 1;

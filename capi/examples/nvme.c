@@ -17,69 +17,112 @@ void nvme_complete(struct nvme *d, uint32_t tag, nvmearb_status status, uint32_t
 
 /* ---- Rings ---- */
 
-/* CSTS.CFS: a ring isn't memory, say, and the device waits for a reset. */
+/*
+ * CSTS.CFS: a ring isn't memory, say, and the device waits for a reset. So it does too where the controller tells what it
+ * can't: something else wrote into it, or it was restored of bytes that somebody made up.
+ */
+static void fail(struct nvme *d)
+{
+    d->state.registers[CSTS] |= CFS;
+}
+
 static int has_failed(const struct nvme *d)
 {
     return (d->state.registers[CSTS] & CFS) != 0;
 }
 
+int nvme_is_ring(const struct nvme *d, const struct nvme_ring *ring)
+{
+    return ring->address % NVME_PAGE == 0 && ring->slots >= 2 && ring->slots <= NVME_MQES + 1 &&
+           ring->vector < d->vectors;
+}
+
+/* Where a slot of a ring lies. Returns 0 where the ring has none such, or goes over the end of all addresses there. */
+static int place(const struct nvme_ring *ring, uint16_t slot, unsigned bytes, uint64_t *at)
+{
+    *at = ring->address + (uint64_t)slot * bytes;
+    return slot < ring->slots && *at >= ring->address;
+}
+
+/* Reads the entry in a slot of a submission queue, and hands it to the controller. Returns 0 where that failed. */
+static int fetch_one(struct nvme *d, uint16_t qid, uint16_t slot)
+{
+    uint8_t bytes[NVMEARB_SQE_BYTES]; /* a copy: the host may write there */
+    uint64_t at;
+    if (qid > NVME_QUEUES || !place(&d->state.sqs[qid], slot, sizeof bytes, &at) ||
+        !copy(d, at, bytes, sizeof bytes, 0))
+        return 0;
+    if (d->log)
+        log_fetch(d->log, qid, slot, bytes);
+    if (qid == 0)
+        nvme_see(d, bytes);
+    return nvmearb_ctrl_fetched(&d->state.ctrl, d->state.slots, NVME_COMMANDS, qid, bytes, qid) == NVMEARB_OK;
+}
+
 /* Fetches what the host submitted to a queue, from this slot of its ring on. */
 static void fetch(struct nvme *d, uint16_t qid, uint16_t slot)
 {
-    uint8_t bytes[NVMEARB_SQE_BYTES]; /* a copy: the host may write there */
     do {
-        if (!copy(d, d->state.sqs[qid].address + slot * sizeof bytes, bytes, sizeof bytes, 0)) {
-            d->state.registers[CSTS] |= CFS;
-            return;
-        }
-        if (d->log)
-            log_fetch(d->log, qid, slot, bytes);
-        nvmearb_ctrl_fetched(&d->state.ctrl, d->state.slots, NVME_COMMANDS, qid, bytes, qid);
-    } while (nvmearb_ctrl_fetch(&d->state.ctrl, qid, &slot) == NVMEARB_OK);
+        if (!fetch_one(d, qid, slot))
+            fail(d);
+    } while (!has_failed(d) && nvmearb_ctrl_fetch(&d->state.ctrl, qid, &slot) == NVMEARB_OK);
 }
 
 /* Writes a completion into its slot, Dword 3 last. Returns 0 where that isn't memory. */
-static int put_completion(struct nvme *d, uint64_t at, nvmearb_post *it)
+static int put_completion(struct nvme *d, const struct nvme_ring *ring, nvmearb_post *it)
 {
-    if (!copy(d, at, it->bytes, 12, 1))
+    uint64_t at;
+    if (!place(ring, it->slot, sizeof it->bytes, &at) || !copy(d, at, it->bytes, 12, 1))
         return 0;
     atomic_thread_fence(memory_order_release);
     return copy(d, at + 12, it->bytes + 12, 4, 1);
 }
 
-/* Writes what is ready into a completion queue. Returns whether it wrote any. */
-static int post(struct nvme *d, uint16_t cqid)
+/* Writes the next completion of a queue into its ring. Returns 0 where that failed. */
+static int post_one(struct nvme *d, uint16_t cqid, nvmearb_post *it)
 {
-    nvmearb_post it;
-    struct nvme_ring *ring = &d->state.cqs[cqid];
-    int has_posted = 0;
-    while (nvmearb_ctrl_post(&d->state.ctrl, d->state.slots, NVME_COMMANDS, cqid, &it) == NVMEARB_OK) {
-        if (d->log)
-            log_post(d->log, cqid, it.slot, it.bytes);
-        if (!put_completion(d, ring->address + it.slot * sizeof it.bytes, &it)) {
-            d->state.registers[CSTS] |= CFS;
-            return 0;
-        }
-        d->state.counts.aborted += (it.bytes[15] << 8 | it.bytes[14]) >> 1 == NVMEARB_SC_ABORT_REQUESTED;
-        ring->tail = (uint16_t)((it.slot + 1) % ring->slots);
-        ring->has_news = ring->has_interrupt;
-        has_posted = 1;
-    }
-    return has_posted;
+    struct nvme_ring *ring = cqid <= NVME_QUEUES ? &d->state.cqs[cqid] : NULL;
+    if (d->log)
+        log_post(d->log, cqid, it->slot, it->bytes);
+    if (!ring || !put_completion(d, ring, it))
+        return 0;
+    d->state.counts.aborted += (it->bytes[15] << 8 | it->bytes[14]) >> 1 == NVMEARB_SC_ABORT_REQUESTED;
+    ring->tail = (uint16_t)((it->slot + 1) % ring->slots);
+    ring->has_news = ring->has_interrupt;
+    return 1;
 }
 
-/* A queue was created: its ring, by its identifier, and the class that was chosen for it. */
+/* Writes what is ready into a completion queue that has something. */
+static void post(struct nvme *d, uint16_t cqid)
+{
+    nvmearb_post it;
+    int has_posted = 0;
+    while (nvmearb_ctrl_post(&d->state.ctrl, d->state.slots, NVME_COMMANDS, cqid, &it) == NVMEARB_OK) {
+        has_posted = post_one(d, cqid, &it);
+        if (!has_posted)
+            break;
+    }
+    if (!has_posted)
+        fail(d);
+}
+
+/* A command was carried out. Where it created a queue: its ring, by its identifier, and the class that was chosen for it. */
 static void opened(struct nvme *d, const nvmearb_step *step)
 {
     const nvmearb_asked *asked = &step->asked;
     uint16_t qid = step->answer.qid;
+    int is_sq = step->answer.verdict == NVMEARB_OPEN_SQ, is_cq = step->answer.verdict == NVMEARB_OPEN_CQ;
     struct nvme_ring ring = {.address = asked->address,
                              .slots = (uint16_t)(asked->qsize + 1),
                              .vector = asked->vector,
                              .has_interrupt = (uint8_t)asked->interrupts};
-    if (step->answer.verdict == NVMEARB_OPEN_CQ)
+    if ((is_sq || is_cq) && (qid > NVME_QUEUES || !nvme_is_ring(d, &ring))) {
+        fail(d);
+        return;
+    }
+    if (is_cq)
         d->state.cqs[qid] = ring;
-    if (step->answer.verdict != NVMEARB_OPEN_SQ)
+    if (!is_sq)
         return;
     d->state.sqs[qid] = ring;
     d->state.held_queues[qid] = 0;
@@ -143,8 +186,11 @@ static uint16_t room(struct nvme *d)
             return 0;
         if (next.n)
             return next.n < whole ? next.n : NVMEARB_NO_LIMIT;
+        if (next.qid > NVME_QUEUES || nvmearb_ctrl_hold(&d->state.ctrl, next.qid, 1) != NVMEARB_OK) {
+            fail(d);
+            return 0;
+        }
         d->state.held_queues[next.qid] = 1;
-        nvmearb_ctrl_hold(&d->state.ctrl, next.qid, 1);
     }
     return 0;
 }
@@ -213,7 +259,8 @@ void nvme_turn(struct nvme *d)
     nvmearb_slot *slots = d->state.slots;
     /*
      * Each call begins with the admin queue, and goes on until no queue has an entry to fetch or a completion to post.
-     * With fewer slots than the depths have together, keep these two between calls, so that queues share the slots.
+     * With fewer slots than the depths have together, keep these two between calls, and let `fetch` read one entry, so
+     * that queues share the slots.
      */
     uint16_t qid = NVME_QUEUES, cqid = NVME_QUEUES, slot, gone;
     nvme_stop(d);
@@ -222,8 +269,8 @@ void nvme_turn(struct nvme *d)
             fetch(d, qid, slot);
         goes_on = work(d);
         nvme_tell_event(d);
-        while (!has_failed(d) && nvmearb_ctrl_next_to_post(ctrl, slots, NVME_COMMANDS, &cqid) == NVMEARB_OK)
-            goes_on |= post(d, cqid);
+        for (; !has_failed(d) && nvmearb_ctrl_next_to_post(ctrl, slots, NVME_COMMANDS, &cqid) == NVMEARB_OK; goes_on = 1)
+            post(d, cqid);
         goes_on |= nvmearb_ctrl_finish(ctrl, slots, NVME_COMMANDS, &gone) == NVMEARB_OK;
     }
     interrupt(d);

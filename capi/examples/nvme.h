@@ -9,6 +9,9 @@
  *   memory.c      a backend that executes at once, over memory
  *   disk.c        a backend over a file, with many requests at a time: by io_uring (uring.c) or by threads
  *
+ * saving.c, which saves the device and restores it, follows what a device adds to `nvme_state`. docs/IN_C.md has a table
+ * of what is changed for what.
+ *
  * The machine is around it: qemu.c serves the device to QEMU as a process of its own, and qemu/ has it in QEMU's tree.
  *
  * What is in flight has a limit, `most`. A pick hands commands to a backend, which serves what it has in an order of
@@ -34,6 +37,7 @@
 #define NVME_MOST_BYTES (256 * NVME_PAGE)             /* the most bytes of one transfer (MDTS) */
 #define NVME_PIECES 257                               /* the most pieces of guest memory of one */
 #define NVME_BAR_BYTES 0x4000                         /* the size of the registers, doorbells included */
+#define NVME_REGISTERS 28                             /* of four bytes each, those before the doorbells */
 #define NVME_ARBITRATION 0x07030103u                  /* after a reset: burst 8; weights: high 8, medium 4, low 2 */
 
 struct nvme;
@@ -44,9 +48,12 @@ struct nvme_host {
     void *context; /* handed to each of these */
     /* Copies to or from guest memory, within a page. Returns 0 where it isn't memory, or bus mastering is off. */
     int (*copy)(void *context, uint64_t address, void *bytes, size_t length, int to_guest);
-    /* Whether the pin is asserted from now on. */
+    /*
+     * Whether the pin is asserted from now on; and NULL, or sends the message of a vector, which is below `vectors`:
+     * entries were posted to a completion queue of it. The function does one of both: messages while MSI-X is enabled
+     * in its configuration space, else the pin. Masks and pending bits of MSI-X are the machine's.
+     */
     void (*interrupt)(void *context, int is_asserted);
-    /* NULL, or sends a message: entries were posted to a completion queue of this vector. */
     void (*message)(void *context, uint16_t vector);
     /* NULL, or sees to nvme_turn being called soon, so that who writes a doorbell needn't wait for it. */
     void (*later)(void *context);
@@ -112,32 +119,35 @@ struct nvme_request {
 struct nvme_ring {
     uint64_t address;
     uint16_t slots, tail, head, vector;
-    uint8_t has_interrupt, has_news;
+    uint8_t has_interrupt, has_news, unused[6];
 };
 
 /* What the device tells of what it did: the SMART / Health Information log, and resets and Aborts for tests. */
 struct nvme_counts {
     uint64_t sectors_read, sectors_written, reads, writes; /* sectors of 512 bytes */
     uint64_t media_errors, begun;                          /* when the device was made: of `now` */
-    uint32_t unsafe_shutdowns, resets, aborted;
+    uint32_t unsafe_shutdowns, resets, aborted, unused;
 };
 
-/* What the device remembers: numbers without a pointer. */
+/*
+ * What the device remembers: numbers without a pointer, and no padding, in which other bytes of the machine's might be
+ * saved. What is added here is looked at in saving.c.
+ */
 struct nvme_state {
     nvmearb_ctrl ctrl;
     nvmearb_slot slots[NVME_COMMANDS];
     struct nvme_ring sqs[NVME_QUEUES + 1], cqs[NVME_QUEUES + 1]; /* by identifier */
-    uint32_t registers[28], masked, features[32], recovery[NVME_NAMESPACES];
+    uint32_t registers[NVME_REGISTERS], masked, features[32], recovery[NVME_NAMESPACES];
     uint8_t uncoalesced[NVME_QUEUES + 1]; /* by vector: CD of Interrupt Vector Configuration */
     uint8_t held_queues[NVME_QUEUES + 1]; /* queues that are held, since a namespace has no room */
     uint8_t is_asserted, is_stopping;     /* the pin; CC.EN is 0, and Writes are in flight */
     uint32_t held[NVME_EVENT_REQUESTS];   /* Asynchronous Event Requests, by their tags */
-    uint16_t held_count;
+    uint16_t held_count, unused;
     uint32_t pending, told;               /* events, and those whose log wasn't read since they were told */
     uint32_t changed;                     /* namespaces that changed since their log was read: bit 0 is namespace 1 */
     struct {
         uint64_t count;
-        uint16_t qid;
+        uint16_t qid, unused[3];
     } errors[4]; /* the newest first */
     struct nvme_counts counts;
 };
@@ -149,7 +159,7 @@ struct nvme {
     uint32_t count;               /* of namespaces */
     uint16_t vid, ssvid;          /* the vendor identifiers of the PCI header */
     uint16_t cntlid;              /* by which controllers of one NQN differ */
-    uint16_t vectors;             /* the interrupt vectors: 1 for a pin, at most NVME_QUEUES + 1 */
+    uint16_t vectors;             /* the interrupt vectors: 1 for a pin alone, at most NVME_QUEUES + 1 */
     uint16_t most;                /* the most I/O commands of a namespace in flight. 0: no limit of the device's */
     char serial[NVME_SERIAL + 1]; /* of which NQN, NGUID and EUI64 are made: no two devices have the same */
     /*
@@ -166,8 +176,19 @@ struct nvme {
     FILE *log;
 };
 
-/* Makes a device, which isn't enabled. It must be zero but for what is chosen. */
-void nvme_init(struct nvme *device);
+/* What nvme_save writes: these bytes are all that is to be moved. */
+struct nvme_saved {
+    char letters[8];
+    uint32_t version, bytes; /* NVMEARB_VERSION, and the bytes of all */
+    uint64_t sum;            /* over the state */
+    struct nvme_state state;
+};
+
+/*
+ * Makes a device, which isn't enabled. It must be zero but for what is chosen. Returns 0 where the library isn't that of
+ * nvmearb.h, or `count` or `vectors` is out of its range.
+ */
+int nvme_init(struct nvme *device);
 
 /* Reads 1 to 8 bytes of the registers. */
 uint64_t nvme_read(struct nvme *device, uint64_t offset, unsigned size);
@@ -188,11 +209,16 @@ void nvme_reset(struct nvme *device);
 void nvme_resize(struct nvme *device, uint32_t nsid, uint64_t blocks);
 
 /*
- * Save and restore, once `settle` has waited, so that nothing is in flight: the state's bytes are all that is to be
- * moved, and nvme_turn then goes on. What was chosen is the same on both sides, and so is the version of the library.
- * nvme_restore returns 0, and changes nothing, where the bytes aren't a state.
+ * Save and restore, once `settle` has waited; nvme_turn then goes on. What was chosen is the same on both sides, and so is
+ * the version of the library. Both return 0, and write nothing, while this device has requests in flight: let `settle`
+ * wait once more, where one was begun by another's end.
+ * nvme_restore does so too where the bytes aren't those that nvme_save wrote, by their sum. Of bytes whose sum fits it
+ * looks at each number that the device goes by: registers, rings, vectors, event requests, features, and the controller
+ * by nvmearb_ctrl_verify. Bytes that somebody made up may then answer their guest wrongly, or never, but are to give the
+ * machine nothing that a guest couldn't: no vector that isn't there, no copy that crosses a page. (../tests/restore.c
+ * tries thousands.)
  */
-void nvme_save(const struct nvme *device, struct nvme_state *to);
-int nvme_restore(struct nvme *device, const struct nvme_state *from);
+int nvme_save(const struct nvme *device, struct nvme_saved *to);
+int nvme_restore(struct nvme *device, const struct nvme_saved *from);
 
 #endif

@@ -4,6 +4,8 @@
 
 #include "nvme.h"
 
+enum { NVME_MQES = 4095 }; /* CAP.MQES: the largest QSIZE */
+
 /* Opcodes, and status codes that the library has no name for. */
 enum { NVME_GET_LOG_PAGE = 0x02, NVME_IDENTIFY = 0x06, NVME_EVENT_REQUEST = 0x0c, NVME_VENDOR = 0xc0 };
 enum { NVME_COMPARE = 0x05, NVME_WRITE_ZEROES = 0x08, NVME_DATASET_MANAGEMENT = 0x09, NVME_VERIFY = 0x0c };
@@ -35,8 +37,9 @@ static inline int nvme_is_error(nvmearb_status status)
     return status.sct != 0 || status.sc != 0;
 }
 
-/* nvme.c: ends a command of this tag. */
+/* nvme.c: ends a command of this tag. Whether a queue may have this ring. */
 void nvme_complete(struct nvme *device, uint32_t tag, nvmearb_status status, uint32_t dw0);
+int nvme_is_ring(const struct nvme *device, const struct nvme_ring *ring);
 
 /* prp.c: finds what the PRPs of a command name; copies between the device's bytes and these. */
 nvmearb_status nvme_find(struct nvme *device, const nvmearb_sqe *entry, size_t length, struct nvme_piece *pieces,
@@ -67,6 +70,8 @@ void nvme_note_error(struct nvme *device, uint16_t qid, int event);
 /* What a feature belongs to, or 0: there is no such feature. */
 enum { NVME_OF_CONTROLLER = 1, NVME_OF_NAMESPACE };
 int nvme_feature_scope(uint32_t fid);
+/* Whether each feature has a value that may be set. */
+int nvme_are_features(const struct nvme_state *state);
 
 /* pages.c */
 nvmearb_status nvme_identify(struct nvme *device, const nvmearb_sqe *entry);
@@ -74,5 +79,9 @@ nvmearb_status nvme_get_log_page(struct nvme *device, const nvmearb_sqe *entry);
 
 /* registers.c: the device stops, once no Write is in flight any more; then it may be enabled again. */
 void nvme_stop(struct nvme *device);
+/* Sees an entry of the admin queue before the controller does. */
+void nvme_see(const struct nvme *device, uint8_t entry[NVMEARB_SQE_BYTES]);
+/* Whether registers are those of a device with nothing in flight, and go with its controller and admin queues. */
+int nvme_are_registers(const struct nvme_state *state);
 
 #endif

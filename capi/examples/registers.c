@@ -6,9 +6,29 @@
 
 #include <string.h>
 
-enum { MQES = 4095, DOORBELLS = 0x1000, TIMEOUT = 20 }; /* the largest QSIZE; units of 500 ms */
+enum { DOORBELLS = 0x1000, TIMEOUT = 20 }; /* in units of 500 ms */
+enum { IOSQES = 6, IOCQES = 4 };           /* the sizes of I/O entries, as powers of 2: those of SQES and CQES in Identify */
 
-/* CC.EN becomes 1. CSTS says failed unless all is as CAP allows: CSS and MPS are 0, AMS is 0 or 1. */
+/* Whether CC is as CAP and Identify allow: CSS and MPS are 0, AMS is 0 or 1, and sizes of entries right or not chosen. */
+static int is_supported(uint32_t cc)
+{
+    uint32_t iosqes = cc >> 16 & 0xf, iocqes = cc >> 20 & 0xf;
+    return !(cc & 0x7f0) && (cc >> 11 & 7) <= 1 && (iosqes == 0 || iosqes == IOSQES) && (iocqes == 0 || iocqes == IOCQES);
+}
+
+/*
+ * A host may choose the sizes of I/O entries once the controller is enabled, but before it creates I/O queues. Until then
+ * a Create ends with 1/02, Invalid Queue Size: the controller, which doesn't know CC, is handed a QSIZE that no ring has.
+ */
+void nvme_see(const struct nvme *d, uint8_t entry[NVMEARB_SQE_BYTES])
+{
+    uint32_t cc = d->state.registers[CC];
+    int is_sq = entry[0] == NVMEARB_OPC_CREATE_SQ, is_cq = entry[0] == NVMEARB_OPC_CREATE_CQ;
+    if ((is_sq && (cc >> 16 & 0xf) != IOSQES) || (is_cq && (cc >> 20 & 0xf) != IOCQES))
+        entry[42] = entry[43] = 0xff; /* bits 31:16 of Command Dword 10 */
+}
+
+/* CC.EN becomes 1. CSTS says failed (CFS) unless all is supported. */
 static void enable(struct nvme *d)
 {
     struct nvme_state *s = &d->state;
@@ -17,12 +37,12 @@ static void enable(struct nvme *d)
     nvmearb_region acq = {(uint64_t)r[ACQ_HIGH] << 32 | r[ACQ], (uint16_t)((r[AQA] >> 16 & 0xfff) + 1)};
     uint32_t ams = r[CC] >> 11 & 7, mechanism = d->is_weighted || ams ? NVMEARB_WEIGHTED : NVMEARB_ROUND_ROBIN;
     nvmearb_config config = {asq, acq, mechanism, NVME_ARBITRATION, NVME_QUEUES, NVME_QUEUES, NVME_DEPTH, NVME_DEPTH};
-    nvmearb_placement placement = {NVME_PAGE, MQES, d->vectors};
+    nvmearb_placement placement = {NVME_PAGE, NVME_MQES, d->vectors};
     s->sqs[0] = (struct nvme_ring){.address = asq.address, .slots = asq.slots};
     s->cqs[0] = (struct nvme_ring){.address = acq.address, .slots = acq.slots, .has_interrupt = 1};
     s->counts.resets++;
     s->registers[CSTS] = CFS;
-    if (r[CC] & 0x7f0 || ams > 1 ||
+    if (!is_supported(r[CC]) ||
         nvmearb_ctrl_init_anywhere(&s->ctrl, s->slots, NVME_COMMANDS, &config, &placement) != NVMEARB_OK)
         return;
     nvme_own(d);
@@ -142,23 +162,30 @@ uint64_t nvme_read(struct nvme *d, uint64_t offset, unsigned size)
     return value;
 }
 
-void nvme_init(struct nvme *d)
+/* The registers after a reset. */
+static void make_registers(uint32_t r[NVME_REGISTERS])
 {
-    uint32_t *r = d->state.registers;
-    memset(r, 0, sizeof d->state.registers);
+    memset(r, 0, NVME_REGISTERS * sizeof *r);
     /* CAP: 4096 slots, contiguous queues, weighted round robin, the NVM command set, ready with media (CRMS). */
-    r[CAP_LOW] = MQES | 1u << 16 | 1u << 17 | (uint32_t)TIMEOUT << 24;
+    r[CAP_LOW] = NVME_MQES | 1u << 16 | 1u << 17 | (uint32_t)TIMEOUT << 24;
     r[CAP_HIGH] = 1u << 5 | 1u << 27;
     r[VS] = 0x20000;
     r[CRTO] = TIMEOUT;
+}
+
+int nvme_init(struct nvme *d)
+{
+    if (!nvmearb_is_of_this_header() || d->count > NVME_NAMESPACES || d->vectors < 1 || d->vectors > NVME_QUEUES + 1)
+        return 0;
+    make_registers(d->state.registers);
     d->state.counts.begun = d->host.now(d->host.context);
     forget(d);
+    return 1;
 }
 
 void nvme_reset(struct nvme *d)
 {
     struct nvme_state *s = &d->state;
-    uint64_t begun = s->counts.begun;
     s->counts.unsafe_shutdowns += s->registers[CSTS] & RDY && !(s->registers[CSTS] & SHUT_DOWN);
     nvme_drop(d);
     if (d->host.settle)
@@ -166,42 +193,30 @@ void nvme_reset(struct nvme *d)
     if (s->is_asserted)
         d->host.interrupt(d->host.context, 0);
     s->is_asserted = s->is_stopping = 0;
-    nvme_init(d);
-    s->counts.begun = begun;
+    make_registers(s->registers);
+    forget(d);
 }
 
-/* ---- Save and restore. Power-on time goes on from what it was. ---- */
-
-void nvme_save(const struct nvme *d, struct nvme_state *to)
+/* Whether the controller is made, enabled and running go together, and the admin queues lie where registers say. */
+static int is_enabled_soundly(const struct nvme_state *s)
 {
-    *to = d->state;
-    to->counts.begun = d->host.now(d->host.context) - d->state.counts.begun;
+    const uint32_t *r = s->registers;
+    const struct nvme_ring *sq = &s->sqs[0], *cq = &s->cqs[0];
+    int is_made = s->ctrl.mark != 0, is_ready = r[CSTS] & RDY && !s->is_stopping;
+    if (!is_made)
+        return !is_ready;
+    return is_ready && r[CC] & 1 && sq->address == ((uint64_t)r[ASQ_HIGH] << 32 | r[ASQ]) &&
+           cq->address == ((uint64_t)r[ACQ_HIGH] << 32 | r[ACQ]) && sq->slots == (r[AQA] & 0xfff) + 1 &&
+           cq->slots == (r[AQA] >> 16 & 0xfff) + 1 && cq->vector == 0 && cq->has_interrupt;
 }
 
-/* Whether each number of the controller is in its range, and each open completion queue has slots. */
-static int is_sound(const struct nvme_state *s)
+int nvme_are_registers(const struct nvme_state *s)
 {
-    uint16_t region;
-    if (s->held_count > sizeof s->held / sizeof s->held[0])
-        return 0;
-    if (s->ctrl.mark == 0) /* it isn't enabled: every call refuses it */
-        return 1;
-    if (nvmearb_ctrl_verify(&s->ctrl, s->slots, NVME_COMMANDS) != NVMEARB_OK)
-        return 0;
-    for (uint16_t qid = 0; qid <= NVME_QUEUES; qid++)
-        if (nvmearb_ctrl_cq(&s->ctrl, qid, &region) == NVMEARB_OK && s->cqs[qid].slots == 0)
-            return 0;
-    return 1;
-}
-
-int nvme_restore(struct nvme *d, const struct nvme_state *from)
-{
-    if (!is_sound(from))
-        return 0;
-    d->state = *from;
-    d->state.counts.begun = d->host.now(d->host.context) - from->counts.begun;
-    d->state.is_asserted = 0; /* so that the next turn tells it */
-    d->has_ended = 1;         /* no namespace is busy */
-    d->log = NULL;
-    return 1;
+    static const uint8_t written[] = {INTMS, INTMC, CC, CSTS, AQA, ASQ, ASQ_HIGH, ACQ, ACQ_HIGH};
+    uint32_t first[NVME_REGISTERS];
+    make_registers(first);
+    for (size_t k = 0; k < sizeof written; k++)
+        first[written[k]] = s->registers[written[k]];
+    return !memcmp(first, s->registers, sizeof first) && !(first[CSTS] & ~(uint32_t)(RDY | CFS | SHUT_DOWN)) &&
+           !((first[ASQ] | first[ACQ]) % NVME_PAGE) && is_enabled_soundly(s);
 }

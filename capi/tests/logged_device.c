@@ -94,7 +94,8 @@ static int enable(uint64_t seed)
     device.count = device.vectors = 1;
     device.is_weighted = seed / 2 % 2;
     device.most = seed / 4 % 2 ? 3 : 0;
-    nvme_init(&device);
+    if (!nvme_init(&device))
+        return 0;
     nvme_write(&device, AT_AQA, (HOSTS_ADMIN_SLOTS - 1) * 0x10001u, 4);
     nvme_write(&device, AT_ASQ, HOSTS_ASQ, 8);
     nvme_write(&device, AT_ACQ, HOSTS_ACQ, 8);

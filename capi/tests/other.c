@@ -1,6 +1,7 @@
-/* nvmearb_is_of_this_header over other libraries, whose version and sizes stand here. */
+/* nvmearb_is_of_this_header over other libraries, whose version and sizes stand here, and texts of results. */
 #include "tell.h"
 #include <nvmearb.h>
+#include <string.h>
 
 static uint32_t version = NVMEARB_VERSION;
 static uint32_t sizes[] = {0, sizeof(nvmearb_arbiter), sizeof(nvmearb_board), sizeof(nvmearb_table),
@@ -34,8 +35,19 @@ static void of(uint32_t its_version, int is_taken)
     }
 }
 
+/* Each text begins with the name. (tests/capi looks that each result of the header has one.) */
+static void texts(void)
+{
+    CHECK(!strcmp(nvmearb_text(NVMEARB_OK), "NVMEARB_OK: done"));
+    CHECK(!strcmp(nvmearb_text(NVMEARB_EARG), "NVMEARB_EARG: an argument isn't valid"));
+    CHECK(!strcmp(nvmearb_text(NVMEARB_NOROOM), "NVMEARB_NOROOM: the device has room for no command"));
+    CHECK(!strcmp(nvmearb_text(NVMEARB_NOROOM + 1), "no result of nvmearb.h"));
+    CHECK(!strcmp(nvmearb_text(UINT32_MAX), "no result of nvmearb.h"));
+}
+
 int main(void)
 {
+    texts();
     of(NVMEARB_VERSION | NVMEARB_UNPROVED, IS_ALLOWED);
     of(NVMEARB_VERSION, 1);
     version -= 0x100;

@@ -45,7 +45,7 @@ struct NvmearbState {
     uint32_t most, vectors, enabled;
     FILE *trace, *log;
     struct nvme device;
-    struct nvme_state saved; /* for a migration */
+    struct nvme_saved saved; /* for a migration */
 };
 
 /* ---- What the device asks for ---- */
@@ -310,7 +310,9 @@ static void nvmearb_realize(PCIDevice *pci, Error **errp)
         host.picked = s->traces ? nvmearb_picked : NULL;
     }
     s->device.host = host;
-    nvme_init(&s->device);
+    if (!nvme_init(&s->device)) {
+        error_setg(errp, "nvmearb: libnvmearb.a isn't the proved one of nvmearb.h");
+    }
 }
 
 static void nvmearb_exit(PCIDevice *pci)
@@ -352,8 +354,7 @@ static int nvmearb_pre_save(void *opaque)
 {
     NvmearbState *s = opaque;
     nvmearb_settle(s);
-    nvme_save(&s->device, &s->saved);
-    return 0;
+    return nvme_save(&s->device, &s->saved) ? 0 : -EBUSY;
 }
 
 static int nvmearb_post_load(void *opaque, int version)
@@ -368,14 +369,14 @@ static int nvmearb_post_load(void *opaque, int version)
 
 static const VMStateDescription nvmearb_vmstate = {
     .name = TYPE_NVMEARB,
-    .version_id = 1,
-    .minimum_version_id = 1,
+    .version_id = 2,
+    .minimum_version_id = 2,
     .pre_save = nvmearb_pre_save,
     .post_load = nvmearb_post_load,
     .fields = (VMStateField[]) {
         VMSTATE_PCI_DEVICE(parent_obj, NvmearbState),
         VMSTATE_MSIX(parent_obj, NvmearbState),
-        VMSTATE_BUFFER_UNSAFE(saved, NvmearbState, 0, sizeof(struct nvme_state)),
+        VMSTATE_BUFFER_UNSAFE(saved, NvmearbState, 0, sizeof(struct nvme_saved)),
         VMSTATE_END_OF_LIST()
     }
 };
