@@ -1,44 +1,22 @@
 mod ExampleLogs
-mod OwnRegions
+pub mod OwnRegions
 mod PickEvents
 mod CqRegions
 mod SqRegions
 mod ShutRegions
-mod Agreeing
-mod Answered
-mod Steps
+pub mod Agreeing
+pub mod Answered
+pub mod Steps
 mod Verdicts
-mod EachEvent
-mod AdminQueues
-mod AdminTurns
-mod Phases
+pub mod EachEvent
+pub mod AdminQueues
+pub mod AdminTurns
+pub mod Phases
 mod PickedCommands
 mod PhaseSteps
-mod Queues
-mod IoQueues
-mod Fetches
-mod Standing
-mod StatusBy
-mod OwnRows
-mod Counts
-mod Outs
-mod Causes
-mod Caused
-mod Statuses
-mod Tells
-mod TellsSteps
-mod TellsNotes
-mod TrueAborts
-mod Numbers
-mod Features
-mod TrueFeatures
-mod Refused
-mod TrueDeletes
-mod CqTables
-mod CqFacts
-mod RefusedCqs
-mod Allotted
-mod TrueCreates
+pub mod Queues
+pub mod IoQueues
+pub mod Fetches
 mod CqsAlone
 mod CqTurns
 mod CqPhases

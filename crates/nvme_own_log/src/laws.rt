@@ -11,7 +11,6 @@ ghost use Rattle.nvme_audit.specs.Lawful.{IsFaultlessLog, verdict};
 ghost use Rattle.nvme_own_log.specs.Shown.{completion_of, shown, start_of};
 ghost use Rattle.nvme_own_log.specs.Duties.{KeepsDuties};
 ghost use Rattle.nvme_own_log.specs.Examples.{deletion_shown, passes_shown};
-ghost use Rattle.nvme_own_log.specs.Laws.{SqdelsAreAsked, AbortsAreAsked, AbortedAreAsTold, AbortsAreTrue, StatusesAreOfCommands, FeaturesAreTrue, DeletesAreTrue, CqCreatesAreTrue};
 ghost use Rattle.nvme_own_log.specs.TurnExamples.{answer, read_answered, read_told, two_rings};
 ghost use Rattle.nvme_own_log.specs.Laws.{AdminQueuesAreLawful, CompletionsAreLawful, FetchesAreLawful};
 
@@ -36,53 +35,6 @@ pub fn admin_queues_are_lawful()
 /// the start, and the host waits for completions (`KeepsDuties`).
 pub fn fetches_are_lawful()
     ensures { FetchesAreLawful }
-{}
-
-/// A completion says that its command was aborted with its queue only where a Delete of that was fetched. Of the statuses
-/// that the device gave the device keeps that (`DeviceKeeps`); so it is in the laws below.
-pub fn sqdels_are_asked()
-    ensures { SqdelsAreAsked }
-{}
-
-/// A completion says that an Abort command aborted its command only where an Abort named it: one that was fetched after
-/// the command, or was outstanding at its fetch.
-pub fn aborts_are_asked()
-    ensures { AbortsAreAsked }
-{}
-
-/// A command that an Abort says was aborted ends with Command Abort Requested. The device says so only of commands that it
-/// has (`DeviceTakesOwn`).
-pub fn aborted_are_as_told()
-    ensures { AbortedAreAsTold }
-{}
-
-/// An Abort says that a command was aborted only where one of that name is outstanding or has ended so.
-pub fn aborts_are_true()
-    ensures { AbortsAreTrue }
-{}
-
-/// No completion has the specific status of another command.
-pub fn statuses_are_of_commands()
-    ensures { StatusesAreOfCommands }
-{}
-
-/// Set Features of Number of Queues succeeds only before an I/O queue is created, and tells the same numbers each time, none
-/// of them FFFFh. The device answers no such command.
-pub fn features_are_true()
-    ensures { FeaturesAreTrue }
-{}
-
-/// A Delete of an I/O submission queue succeeds only where that is open, and is refused with Invalid Queue Identifier only
-/// where it isn't. The device answers no such command.
-pub fn deletes_are_true()
-    ensures { DeletesAreTrue }
-{}
-
-/// A Create of an I/O completion queue succeeds only where no queue is open under its identifier, and with two slots at
-/// least. It is refused with Invalid Queue Identifier only where one is, or the identifier isn't within the numbers that were
-/// told. At least one completion queue is allotted.
-pub fn cq_creates_are_true()
-    ensures { CqCreatesAreTrue }
 {}
 
 /// What an account shows of completions, of any queue and into any completion queue, keeps all rules of rings and of names:

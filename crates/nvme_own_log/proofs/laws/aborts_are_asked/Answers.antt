@@ -1,5 +1,0 @@
-use Rattle.nvme_own_log.proofs.Statuses.{aborts_are_asked}
-use Rattle.nvme_own_log.proofs.laws.aborts_are_asked.Goals as goal
-
-pub returns : goal.returns
-returns c = aborts_are_asked

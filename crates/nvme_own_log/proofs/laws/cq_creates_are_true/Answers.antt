@@ -1,5 +1,0 @@
-use Rattle.nvme_own_log.proofs.TrueCreates.{cq_creates_are_true}
-use Rattle.nvme_own_log.proofs.laws.cq_creates_are_true.Goals as goal
-
-pub returns : goal.returns
-returns c = cq_creates_are_true

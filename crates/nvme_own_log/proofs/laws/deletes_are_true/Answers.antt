@@ -1,5 +1,0 @@
-use Rattle.nvme_own_log.proofs.TrueDeletes.{deletes_are_true}
-use Rattle.nvme_own_log.proofs.laws.deletes_are_true.Goals as goal
-
-pub returns : goal.returns
-returns c = deletes_are_true

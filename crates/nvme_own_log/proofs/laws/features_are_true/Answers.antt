@@ -1,5 +1,0 @@
-use Rattle.nvme_own_log.proofs.TrueFeatures.{features_are_true}
-use Rattle.nvme_own_log.proofs.laws.features_are_true.Goals as goal
-
-pub returns : goal.returns
-returns c = features_are_true

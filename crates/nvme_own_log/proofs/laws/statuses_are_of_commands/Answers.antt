@@ -1,5 +1,0 @@
-use Rattle.nvme_own_log.proofs.Statuses.{statuses_are_of_commands}
-use Rattle.nvme_own_log.proofs.laws.statuses_are_of_commands.Goals as goal
-
-pub returns : goal.returns
-returns c = statuses_are_of_commands
