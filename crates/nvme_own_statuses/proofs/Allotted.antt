@@ -1,5 +1,5 @@
--- No more completion queues are allotted than at the pick of a command, and a Create is refused as Invalid Queue Identifier where its own isn't free.
-use Rattle.std.proofs.Common.{◌≡◌, ℕ, ◌+◌, ◌<◌, ◌≤◌, ◌==◌, ◌&&◌, ◌||◌, nat_lt, Bool, true, false, not, if◌then◌else◌, [], ◌∷◌, ◌++◌, Option, Some, None, is_some, is_none, refl, sym, subst, arith, inl, inr}
+-- No more queues are allotted than at the pick of a command, and a Create is refused as Invalid Queue Identifier where its own isn't free.
+use Rattle.std.proofs.Common.{◌≡◌, ℕ, ◌+◌, ◌<◌, ◌≤◌, ◌==◌, ◌&&◌, ◌||◌, nat_lt, Bool, true, false, not, if◌then◌else◌, List, [], ◌∷◌, ◌++◌, Option, Some, None, is_some, is_none, refl, sym, subst, arith, inl, inr}
 use Rattle.std.proofs.lemmas.Bool.{cases_eq, eq-eqb, ne_eqb}
 use Rattle.nvme_entry.specs.Status.{StatusCode, success, invalid_field, invalid_queue_identifier, invalid_queue_size}
 use Rattle.nvme_entry.specs.Checks.{first_failed}
@@ -8,12 +8,15 @@ use Rattle.nvme_entry.specs.AdminCommand.{admin_command_of}
 use Rattle.nvme_entry.specs.declared.submission.Sqe.{Sqe}
 use Rattle.nvme_entry.specs.declared.admin.AdminCommand.{AdminCommand}
 use Rattle.nvme_entry.specs.declared.admin.AdminCommand.TheVariants.{CreateCq}
+use Rattle.nvme_arbiter.specs.declared.pick.Pick.{Pick}
+use Rattle.nvme_arbiter.specs.declared.pick.Seen.{Seen}
 use Rattle.nvme_admin.specs.History.{Start, TableHistory, Placing}
 use Rattle.nvme_admin.specs.Placing.{prp_offset_invalid, invalid_interrupt_vector, vector_of, is_aligned}
 use Rattle.nvme_admin.specs.QueueTable.{QueueTable}
 use Rattle.nvme_admin.specs.Checks.{is_free, rows_of, placing_rows_of, placing_rows, status_over}
 use Rattle.nvme_admin.specs.Accepted.{queue_table, cq_at, status_of}
 use Rattle.nvme_admin.specs.declared.bounds.TheConstants.{MAX_QSIZE}
+use Rattle.nvme_log.specs.declared.event.Event.{Event}
 use Rattle.nvme_log.specs.declared.event.Event.TheVariants as event
 use Rattle.nvme_log.specs.Rules.{FrontRules, Past}
 use Rattle.nvme_log.specs.Places.{picked}
@@ -22,28 +25,34 @@ use Rattle.nvme_log.specs.Completions.{table_before}
 use Rattle.nvme_ctrl_log.proofs.TakenCommands.{IsSound, sound-before}
 use Rattle.nvme_audit.specs.Answers.{is_specific}
 use Rattle.nvme_own_log.proofs.AdminTurns.{TakesNext, takes_next, takes_other}
-use Rattle.nvme_own_statuses.proofs.Numbers.{fewer_event}
 
-pub fewer_at : (rules : FrontRules) (past : Past) → IsSound rules past → (k : ℕ) → k < picked past 0 → (queue_table rules.start (table_history rules past)).ncq ≤ (queue_table rules.start (table_before rules past k)).ncq
-fewer_at rules [] s k lt = absurd (omega (arith, lt))
-fewer_at rules (event.Pick seen pick ∷ past) s k lt = elim (cases_eq pick.qid 0) [
-  | inr io ↦
-      let same : table_before rules (event.Pick seen pick ∷ past) k ≡ table_before rules past k = rw (ne_eqb pick.qid 0 io) refl in
-      let before = fewer_at rules past (sound-before rules (event.Pick seen pick) past s) k (omega (arith, lt, takes_other rules past seen pick s io)) in
-      subst (λ (t : TableHistory). (queue_table rules.start (table_history rules (event.Pick seen pick ∷ past))).ncq ≤ (queue_table rules.start t).ncq) (sym same) (omega (arith, before, fewer_event rules (event.Pick seen pick) past))
-  | inl z ↦
-      let next : TakesNext rules past seen pick = takes_next rules past seen pick s z in
-      elim (cases_eq k (picked past 0)) [
-        | inl here ↦
-            let now : table_before rules (event.Pick seen pick ∷ past) k ≡ table_history rules past = rw (eq-eqb pick.qid 0 z, next.oldest, eq-eqb (picked past 0) k (sym here)) refl in
-            subst (λ (t : TableHistory). (queue_table rules.start (table_history rules (event.Pick seen pick ∷ past))).ncq ≤ (queue_table rules.start t).ncq) (sym now) (fewer_event rules (event.Pick seen pick) past)
-        | inr other ↦
-            let same : table_before rules (event.Pick seen pick ∷ past) k ≡ table_before rules past k = rw (eq-eqb pick.qid 0 z, next.oldest, ne_eqb (picked past 0) k (λ e. other (sym e))) refl in
-            let before = fewer_at rules past (sound-before rules (event.Pick seen pick) past s) k (omega (arith, lt, other, next.one_more)) in
-            subst (λ (t : TableHistory). (queue_table rules.start (table_history rules (event.Pick seen pick ∷ past))).ncq ≤ (queue_table rules.start t).ncq) (sym same) (omega (arith, before, fewer_event rules (event.Pick seen pick) past))
-      ]
-]
-fewer_at rules (e ∷ past) s k lt = (let before = fewer_at rules past (sound-before rules e past s) k lt in omega (arith, before, fewer_event rules e past))
+module _ (rules : FrontRules) (count : QueueTable → ℕ)
+    (fewer : (e : Event) (past : Past) → count (queue_table rules.start (table_history rules (e ∷ past))) ≤ count (queue_table rules.start (table_history rules past))) where
+  abbrev AreFewer : Past → Type 0
+  AreFewer past = (k : ℕ) → k < picked past 0 → count (queue_table rules.start (table_history rules past)) ≤ count (queue_table rules.start (table_before rules past k))
+
+  fewer_pick : (past : Past) (seen : List Seen) (pick : Pick) → IsSound rules (event.Pick seen pick ∷ past) → AreFewer past → AreFewer (event.Pick seen pick ∷ past)
+  fewer_pick past seen pick s before k lt = elim (cases_eq pick.qid 0) [
+    | inr io ↦ old (rw (ne_eqb pick.qid 0 io) refl) (omega (arith, lt, takes_other rules past seen pick s io))
+    | inl z ↦
+        let next : TakesNext rules past seen pick = takes_next rules past seen pick s z in
+        elim (cases_eq k (picked past 0)) [
+          | inl here ↦
+              let now : table_before rules (event.Pick seen pick ∷ past) k ≡ table_history rules past = rw (eq-eqb pick.qid 0 z, next.oldest, eq-eqb (picked past 0) k (sym here)) refl in
+              subst (λ (t : TableHistory). count (queue_table rules.start (table_history rules (event.Pick seen pick ∷ past))) ≤ count (queue_table rules.start t)) (sym now) (fewer (event.Pick seen pick) past)
+          | inr other ↦ old (rw (eq-eqb pick.qid 0 z, next.oldest, ne_eqb (picked past 0) k (λ e. other (sym e))) refl) (omega (arith, lt, other, next.one_more))
+        ]
+  ] where
+    old : table_before rules (event.Pick seen pick ∷ past) k ≡ table_before rules past k → k < picked past 0
+        → count (queue_table rules.start (table_history rules (event.Pick seen pick ∷ past))) ≤ count (queue_table rules.start (table_before rules (event.Pick seen pick ∷ past) k))
+    old same few =
+        let fewer_then = before k few in
+        subst (λ (t : TableHistory). count (queue_table rules.start (table_history rules (event.Pick seen pick ∷ past))) ≤ count (queue_table rules.start t)) (sym same) (omega (arith, fewer_then, fewer (event.Pick seen pick) past))
+
+  pub fewer_at : (past : Past) → IsSound rules past → AreFewer past
+  fewer_at [] s k lt = absurd (omega (arith, lt))
+  fewer_at (event.Pick seen pick ∷ past) s k lt = fewer_pick past seen pick s (fewer_at past (sound-before rules (event.Pick seen pick) past s)) k lt
+  fewer_at (e ∷ past) s k lt = (let before = fewer_at past (sound-before rules e past s) k lt in omega (arith, before, fewer e past))
 
 -- ---- the rows of a Create
 skip : (b : Bool) (status rest : StatusCode) → is_specific status 0x01 ≡ false → is_specific (if b then status else rest) 0x01 ≡ true → is_specific rest 0x01 ≡ true

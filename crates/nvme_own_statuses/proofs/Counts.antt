@@ -199,3 +199,7 @@ module _ (rules : FrontRules) where
     pending_counts notes s k e p own =
         let one = counts_one (is_pending (logged notes)) k (length (fetched (logged notes) 0)) (slice_get_within (fetched (logged notes) 0) k e p.0) (rw (p.1, p.0) own) in
         omega (arith, counted notes s, one)
+
+    -- no more are answered than were fetched
+    pub few_answered : (notes : Notes) → Stands rules notes → replies_of kind (shown rules notes) ≤ asks_of kind (shown rules notes)
+    few_answered notes s = omega (arith, counted notes s)

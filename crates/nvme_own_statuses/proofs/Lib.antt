@@ -19,4 +19,10 @@ mod CqTables
 mod CqFacts
 mod RefusedCqs
 mod Allotted
+mod Within
 mod TrueCreates
+mod Settled
+mod Starts
+mod Endings
+mod Refusals
+mod TrueSqCreates

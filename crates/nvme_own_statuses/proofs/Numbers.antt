@@ -173,36 +173,57 @@ few_numbers start h set = by (first_request_in (effects_of start h)) (few_after 
       let both = f x refl in
       halves (min (nsqr_of x + 1) start.nsq - 1) (min (ncqr_of x + 1) start.ncq - 1) (omega (arith, both.0)) (omega (arith, both.1))
 
--- ---- allotted completion queues
-most_cqs : (start : Start) (o : Option ℕ) → ncq_by start o ≤ start.ncq
+-- ---- allotted queues
+most_sqs : (start : Start) (o : Option ℕ) → nsq_by start o ≤ nsq_by start None
+most_sqs start None = omega arith
+most_sqs start (Some x) = omega arith
+
+most_cqs : (start : Start) (o : Option ℕ) → ncq_by start o ≤ ncq_by start None
 most_cqs start None = omega arith
 most_cqs start (Some x) = omega arith
 
-fewer_command : (start : Start) (command : AdminCommand) (e : Effects) → ncq_by start (first_request_in (Accepted command ∷ e)) ≤ ncq_by start (first_request_in e)
-fewer_command start command e = by (first_request_in e) refl where
-  by : (o : Option ℕ) → first_request_in e ≡ o → ncq_by start (first_request_in (Accepted command ∷ e)) ≤ ncq_by start (first_request_in e)
-  by None none = (let all : ncq_by start (first_request_in e) ≡ start.ncq = ap (ncq_by start) none in omega (arith, all, most_cqs start (first_request_in (Accepted command ∷ e))))
-  by (Some x) some = (let same = ap (ncq_by start) (first_stays command e (ap (λ (o : Option ℕ). is_some o) some)) in omega (arith, same))
+-- what is most before any request isn't more after the first
+module _ (F : Option ℕ → ℕ) (most : (o : Option ℕ) → F o ≤ F None) where
+  fewer_command : (command : AdminCommand) (e : Effects) → F (first_request_in (Accepted command ∷ e)) ≤ F (first_request_in e)
+  fewer_command command e = by (first_request_in e) refl where
+    by : (o : Option ℕ) → first_request_in e ≡ o → F (first_request_in (Accepted command ∷ e)) ≤ F (first_request_in e)
+    by None none = (let all : F (first_request_in e) ≡ F None = ap F none in omega (arith, all, most (first_request_in (Accepted command ∷ e))))
+    by (Some x) some = (let same = ap F (first_stays command e (ap (λ (o : Option ℕ). is_some o) some)) in omega (arith, same))
 
-fewer_entry : (start : Start) (h : TableHistory) (entry : Sqe) → (queue_table start (EntryApplied entry ∷ h)).ncq ≤ (queue_table start h).ncq
-unfolding effects_of queue_table
-fewer_entry start h entry = by (is_success (status_over (table_in start (effects_of start h)) entry)) where
-  by : (b : Bool) → ncq_by start (first_request_in (if b then Accepted (admin_command_of entry) ∷ effects_of start h else effects_of start h)) ≤ ncq_by start (first_request_in (effects_of start h))
-  by true = fewer_command start (admin_command_of entry) (effects_of start h)
-  by false = omega arith
+  fewer_entry : (start : Start) (h : TableHistory) (entry : Sqe) → F (first_request_in (effects_of start (EntryApplied entry ∷ h))) ≤ F (first_request_in (effects_of start h))
+  unfolding effects_of
+  fewer_entry start h entry = by (is_success (status_over (table_in start (effects_of start h)) entry)) where
+    by : (b : Bool) → F (first_request_in (if b then Accepted (admin_command_of entry) ∷ effects_of start h else effects_of start h)) ≤ F (first_request_in (effects_of start h))
+    by true = fewer_command (admin_command_of entry) (effects_of start h)
+    by false = omega arith
 
-fewer_finished : (start : Start) (h : TableHistory) (qid : ℕ) → (queue_table start (DeletionFinished qid ∷ h)).ncq ≤ (queue_table start h).ncq
-unfolding effects_of queue_table
-fewer_finished start h qid = omega arith
+  fewer_finished : (start : Start) (h : TableHistory) (qid : ℕ) → F (first_request_in (effects_of start (DeletionFinished qid ∷ h))) ≤ F (first_request_in (effects_of start h))
+  unfolding effects_of
+  fewer_finished start h qid = omega arith
 
-pub fewer_event : (rules : FrontRules) (e : Event) (past : Past) → (queue_table rules.start (table_history rules (e ∷ past))).ncq ≤ (queue_table rules.start (table_history rules past)).ncq
-fewer_event rules (event.Pick seen pick) past = by (pick.qid == 0) (admin_entry past) where
-  by : (b : Bool) (o : Option Sqe) → (queue_table rules.start (if b then applied o ++ table_history rules past else table_history rules past)).ncq ≤ (queue_table rules.start (table_history rules past)).ncq
-  by false o = omega arith
-  by true None = omega arith
-  by true (Some entry) = fewer_entry rules.start (table_history rules past) entry
-fewer_event rules (event.ClosedSq qid region) past = fewer_finished rules.start (table_history rules past) qid
-fewer_event rules e past = omega arith
+  fewer_requests : (rules : FrontRules) (e : Event) (past : Past) → F (first_request_in (effects_of rules.start (table_history rules (e ∷ past)))) ≤ F (first_request_in (effects_of rules.start (table_history rules past)))
+  fewer_requests rules (event.Pick seen pick) past = by (pick.qid == 0) (admin_entry past) where
+    by : (b : Bool) (o : Option Sqe) → F (first_request_in (effects_of rules.start (if b then applied o ++ table_history rules past else table_history rules past))) ≤ F (first_request_in (effects_of rules.start (table_history rules past)))
+    by false o = omega arith
+    by true None = omega arith
+    by true (Some entry) = fewer_entry rules.start (table_history rules past) entry
+  fewer_requests rules (event.ClosedSq qid region) past = fewer_finished rules.start (table_history rules past) qid
+  fewer_requests rules e past = omega arith
+
+pub fewer_sqs : (rules : FrontRules) (e : Event) (past : Past) → (queue_table rules.start (table_history rules (e ∷ past))).nsq ≤ (queue_table rules.start (table_history rules past)).nsq
+unfolding queue_table
+fewer_sqs rules e past = fewer_requests (nsq_by rules.start) (most_sqs rules.start) rules e past
+
+pub fewer_cqs : (rules : FrontRules) (e : Event) (past : Past) → (queue_table rules.start (table_history rules (e ∷ past))).ncq ≤ (queue_table rules.start (table_history rules past)).ncq
+unfolding queue_table
+fewer_cqs rules e past = fewer_requests (ncq_by rules.start) (most_cqs rules.start) rules e past
+
+pub some_sqs : (start : Start) (h : TableHistory) → 0 < start.nsq → 0 < (queue_table start h).nsq
+unfolding queue_table
+some_sqs start h some = by (first_request_in (effects_of start h)) where
+  by : (o : Option ℕ) → 0 < nsq_by start o
+  by None = some
+  by (Some x) = omega (arith, some)
 
 pub some_cqs : (start : Start) (h : TableHistory) → 0 < start.ncq → 0 < (queue_table start h).ncq
 unfolding queue_table
@@ -218,5 +239,15 @@ cqs_told start h set = by (first_request_in (effects_of start h)) (few_after sta
   half a b few = omega (arith, few)
 
   by : (o : Option ℕ) → ((x : ℕ) → o ≡ Some x → (nsqr_of x < 0xffff) × (ncqr_of x < 0xffff)) → is_some o ≡ true → ((nsq_by start o - 1) + 2 ^ 16 * (ncq_by start o - 1)) / 0x10000 ≡ ncq_by start o - 1
+  by None f s = cc s
+  by (Some x) f s = (let both = f x refl in half (min (nsqr_of x + 1) start.nsq - 1) (min (ncqr_of x + 1) start.ncq - 1) (omega (arith, both.0)))
+
+pub sqs_told : (start : Start) (h : TableHistory) → (queue_table start h).numbers_set ≡ true → numbers_dw0 (queue_table start h) % 0x10000 ≡ (queue_table start h).nsq - 1
+unfolding queue_table
+sqs_told start h set = by (first_request_in (effects_of start h)) (few_after start h) set where
+  half : (a b : ℕ) → a < 0xffff → (a + 2 ^ 16 * b) % 0x10000 ≡ a
+  half a b few = omega (arith, few)
+
+  by : (o : Option ℕ) → ((x : ℕ) → o ≡ Some x → (nsqr_of x < 0xffff) × (ncqr_of x < 0xffff)) → is_some o ≡ true → ((nsq_by start o - 1) + 2 ^ 16 * (ncq_by start o - 1)) % 0x10000 ≡ nsq_by start o - 1
   by None f s = cc s
   by (Some x) f s = (let both = f x refl in half (min (nsqr_of x + 1) start.nsq - 1) (min (ncqr_of x + 1) start.ncq - 1) (omega (arith, both.0)))

@@ -1,17 +1,15 @@
 -- Creates of completion queues are answered as the judge asks.
-use Rattle.std.proofs.Common.{◌≡◌, ℕ, ◌+◌, ◌-◌, ◌/◌, ◌<◌, ◌==◌, ◌&&◌, ◌||◌, nat_lt, nat_le, Bool, true, false, not, [], ◌∷◌, Option, Some, None, is_some, is_none, refl, sym, ap, ◌∙◌, subst, arith, inl, inr, eqb-true}
-use Rattle.std.proofs.lemmas.Bool.{cases_Bool, cases_eq, eq-eqb, ltb-true, lt-leb, or_cases, or_parts, or_from, and_parts, and_right, false_from_ne_true}
+use Rattle.std.proofs.Common.{◌≡◌, ℕ, ◌<◌, ◌==◌, ◌&&◌, ◌||◌, nat_lt, Bool, true, false, not, [], ◌∷◌, Option, Some, None, is_some, is_none, refl, sym, ap, ◌∙◌, subst, inl, inr, eqb-true}
+use Rattle.std.proofs.lemmas.Bool.{cases_Bool, cases_eq, eq-eqb, or_cases, or_parts, or_from, and_parts, false_from_ne_true}
 use Rattle.std.proofs.lemmas.Option.{same_Some}
 use Rattle.nvme_entry.specs.Status.{StatusCode}
 use Rattle.nvme_entry.specs.declared.submission.Sqe.{Sqe}
 use Rattle.nvme_admin.specs.History.{TableHistory}
 use Rattle.nvme_log.specs.Places.{picked, entry_at, fate_of, is_waiting}
-use Rattle.nvme_log.specs.Histories.{table_history}
 use Rattle.nvme_ctrl_log.proofs.TakenCommands.{admin_picked}
 use Rattle.nvme_own_log.proofs.AdminQueues.{effects_of}
-use Rattle.nvme_own_statuses.proofs.Allotted.{fewer_at, create_refused}
-use Rattle.nvme_own_log.proofs.IoQueues.{sound}
-use Rattle.nvme_own_statuses.proofs.Numbers.{some_cqs, cqs_told}
+use Rattle.nvme_own_statuses.proofs.Allotted.{create_refused}
+use Rattle.nvme_own_statuses.proofs.Within.{no_cq_zero, cq_beyond}
 use Rattle.nvme_own_statuses.proofs.RefusedCqs.{refused_at}
 use Rattle.nvme_entry.specs.AdminCommand.{admin_command_of}
 use Rattle.nvme_entry.specs.declared.completion.Cqe.{Cqe}
@@ -62,10 +60,6 @@ create_is Other h = cc h
 -- one that passes has two slots at least
 some_slots : (t : QueueTable) (q qsize prp1 : ℕ) (pc : Bool) → Passes t (CreateCq q qsize prp1 pc) → (qsize == 0) ≡ false
 some_slots t q qsize prp1 pc h = (or_parts (qsize == 0) _ (none-matches (rows_of t (CreateCq q qsize prp1 pc)) (refl, (refl, (refl, (refl, tt)))) h).1.1.0).0
-
-not_zero : (o : Option ℕ) → is_cq_within o 0 ≡ false
-not_zero None = refl
-not_zero (Some n) = refl
 
 module _ (rules : FrontRules) (starts : StartsWithAdmin rules) (by_regions : placing_in rules ≡ None) (some : 0 < rules.start.ncq) where
   module _ (notes : Notes) (c r i : ℕ) (cqe : Cqe) (s : Stands rules (Logged (Post c r i cqe) ∷ notes)) where
@@ -126,18 +120,6 @@ module _ (rules : FrontRules) (starts : StartsWithAdmin rules) (by_regions : pla
           cc (success, refused))
           ∙ sym (refused_at rules starts by_regions notes now unmet q i posted.entry pending picked_here refused turns) ∙ used
 
-      beyond : nat_lt (queue_table rules.start then_table).ncq q ≡ true → is_cq_within (numbers log) q ≡ false
-      beyond more = by (numbers log) refl where
-        by : (o : Option ℕ) → numbers log ≡ o → is_cq_within o q ≡ false
-        by None none = refl
-        by (Some n) told =
-            let it = features.numbered n told in
-            let half : n / 0x10000 ≡ (queue_table rules.start (table_history rules past)).ncq - 1 = ap (λ (k : ℕ). k / 0x10000) it.0 ∙ cqs_told rules.start (table_history rules past) it.1 in
-            let fewer = fewer_at rules past (sound rules starts by_regions notes now.each now.lawful) i picked_here in
-            let one = some_cqs rules.start (table_history rules past) some in
-            let above : (queue_table rules.start then_table).ncq < q = ltb-true (queue_table rules.start then_table).ncq q more in
-            and_right (nat_lt 0 q) (nat_le q (n / 0x10000 + 1)) (lt-leb q (n / 0x10000 + 1) (omega (arith, half, fewer, one, above)))
-
       fails_so : is_success cqe.status ≡ false → (is_specific cqe.status 0x01 && is_cq_within (numbers log) q && not (finds rules log q)) ≡ false
       fails_so fails = false_from_ne_true (is_specific cqe.status 0x01 && is_cq_within (numbers log) q && not (finds rules log q)) (λ h.
           let outer = and_parts (is_specific cqe.status 0x01 && is_cq_within (numbers log) q) (not (finds rules log q)) h in
@@ -146,8 +128,8 @@ module _ (rules : FrontRules) (starts : StartsWithAdmin rules) (by_regions : pla
           (create_refused rules.start then_table posted.entry q qsize prp1 pc is (ap (λ (x : StatusCode). is_specific x 0x01) (sym status) ∙ inner.0))) [
             | inr used ↦ (let there : not (finds rules log q) ≡ false = ap not (in_use fails used) in cc (there, outer.1))
             | inl none ↦ elim (or_cases (q == 0) (nat_lt (queue_table rules.start then_table).ncq q) none) [
-              | inl zero_is ↦ (let never : is_cq_within (numbers log) q ≡ false = ap (is_cq_within (numbers log)) (eqb-true q 0 zero_is) ∙ not_zero (numbers log) in cc (never, inner.1))
-              | inr more ↦ (let never : is_cq_within (numbers log) q ≡ false = beyond more in cc (never, inner.1))
+              | inl zero_is ↦ (let never : is_cq_within (numbers log) q ≡ false = ap (is_cq_within (numbers log)) (eqb-true q 0 zero_is) ∙ no_cq_zero (numbers log) in cc (never, inner.1))
+              | inr more ↦ (let never : is_cq_within (numbers log) q ≡ false = cq_beyond rules starts by_regions notes now i picked_here some q more in cc (never, inner.1))
             ]
           ])
 

@@ -1,5 +1,6 @@
 -- Laws of the statuses that the accounts of a controller show.
 use Rattle.std.specs.Prelude.{◌≡◌, ◌<◌, None}
+use Rattle.nvme_admin.specs.declared.bounds.TheConstants.{MAX_REGIONS}
 use Rattle.nvme_log.specs.Rules.{FrontRules}
 use Rattle.nvme_log.specs.Laws.{StartsWithAdmin}
 use Rattle.nvme_ctrl_log.specs.Notes.{Notes}
@@ -7,7 +8,7 @@ use Rattle.nvme_ctrl_log.specs.Making.{placing_in}
 use Rattle.nvme_ctrl_log.specs.Account.{IsAccount}
 use Rattle.nvme_own_log.specs.Shown.{start_of, shown}
 use Rattle.nvme_own_log.specs.Duties.{KeepsDuties}
-use Rattle.nvme_own_statuses.specs.Statuses.{IsSqdelAsked, IsAbortAsked, IsAsTold, IsTrueAbort, IsOfCommand, IsTrueOf, is_set_features, is_delete_sq, is_create_cq, EachPost, DeviceKeeps, DeviceTakesOwn}
+use Rattle.nvme_own_statuses.specs.Statuses.{IsSqdelAsked, IsAbortAsked, IsAsTold, IsTrueAbort, IsOfCommand, IsTrueOf, is_set_features, is_delete_sq, is_create_sq, is_create_cq, EachPost, DeviceKeeps, DeviceTakesOwn}
 
 -- ---- statuses, where the device keeps the same
 -- a completion says that its command was aborted with its queue only where a Delete of that was fetched
@@ -51,3 +52,9 @@ DeletesAreTrue = (rules : FrontRules) (notes : Notes) → StartsWithAdmin rules 
 abbrev pub CqCreatesAreTrue : Type 0
 CqCreatesAreTrue = (rules : FrontRules) (notes : Notes) → StartsWithAdmin rules → placing_in rules ≡ None → IsAccount rules notes → KeepsDuties (start_of rules) (shown rules notes)
     → 0 < rules.start.ncq → EachPost (IsTrueOf is_create_cq (start_of rules)) (shown rules notes)
+
+-- a Create of a submission queue succeeds under an identifier that is free, with two slots at least and onto a completion queue that is open, and isn't
+-- refused for one of these where it is so. At least one queue of each kind is allotted, and at most as many submission queues as the table has room for
+abbrev pub SqCreatesAreTrue : Type 0
+SqCreatesAreTrue = (rules : FrontRules) (notes : Notes) → StartsWithAdmin rules → placing_in rules ≡ None → IsAccount rules notes → KeepsDuties (start_of rules) (shown rules notes)
+    → 0 < rules.start.nsq → rules.start.nsq < MAX_REGIONS → 0 < rules.start.ncq → EachPost (IsTrueOf is_create_sq (start_of rules)) (shown rules notes)

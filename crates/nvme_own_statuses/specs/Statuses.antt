@@ -4,7 +4,7 @@ use Rattle.std.specs.Prelude.{◌≡◌, ℕ, ◌&&◌, true, false, not, Bool, 
 use Rattle.nvme_entry.specs.AdminCommand.{admin_command_of}
 use Rattle.nvme_entry.specs.declared.submission.Sqe.{Sqe}
 use Rattle.nvme_entry.specs.declared.admin.AdminCommand.{AdminCommand}
-use Rattle.nvme_entry.specs.declared.admin.AdminCommand.TheVariants.{DeleteSq, CreateCq, Abort, SetFeatures}
+use Rattle.nvme_entry.specs.declared.admin.AdminCommand.TheVariants.{DeleteSq, CreateSq, DeleteCq, CreateCq, Abort, SetFeatures}
 use Rattle.nvme_log.specs.declared.event.Event.TheVariants as event
 use Rattle.nvme_log.specs.Rules.{FrontRules}
 use Rattle.nvme_log.specs.Queues.{qid_of_region}
@@ -73,6 +73,14 @@ is_set_features command = false
 abbrev pub is_delete_sq : AdminCommand → Bool
 is_delete_sq (DeleteSq qid) = true
 is_delete_sq command = false
+
+abbrev pub is_create_sq : AdminCommand → Bool
+is_create_sq (CreateSq qid qsize prp1 cqid qprio pc) = true
+is_create_sq command = false
+
+abbrev pub is_delete_cq : AdminCommand → Bool
+is_delete_cq (DeleteCq qid) = true
+is_delete_cq command = false
 
 abbrev pub is_create_cq : AdminCommand → Bool
 is_create_cq (CreateCq qid qsize prp1 pc) = true

@@ -1,6 +1,6 @@
 //! Laws of the statuses that the notes of a controller show, over the definitions alone. Each function does nothing: its
 //! contract is the law.
-ghost use Rattle.nvme_own_statuses.specs.Laws.{SqdelsAreAsked, AbortsAreAsked, AbortedAreAsTold, AbortsAreTrue, StatusesAreOfCommands, FeaturesAreTrue, DeletesAreTrue, CqCreatesAreTrue};
+ghost use Rattle.nvme_own_statuses.specs.Laws.{SqdelsAreAsked, AbortsAreAsked, AbortedAreAsTold, AbortsAreTrue, StatusesAreOfCommands, FeaturesAreTrue, DeletesAreTrue, SqCreatesAreTrue, CqCreatesAreTrue};
 
 /// A completion says that its command was aborted with its queue only where a Delete of that was fetched. Of the statuses
 /// that the device gave the device keeps that (`DeviceKeeps`); so it is in the laws below.
@@ -47,4 +47,13 @@ pub fn deletes_are_true()
 /// told. At least one completion queue is allotted.
 pub fn cq_creates_are_true()
     ensures { CqCreatesAreTrue }
+{}
+
+/// A Create of an I/O submission queue succeeds only where no queue is open under its identifier, with two slots at least and
+/// onto a completion queue that is open. It is refused with Completion Queue Invalid only where that isn't, and with Invalid
+/// Queue Identifier only where its own identifier is in use, or one of the two isn't within the numbers that were told. Whether
+/// the completion queue is open is judged where no Create or Delete of it was outstanding since the fetch. At least one
+/// queue of each kind is allotted, and at most 64 submission queues.
+pub fn sq_creates_are_true()
+    ensures { SqCreatesAreTrue }
 {}
