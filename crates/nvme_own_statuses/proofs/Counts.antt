@@ -42,7 +42,7 @@ get_last [] y = refl
 get_last (x ∷ xs) y = get_last xs y
 
 -- a number below n that passes is counted
-counts_one : (t : ℕ → Bool) (k n : ℕ) → k < n → t k ≡ true → 1 ≤ count_of t (upto n)
+pub counts_one : (t : ℕ → Bool) (k n : ℕ) → k < n → t k ≡ true → 1 ≤ count_of t (upto n)
 counts_one t k zero lt h = absurd (omega (arith, lt))
 counts_one t k (suc n) lt h = elim (cases_eq k n) [
   | inl same ↦ (let here : one_if (t n) ≡ 1 = ap (λ (z : ℕ). one_if (t z)) (sym same) ∙ ap one_if h in omega (arith, here, count_of-push t (upto n) n))

@@ -26,3 +26,6 @@ mod Starts
 mod Endings
 mod Refusals
 mod TrueSqCreates
+mod Attachments
+mod SettledSqs
+mod TrueCqDeletes

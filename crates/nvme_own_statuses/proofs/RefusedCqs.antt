@@ -24,7 +24,7 @@ use Rattle.nvme_audit.specs.Queues.{turns_cq}
 use Rattle.nvme_audit.specs.Turns.{have_met}
 use Rattle.nvme_own_log.specs.Shown.{shown}
 use Rattle.nvme_own_log.proofs.AdminTurns.{TakesNext, takes_next, takes_other, few_picked}
-use Rattle.nvme_own_statuses.proofs.CqFacts.{CqsAt, Turns, has, cqs_at, unmet_before}
+use Rattle.nvme_own_statuses.proofs.CqFacts.{CqsAt, Turns, finds, has, cqs_at, unmet_before}
 use Rattle.nvme_own_statuses.proofs.CqTables.{entry_leaves, event_leaves}
 use Rattle.nvme_own_log.proofs.IoQueues.{sound}
 use Rattle.nvme_own_log.proofs.Phases.{IsPending}
@@ -111,3 +111,16 @@ module _ (rules : FrontRules) where
     refused_at (Logged (event.ClosedSq q r) ∷ notes) s m = refused_event (logged notes) (event.ClosedSq q r) tt (refused_at notes (stands_before rules (Logged (event.ClosedSq q r)) notes s) m)
     refused_at (Logged (event.ClosedCq q r) ∷ notes) s m = refused_event (logged notes) (event.ClosedCq q r) tt (refused_at notes (stands_before rules (Logged (event.ClosedCq q r)) notes s) m)
     refused_at (note ∷ notes) s m = refused_at notes (stands_before rules note notes s) (unmet_before rules starts by_regions note notes m)
+
+    -- so the judge finds the queue where it was there at the pick
+    pub found_as : (notes : Notes) → Stands rules notes → have_met (shown rules notes) ≡ false → (q k : ℕ) (a : Sqe) → IsPending rules (logged notes) k a → k < picked (logged notes) 0
+        → is_success (status_of rules.start (table_before rules (logged notes) k) a) ≡ false → Turns rules a q → finds rules (shown rules notes) q ≡ is_some (cq_at rules.start (table_before rules (logged notes) k) q)
+    found_as notes s m q k a p lt refused turns =
+        let facts = cqs_at rules starts by_regions notes s m in
+        facts.idle q (λ j x pending ok too.
+        let same : k ≡ j = facts.alone q k j a x p pending turns too in
+        let entry : a ≡ x = same_Some a x (sym p.0 ∙ ap (entry_at (logged notes) 0) same ∙ pending.0) in
+        let success : is_success (status_of rules.start (table_before rules (logged notes) k) a) ≡ true =
+        subst (λ (y : Sqe). is_success (status_of rules.start (table_before rules (logged notes) k) y) ≡ true) (sym entry) (subst (λ (n : ℕ). is_success (status_of rules.start (table_before rules (logged notes) n) x) ≡ true) (sym same) ok.1) in
+        cc (success, refused))
+        ∙ sym (refused_at notes s m q k a p lt refused turns)

@@ -1,16 +1,14 @@
 -- Creates of completion queues are answered as the judge asks.
 use Rattle.std.proofs.Common.{◌≡◌, ℕ, ◌<◌, ◌==◌, ◌&&◌, ◌||◌, nat_lt, Bool, true, false, not, [], ◌∷◌, Option, Some, None, is_some, is_none, refl, sym, ap, ◌∙◌, subst, inl, inr, eqb-true}
 use Rattle.std.proofs.lemmas.Bool.{cases_Bool, cases_eq, eq-eqb, or_cases, or_parts, or_from, and_parts, false_from_ne_true}
-use Rattle.std.proofs.lemmas.Option.{same_Some}
 use Rattle.nvme_entry.specs.Status.{StatusCode}
-use Rattle.nvme_entry.specs.declared.submission.Sqe.{Sqe}
 use Rattle.nvme_admin.specs.History.{TableHistory}
-use Rattle.nvme_log.specs.Places.{picked, entry_at, fate_of, is_waiting}
+use Rattle.nvme_log.specs.Places.{picked, fate_of, is_waiting}
 use Rattle.nvme_ctrl_log.proofs.TakenCommands.{admin_picked}
 use Rattle.nvme_own_log.proofs.AdminQueues.{effects_of}
 use Rattle.nvme_own_statuses.proofs.Allotted.{create_refused}
 use Rattle.nvme_own_statuses.proofs.Within.{no_cq_zero, cq_beyond}
-use Rattle.nvme_own_statuses.proofs.RefusedCqs.{refused_at}
+use Rattle.nvme_own_statuses.proofs.RefusedCqs.{found_as}
 use Rattle.nvme_entry.specs.AdminCommand.{admin_command_of}
 use Rattle.nvme_entry.specs.declared.completion.Cqe.{Cqe}
 use Rattle.nvme_entry.specs.declared.admin.AdminCommand.{AdminCommand}
@@ -111,14 +109,7 @@ module _ (rules : FrontRules) (starts : StartsWithAdmin rules) (by_regions : pla
       -- where it is refused for its identifier that is in use, or is none
       in_use : is_success cqe.status ≡ false → is_some (cq_at rules.start then_table q) ≡ true → finds rules log q ≡ true
       in_use fails used =
-          let refused : is_success (status_of rules.start then_table posted.entry) ≡ false = ap is_success (sym status) ∙ fails in
-          facts.idle q (λ k a p ok t.
-          let same : i ≡ k = facts.alone q i k posted.entry a pending p turns t in
-          let entry : posted.entry ≡ a = same_Some posted.entry a (sym pending.0 ∙ ap (entry_at past 0) same ∙ p.0) in
-          let success : is_success (status_of rules.start then_table posted.entry) ≡ true =
-          subst (λ (x : Sqe). is_success (status_of rules.start then_table x) ≡ true) (sym entry) (subst (λ (n : ℕ). is_success (status_of rules.start (table_before rules past n) a) ≡ true) (sym same) ok.1) in
-          cc (success, refused))
-          ∙ sym (refused_at rules starts by_regions notes now unmet q i posted.entry pending picked_here refused turns) ∙ used
+          found_as rules starts by_regions notes now unmet q i posted.entry pending picked_here (ap is_success (sym status) ∙ fails) turns ∙ used
 
       fails_so : is_success cqe.status ≡ false → (is_specific cqe.status 0x01 && is_cq_within (numbers log) q && not (finds rules log q)) ≡ false
       fails_so fails = false_from_ne_true (is_specific cqe.status 0x01 && is_cq_within (numbers log) q && not (finds rules log q)) (λ h.

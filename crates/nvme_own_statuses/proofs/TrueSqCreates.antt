@@ -72,11 +72,11 @@ some_slots : (t : QueueTable) (q qsize prp1 cqid qprio : ℕ) (pc : Bool) → Pa
 some_slots t q qsize prp1 cqid qprio pc h = (or_parts (qsize == 0) _ (none-matches (rows_of t (CreateSq q qsize prp1 cqid qprio pc)) (refl, (refl, (refl, (refl, (refl, (refl, tt)))))) h).1.1.0).0
 
 -- ---- tests of what is there
-some_none : {A : Type 0} (o : Option A) → is_some o ≡ true → is_none o ≡ false
+pub some_none : {A : Type 0} (o : Option A) → is_some o ≡ true → is_none o ≡ false
 some_none None h = cc h
 some_none (Some x) h = refl
 
-none_some_not : {A : Type 0} (o : Option A) → is_none o ≡ true → is_some o ≡ false
+pub none_some_not : {A : Type 0} (o : Option A) → is_none o ≡ true → is_some o ≡ false
 none_some_not None h = refl
 none_some_not (Some x) h = cc h
 

@@ -8,7 +8,7 @@ use Rattle.nvme_ctrl_log.specs.Making.{placing_in}
 use Rattle.nvme_ctrl_log.specs.Account.{IsAccount}
 use Rattle.nvme_own_log.specs.Shown.{start_of, shown}
 use Rattle.nvme_own_log.specs.Duties.{KeepsDuties}
-use Rattle.nvme_own_statuses.specs.Statuses.{IsSqdelAsked, IsAbortAsked, IsAsTold, IsTrueAbort, IsOfCommand, IsTrueOf, is_set_features, is_delete_sq, is_create_sq, is_create_cq, EachPost, DeviceKeeps, DeviceTakesOwn}
+use Rattle.nvme_own_statuses.specs.Statuses.{IsSqdelAsked, IsAbortAsked, IsAsTold, IsTrueAbort, IsOfCommand, IsTrueOf, is_set_features, is_delete_sq, is_create_sq, is_delete_cq, is_create_cq, EachPost, DeviceKeeps, DeviceTakesOwn}
 
 -- ---- statuses, where the device keeps the same
 -- a completion says that its command was aborted with its queue only where a Delete of that was fetched
@@ -58,3 +58,9 @@ CqCreatesAreTrue = (rules : FrontRules) (notes : Notes) → StartsWithAdmin rule
 abbrev pub SqCreatesAreTrue : Type 0
 SqCreatesAreTrue = (rules : FrontRules) (notes : Notes) → StartsWithAdmin rules → placing_in rules ≡ None → IsAccount rules notes → KeepsDuties (start_of rules) (shown rules notes)
     → 0 < rules.start.nsq → rules.start.nsq < MAX_REGIONS → 0 < rules.start.ncq → EachPost (IsTrueOf is_create_sq (start_of rules)) (shown rules notes)
+
+-- a Delete of a completion queue succeeds where that is open and no submission queue is attached to it, is refused as Invalid Queue Identifier where it
+-- isn't open, and as Invalid Queue Deletion where one is attached. The table has room for the submission queues that are allotted
+abbrev pub CqDeletesAreTrue : Type 0
+CqDeletesAreTrue = (rules : FrontRules) (notes : Notes) → StartsWithAdmin rules → placing_in rules ≡ None → IsAccount rules notes → KeepsDuties (start_of rules) (shown rules notes)
+    → rules.start.nsq < MAX_REGIONS → EachPost (IsTrueOf is_delete_cq (start_of rules)) (shown rules notes)

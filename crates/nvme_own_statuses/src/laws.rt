@@ -1,6 +1,6 @@
 //! Laws of the statuses that the notes of a controller show, over the definitions alone. Each function does nothing: its
 //! contract is the law.
-ghost use Rattle.nvme_own_statuses.specs.Laws.{SqdelsAreAsked, AbortsAreAsked, AbortedAreAsTold, AbortsAreTrue, StatusesAreOfCommands, FeaturesAreTrue, DeletesAreTrue, SqCreatesAreTrue, CqCreatesAreTrue};
+ghost use Rattle.nvme_own_statuses.specs.Laws.{SqdelsAreAsked, AbortsAreAsked, AbortedAreAsTold, AbortsAreTrue, StatusesAreOfCommands, FeaturesAreTrue, DeletesAreTrue, SqCreatesAreTrue, CqCreatesAreTrue, CqDeletesAreTrue};
 
 /// A completion says that its command was aborted with its queue only where a Delete of that was fetched. Of the statuses
 /// that the device gave the device keeps that (`DeviceKeeps`); so it is in the laws below.
@@ -56,4 +56,12 @@ pub fn cq_creates_are_true()
 /// queue of each kind is allotted, and at most 64 submission queues.
 pub fn sq_creates_are_true()
     ensures { SqCreatesAreTrue }
+{}
+
+/// A Delete of an I/O completion queue succeeds only where that is open and no submission queue is attached to it. It is
+/// refused with Invalid Queue Identifier only where it isn't open, and with Invalid Queue Deletion only where one is attached.
+/// Whether one is attached is judged where no Create or Delete of a submission queue was outstanding since the fetch. At most
+/// 64 submission queues are allotted. The device answers no such command.
+pub fn cq_deletes_are_true()
+    ensures { CqDeletesAreTrue }
 {}
