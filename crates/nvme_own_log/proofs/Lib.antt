@@ -22,5 +22,5 @@ mod CqTurns
 mod CqPhases
 mod CqSteps
 mod CqQueues
-mod Completions
+pub mod Completions
 mod TurnExamples

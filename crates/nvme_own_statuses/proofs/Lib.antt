@@ -29,3 +29,4 @@ mod TrueSqCreates
 mod Attachments
 mod SettledSqs
 mod TrueCqDeletes
+mod LawfulLogs

@@ -60,11 +60,11 @@ abort_is (GetFeatures fid) h = cc h
 abort_is Other h = cc h
 
 -- something else holds of each note too
-both_each : (A B : Notes → Note → Type 0) (notes : Notes) → EachNote A notes → EachNote B notes → EachNote (λ past note. A past note × B past note) notes
+pub both_each : (A B : Notes → Note → Type 0) (notes : Notes) → EachNote A notes → EachNote B notes → EachNote (λ past note. A past note × B past note) notes
 both_each A B [] a b = tt
 both_each A B (note ∷ notes) a b = ((a.0, b.0), both_each A B notes a.1 b.1)
 
-second_each : (A B : Notes → Note → Type 0) (notes : Notes) → EachNote (λ past note. A past note × B past note) notes → EachNote B notes
+pub second_each : (A B : Notes → Note → Type 0) (notes : Notes) → EachNote (λ past note. A past note × B past note) notes → EachNote B notes
 second_each A B [] h = tt
 second_each A B (note ∷ notes) h = (h.0.1, second_each A B notes h.1)
 

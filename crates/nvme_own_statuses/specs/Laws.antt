@@ -6,9 +6,10 @@ use Rattle.nvme_log.specs.Laws.{StartsWithAdmin}
 use Rattle.nvme_ctrl_log.specs.Notes.{Notes}
 use Rattle.nvme_ctrl_log.specs.Making.{placing_in}
 use Rattle.nvme_ctrl_log.specs.Account.{IsAccount}
+use Rattle.nvme_audit.specs.Lawful.{IsLawfulLog}
 use Rattle.nvme_own_log.specs.Shown.{start_of, shown}
-use Rattle.nvme_own_log.specs.Duties.{KeepsDuties}
-use Rattle.nvme_own_statuses.specs.Statuses.{IsSqdelAsked, IsAbortAsked, IsAsTold, IsTrueAbort, IsOfCommand, IsTrueOf, is_set_features, is_delete_sq, is_create_sq, is_delete_cq, is_create_cq, EachPost, DeviceKeeps, DeviceTakesOwn}
+use Rattle.nvme_own_log.specs.Duties.{KeepsDuties, TurnsCqsAlone}
+use Rattle.nvme_own_statuses.specs.Statuses.{IsSqdelAsked, IsAbortAsked, IsAsTold, IsTrueAbort, IsOfCommand, IsTrueOf, IsAnswerKept, is_set_features, is_delete_sq, is_create_sq, is_delete_cq, is_create_cq, EachPost, DeviceKeeps, DeviceTakesOwn}
 
 -- ---- statuses, where the device keeps the same
 -- a completion says that its command was aborted with its queue only where a Delete of that was fetched
@@ -64,3 +65,10 @@ SqCreatesAreTrue = (rules : FrontRules) (notes : Notes) → StartsWithAdmin rule
 abbrev pub CqDeletesAreTrue : Type 0
 CqDeletesAreTrue = (rules : FrontRules) (notes : Notes) → StartsWithAdmin rules → placing_in rules ≡ None → IsAccount rules notes → KeepsDuties (start_of rules) (shown rules notes)
     → rules.start.nsq < MAX_REGIONS → EachPost (IsTrueOf is_delete_cq (start_of rules)) (shown rules notes)
+
+-- ---- whole logs
+-- the controller breaks no rule at any event of what an account shows, where the device breaks none by the statuses that it gives
+abbrev pub LogsAreLawful : Type 0
+LogsAreLawful = (rules : FrontRules) (notes : Notes) → StartsWithAdmin rules → placing_in rules ≡ None → IsAccount rules notes → KeepsDuties (start_of rules) (shown rules notes)
+    → TurnsCqsAlone (shown rules notes) → 0 < rules.start.nsq → rules.start.nsq < MAX_REGIONS → 0 < rules.start.ncq
+    → DeviceTakesOwn notes → DeviceKeeps rules (IsAnswerKept (start_of rules)) notes → IsLawfulLog (start_of rules) (shown rules notes)

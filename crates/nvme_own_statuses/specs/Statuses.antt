@@ -21,7 +21,7 @@ use Rattle.nvme_audit.specs.Lives.{Past, is_success}
 use Rattle.nvme_audit.specs.Aborts.{says_aborted}
 use Rattle.nvme_audit.specs.Turns.{sq_named, cq_named, cid_named}
 use Rattle.nvme_audit.specs.Facts.{sq_after, cq_after, admin_after, outstanding}
-use Rattle.nvme_audit.specs.Answers.{mark_in, answered_in, is_foreign, is_undoomed, is_unnamed, is_not_as_told, is_untrue_abort, status_rules}
+use Rattle.nvme_audit.specs.Answers.{mark_in, answered_in, is_foreign, is_undoomed, is_unnamed, is_not_as_told, is_untrue_abort, status_rules, answer_verdict}
 use Rattle.nvme_own_log.specs.Shown.{cqid_of_region, completion_of, shown, EachShown}
 
 -- ---- what is asked of a completion into a completion queue, after a log
@@ -64,6 +64,21 @@ IsTrueOf kind start past cq completion =
     (mark_in (outstanding past completion.sq completion.cid))
     completion
     (answered_in (outstanding past completion.sq completion.cid) completion)
+    ≡ Kept
+
+-- all of that: the status breaks no rule
+abbrev pub IsAnswerKept : Start → Past → ℕ → Completion → Type 0
+IsAnswerKept start past cq completion =
+    answer_verdict
+    start.tells
+    (cq_after start past cq)
+    (cq_after start past (cq_named (answered_in (outstanding past completion.sq completion.cid) completion)))
+    (sq_after start past completion.sq)
+    (sq_after start past (sq_named (answered_in (outstanding past completion.sq completion.cid) completion)))
+    (admin_after past)
+    (outstanding past completion.sq completion.cid)
+    (outstanding past (sq_named (answered_in (outstanding past completion.sq completion.cid) completion)) (cid_named (answered_in (outstanding past completion.sq completion.cid) completion)))
+    completion
     ≡ Kept
 
 abbrev pub is_set_features : AdminCommand → Bool

@@ -1,6 +1,6 @@
 //! Laws of the statuses that the notes of a controller show, over the definitions alone. Each function does nothing: its
 //! contract is the law.
-ghost use Rattle.nvme_own_statuses.specs.Laws.{SqdelsAreAsked, AbortsAreAsked, AbortedAreAsTold, AbortsAreTrue, StatusesAreOfCommands, FeaturesAreTrue, DeletesAreTrue, SqCreatesAreTrue, CqCreatesAreTrue, CqDeletesAreTrue};
+ghost use Rattle.nvme_own_statuses.specs.Laws.{SqdelsAreAsked, AbortsAreAsked, AbortedAreAsTold, AbortsAreTrue, StatusesAreOfCommands, FeaturesAreTrue, DeletesAreTrue, SqCreatesAreTrue, CqCreatesAreTrue, CqDeletesAreTrue, LogsAreLawful};
 
 /// A completion says that its command was aborted with its queue only where a Delete of that was fetched. Of the statuses
 /// that the device gave the device keeps that (`DeviceKeeps`); so it is in the laws below.
@@ -64,4 +64,12 @@ pub fn sq_creates_are_true()
 /// 64 submission queues are allotted. The device answers no such command.
 pub fn cq_deletes_are_true()
     ensures { CqDeletesAreTrue }
+{}
+
+/// The controller breaks no rule at any event of the log that an account shows: fetches and completions keep the rules of rings
+/// and of names (`nvme_own_log`), and statuses those of the laws above. The host keeps its duties (`KeepsDuties`) and turns a
+/// completion queue too by one command at a time (`TurnsCqsAlone`). The statuses that the device gives break no rule either
+/// (`DeviceKeeps`), and it says only of commands which it has that it aborted them (`DeviceTakesOwn`).
+pub fn logs_are_lawful()
+    ensures { LogsAreLawful }
 {}
