@@ -30,3 +30,4 @@ mod Attachments
 mod SettledSqs
 mod TrueCqDeletes
 mod LawfulLogs
+mod Examples

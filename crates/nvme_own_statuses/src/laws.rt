@@ -1,5 +1,19 @@
 //! Laws of the statuses that the notes of a controller show, over the definitions alone. Each function does nothing: its
 //! contract is the law.
+ghost use Rattle.std.specs.Prelude.{◌≡◌, Some, None};
+ghost use Rattle.nvme_entry.specs.Status.{success};
+ghost use Rattle.nvme_log.specs.Examples.{one_deletion};
+ghost use Rattle.nvme_log.specs.Laws.{StartsWithAdmin};
+ghost use Rattle.nvme_ctrl_log.specs.Account.{IsAccount};
+ghost use Rattle.nvme_ctrl_log.specs.Making.{placing_in};
+ghost use Rattle.nvme_audit.specs.declared.event.Event.TheVariants.{Post};
+ghost use Rattle.nvme_audit.specs.declared.verdict.Rule.TheVariants.{StatusDelete};
+ghost use Rattle.nvme_audit.specs.declared.verdict.Verdict.TheVariants.{Broken};
+ghost use Rattle.nvme_audit.specs.Lawful.{verdict};
+ghost use Rattle.nvme_own_log.specs.Shown.{completion_of, shown, start_of};
+ghost use Rattle.nvme_own_log.specs.Duties.{KeepsDuties, TurnsCqsAlone};
+ghost use Rattle.nvme_own_statuses.specs.Statuses.{IsAnswerKept, DeviceKeeps, DeviceTakesOwn};
+ghost use Rattle.nvme_own_statuses.specs.Examples.{answer, refused, refused_told};
 ghost use Rattle.nvme_own_statuses.specs.Laws.{SqdelsAreAsked, AbortsAreAsked, AbortedAreAsTold, AbortsAreTrue, StatusesAreOfCommands, FeaturesAreTrue, DeletesAreTrue, SqCreatesAreTrue, CqCreatesAreTrue, CqDeletesAreTrue, LogsAreLawful};
 
 /// A completion says that its command was aborted with its queue only where a Delete of that was fetched. Of the statuses
@@ -72,4 +86,17 @@ pub fn cq_deletes_are_true()
 /// (`DeviceKeeps`), and it says only of commands which it has that it aborted them (`DeviceTakesOwn`).
 pub fn logs_are_lawful()
     ensures { LogsAreLawful }
+{}
+
+/// Worked: a log that meets the premises of `logs_are_lawful`, in which the Delete of a completion queue is refused, since a
+/// submission queue is attached to it. The judge would blame a controller that let it succeed.
+pub fn worked_refusal()
+    ensures starts { StartsWithAdmin one_deletion }
+    ensures by_regions { placing_in one_deletion ≡ None }
+    ensures account { IsAccount one_deletion refused_told }
+    ensures duties { KeepsDuties (start_of one_deletion) (shown one_deletion refused_told) }
+    ensures turns { TurnsCqsAlone (shown one_deletion refused_told) }
+    ensures own { DeviceTakesOwn refused_told }
+    ensures device { DeviceKeeps one_deletion (IsAnswerKept (start_of one_deletion)) refused_told }
+    ensures judged { verdict (start_of one_deletion) (shown one_deletion refused) (Post 0 (Some 2) (completion_of (answer 0 2 3 success))) ≡ Broken StatusDelete }
 {}
