@@ -194,8 +194,8 @@ fn put_settings<W: fmt::Write>(
     write!(f, "\nsettings: {words}")
 }
 
-// The sentence of a rule.
-fn sentence_of(rule: Rule) -> &'static str {
+/// The sentence of a rule.
+pub fn sentence_of(rule: Rule) -> &'static str {
     match rule {
         Rule::Candidates => "a pick takes at least one command, and only such as wait in its queue",
         Rule::Burst => "a pick takes no more commands than the Arbitration Burst",
@@ -224,8 +224,8 @@ fn put_range<W: fmt::Write>(
     }
 }
 
-// Writes how many commands a pick of a queue may take. Where the queue itself is the wrong one, no number helps.
-fn put_limits<W: fmt::Write>(breach: &Breach, f: &mut fmt::Formatter<W>) -> fmt::Result {
+/// Writes a line on how many commands a pick of a queue may take. Where the queue itself is the wrong one, no number helps.
+pub fn put_limits<W: fmt::Write>(breach: &Breach, f: &mut fmt::Formatter<W>) -> fmt::Result {
     let qid = breach.picked.qid;
     match (breach.rule, breach.waiting, breach.left) {
         (Rule::Priority | Rule::Turn, _, _) => Ok(()),

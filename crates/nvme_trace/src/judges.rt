@@ -50,8 +50,8 @@ pub enum BasisJudge {
     Specification(RuleJudge),
 }
 
-// Judges the next event by the rules.
-fn judge_by_rules(judge: &mut RuleJudge, event: &TraceEvent) -> Option<Breach>
+/// Judges the next event by the rules. `None` where it is allowed after the events so far; it then counts among them.
+pub fn judge_by_rules(judge: &mut RuleJudge, event: &TraceEvent) -> Option<Breach>
     requires observed { IsObserved (event_view event.now) }
     requires few { judge.old.picks < 2 ^ 64 - 1 }
     ensures allowed { (head : Head) (prior past : History) → JudgeStandsAt head.mechanism head.settings prior past judge.old → MatchOption result (IsAllowedBy basis.Specification head (past ++ prior) (room_view event.now) (event_view event.now)) (IsBreach head (past ++ prior) (event_view event.now)) }

@@ -357,11 +357,7 @@ fn event_value_note(
 }
 
 /// What is said of the fault of a later line.
-pub(crate) fn event_note(
-    alloc: Global,
-    line: &[u8],
-    fault: LineFault,
-) -> Result<String, AllocError> {
+pub fn event_note(alloc: Global, line: &[u8], fault: LineFault) -> Result<String, AllocError> {
     let Ok(text) = std::str::from_utf8(line) else {
         return Ok(String::new(alloc));
     };

@@ -140,8 +140,8 @@ fn flag_at(line: &Value, field: Field) -> Result<bool, LineFault>
     }
 }
 
-// The mechanism.
-fn mechanism_of(value: &Value) -> Result<Mechanism, LineFault>
+/// The mechanism that a value names.
+pub fn mechanism_of(value: &Value) -> Result<Mechanism, LineFault>
     ensures { result ≡ mechanism_of (view value.now) }
 {
     match value.as_str() {
@@ -346,9 +346,9 @@ fn pick_in(basis: Basis, line: &Value) -> Result<TraceEvent, LineFault>
     })
 }
 
-// What a line after the head says.
+/// What the value of a line after the head says.
 #[tactic(auto, unfolding(crate::specs::Format::event_in))]
-fn event_in(basis: Basis, line: &Value) -> Result<TraceEvent, LineFault>
+pub fn event_in(basis: Basis, line: &Value) -> Result<TraceEvent, LineFault>
     ensures value { seen_by event_view result ≡ event_in basis (view line.now) }
     ensures room { IfOk result (λ e. Ok (room_view e) ≡ room_told (view line.now)) }
     ensures observed { IfOk result (λ e. IsObserved (event_view e)) }
