@@ -20,7 +20,7 @@ _nvmearb() {
             --class) words="urgent high medium low" ;;
             --observer) words="bus host" ;;
             --without) words="fetch-beyond-tail fetch-slot slot phase cq-full sqhd" ;;
-            --only) words="fetch-closed fetch-beyond-tail fetch-slot post-closed slot phase cq-full cq-wrong life sqhd sqdel-unasked abort-unasked abort-untrue status-foreign status-create status-delete features" ;;
+            --only) words="fetch-closed fetch-beyond-tail fetch-slot post-closed slot phase cq-full cq-wrong life sqhd sqdel-unasked abort-unasked abort-untrue status-foreign status-create status-delete features pick-candidates pick-burst pick-priority pick-credit pick-turn" ;;
             --burst) words="1 2 4 8 16 32 64 none" ;;
             --blocks | --from | --to | --weights | --window | --seed | --commands | --time | --warm-up | --load | --sweep | --seeds | --jobs) return ;;
             *)

@@ -30,7 +30,7 @@ complete -c nvmearb -n '__fish_seen_subcommand_from run' -l format -x -a 'text j
 complete -c nvmearb -n '__fish_seen_subcommand_from check' -l spec -d 'Judge by what the specification alone asks'
 complete -c nvmearb -n '__fish_seen_subcommand_from check' -l all -d 'Tell all picks that differ'
 complete -c nvmearb -n '__fish_seen_subcommand_from audit' -l observer -x -a 'bus host' -d 'Judge as if only that were told'
-complete -c nvmearb -n '__fish_seen_subcommand_from audit' -l only -x -a 'fetch-closed fetch-beyond-tail fetch-slot post-closed slot phase cq-full cq-wrong life sqhd sqdel-unasked abort-unasked abort-untrue status-foreign status-create status-delete features' -d 'Rules to judge by'
+complete -c nvmearb -n '__fish_seen_subcommand_from audit' -l only -x -a 'fetch-closed fetch-beyond-tail fetch-slot post-closed slot phase cq-full cq-wrong life sqhd sqdel-unasked abort-unasked abort-untrue status-foreign status-create status-delete features pick-candidates pick-burst pick-priority pick-credit pick-turn' -d 'Rules to judge by'
 complete -c nvmearb -n '__fish_seen_subcommand_from audit' -l without -x -a 'fetch-beyond-tail fetch-slot slot phase cq-full sqhd' -d 'Rules to leave out'
 complete -c nvmearb -n '__fish_seen_subcommand_from audit' -l all -d 'Tell all breaches of the controller'
 complete -c nvmearb -n '__fish_seen_subcommand_from audit' -l coverage -d 'Tell of each rule of how many events it asked something'

@@ -1,8 +1,10 @@
 # SPDX-License-Identifier: MIT
-"""A second reading of the definitions of `nvme_audit`, which looks back over the whole log at each event."""
+"""A second reading of the definitions of `nvme_audit`, and of the picks of a log, which looks back over the whole log at each event."""
 import collections
 import functools
 import struct
+
+from specified import broken
 
 CREATES, DELETES = {1: "sq", 5: "cq"}, {0: "sq", 4: "cq"}
 TURNS, SET_FEATURES, NUMBER_OF_QUEUES = CREATES | DELETES, 9, 7
@@ -11,6 +13,8 @@ SPECIFIC, VENDOR = {0: {1}, 1: {0, 1, 2}, 4: {1, 0x0C}, 5: {1, 2, 8}, 8: {3}}, 0
 ABORT = 8
 # The rules of rings and of the order of events. The others are of a status alone.
 ORDER = set("fetch-closed fetch-beyond-tail fetch-slot post-closed slot phase cq-full cq-wrong life sqhd".split())
+# Those of arbitration, each of which asks something of each pick that is judged.
+PICK_RULES = [f"pick-{rule}" for rule in ("candidates", "burst", "priority", "credit", "turn")]
 SUCCESS, ABORTED, ABORTED_BY_DELETION, BAD_CQ, BAD_IDENTIFIER, BAD_DELETION = 0, 0x07, 0x08, 0x100, 0x101, 0x10C
 
 
@@ -39,7 +43,8 @@ class Log:
     """A log, and what its first n events say. An event is its kind, its queue, its slot and the rest."""
 
     def __init__(self, lines):
-        head, self.events, self.lines = lines[0], [], []
+        head, self.events, self.lines, self.picks = lines[0], [], [], []
+        self.mechanism, self.cdw11 = head.get("mechanism"), head.get("cdw11")
         self.tells, self.sizes = set(head["tells"]), {"sq": head["asq"], "cq": head["acq"]}
         told = "post" if "post" in self.tells else "complete"
         for number, line in enumerate(lines[1:], 2):
@@ -50,6 +55,10 @@ class Log:
                 self.add(number, kind, line[kind], line.get("slot"), command_of(line))
             elif kind == told:
                 self.add(number, "post", line[kind], line.get("slot"), completion_of(line))
+            elif kind == "set":
+                self.picks.append((number, ("set", line["set"])))
+            elif kind == "pick":
+                self.picks.append((number, ("pick", line["pick"], line["n"], line["seen"])))
 
     def add(self, number, *event):
         self.lines.append(number)
@@ -436,22 +445,44 @@ class Log:
         """Who breaks which rule at event n, where it isn't passed over."""
         return None if self.is_passed_over(n) else self.verdict(n)
 
+    def judged_picks(self):
+        """The picks that are judged: the number of the line of each, and the rule that it breaks, or None. After a breach
+        none is until the settings change."""
+        found, first, past, is_let_go = [], self.cdw11, [], False
+        for number, event in self.picks:
+            if event[0] == "set" and is_let_go:
+                first, past, is_let_go = event[1], [], False
+            elif event[0] == "set":
+                past.append(event)
+            elif not is_let_go:
+                rule = broken(self.mechanism, first, past, event)
+                found.append((number, rule and f"pick-{rule}"))
+                past.append(event)
+                is_let_go = rule is not None
+        return found
+
+    def end(self):
+        """The line at which the controller breaks a rule first, if any."""
+        return next((line for line, who, _ in self.breaches() if who == "controller"), float("inf"))
+
     def coverage(self, whole=False):
         """Of each rule, how many events it asks something of, up to the one at which the controller breaks a rule first."""
-        counts = collections.Counter()
-        for n in range(len(self.events)):
-            counts.update(self.asks(n) if not whole or not self.is_passed_over(n) else ())
-            if not whole and (self.verdict(n) or ("host",))[0] == "controller":
-                break
-        return dict(counts)
+        counts, end = collections.Counter(), self.end()
+        for n, line in enumerate(self.lines):
+            if (not self.is_passed_over(n)) if whole else line <= end:
+                counts.update(self.asks(n))
+        times = sum(whole or line <= end for line, _ in self.judged_picks())
+        return dict(counts) | (dict.fromkeys(PICK_RULES, times) if times else {})
 
     def breaches(self, whole=False):
         """The lines of what is broken, up to the controller's first, or in the whole log."""
-        found = []
-        for n in range(len(self.events)):
-            broken = self.said(n) if whole else self.verdict(n)
-            if broken:
-                found.append((self.lines[n], *broken))
-            if not whole and broken and broken[0] == "controller":
+        found = [(line, "controller", rule) for line, rule in self.judged_picks() if rule]
+        for n, line in enumerate(self.lines):
+            broken_here = self.said(n) if whole else self.verdict(n)
+            if broken_here:
+                found.append((line, *broken_here))
+            if not whole and broken_here and broken_here[0] == "controller":
                 break
-        return found
+        found.sort()
+        first = next((at for at, (_, who, _) in enumerate(found) if who == "controller"), len(found))
+        return found if whole else found[: first + 1]

@@ -95,6 +95,7 @@ CODES = ("crates/nvme_entry/specs/Status.antt", "crates/nvme_admin/specs/Placing
 WHERE = {"status_over t": "", "placing_rows_of p": ", where queues may lie anywhere", "rows_of t": ""}
 # Who has to keep rules, the enumeration of these, and the functions that tell their names and sections.
 SIDES = (("controller", "Rule", "rule_name", "section_of"), ("host", "Breach", "breach_name", "section_of_breach"))
+PICK_RULES = "crates/nvme_arbiter/src/specified.rt"
 # Faults that only a list of requests of one's own has: those of a file are sorted.
 NEVER_OF_A_FILE = ("TooEarly",)
 # Files whose lines may be at fault.
@@ -271,7 +272,10 @@ def rules(sources):
         told = variants(sources, "crates/nvme_audit/src/verdict.rt", enumeration)
         rows = [[code(name_of[it]), comment, sections[it]] for it, (comment, _) in told.items()]
         made.append(f"### Rules for the {side}\n\n{table(['Rule', 'It says', 'Section'], rows)}")
-    return "".join(made)
+    name_of, sections = (texts(sources, f"{AUDIT}/names.rt", f"fn {it}(") for it in ("pick_rule_name", "section_of_pick"))
+    told = variants(sources, PICK_RULES, "Rule")
+    rows = [[code(name_of[it]), comment, sections[it]] for it, (comment, _) in told.items()]
+    return "".join([*made, f"### Rules of arbitration\n\n{table(['Rule', 'It says', 'Section'], rows)}"])
 
 
 def members(sources, path, name):
@@ -357,7 +361,7 @@ def numbers(sources):
 
 def picks(sources):
     """The rules of a trace, in their order."""
-    told = variants(sources, "crates/nvme_arbiter/src/specified.rt", "Rule").values()
+    told = variants(sources, PICK_RULES, "Rule").values()
     return "".join(f"{n}. {says}\n" for n, (says, _) in enumerate(told, 1))
 
 
@@ -371,12 +375,12 @@ def statuses(sources):
 
 
 def faults(sources):
-    """The faults of lines but refused memory."""
+    """The faults of lines but refused memory, and those of another kind of line."""
     made = []
     for kind, path in LINES.items():
         found = variants(sources, path, "LineFault").items()
         told = [(re.sub(r"\{\w+\}", "..", fault), says) for name, (says, fault) in found if name not in NEVER_OF_A_FILE]
-        rows = [[code(fault), says] for fault, says in told if fault != "out of memory"]
+        rows = [[code(fault), says] for fault, says in told if fault not in ("out of memory", "..")]
         made.append(f"### Of a line of a {kind}\n\n{table(['Fault', 'Cause'], rows)}")
     return "".join(made)
 

@@ -1,8 +1,10 @@
 -- An auditor goes through the lines of a text.
-use Rattle.std.proofs.Common.{◌≡◌, ℕ, Bool, true, false, List, [], ◌∷◌, ◌++◌, reverse, Option, Some, None, Ok, inl, inr, refl, sym, ap, subst, ◌∙◌, append_assoc, arith}
-use Rattle.std.specs.Prelude.{IfSome, IfOk, IfErr, MatchBool, MatchOption, Result, Err}
-use mathlib.Core.List.{reverse-cons}
+use Rattle.std.proofs.Common.{◌≡◌, ℕ, ◌+◌, Bool, true, false, List, [], ◌∷◌, ◌++◌, reverse, Option, Some, None, Ok, inl, inr, refl, sym, ap, subst, ◌∙◌, arith}
+use Rattle.std.specs.Prelude.{IfSome, IfOk, IfErr, MatchBool, Result, Err}
 use Rattle.nvme_lines.specs.Lines.{lines_of, numbered, told_lines, TakesTold, HasNoTold, AreInAll}
+use Rattle.nvme_arbiter.specs.History.{History}
+use Rattle.nvme_judge.specs.Turns.{picks_in}
+use Rattle.nvme_trace.specs.declared.records.Head.{Head as Arbitration}
 use Rattle.nvme_audit.specs.declared.event.Event.{Event}
 use Rattle.nvme_audit.specs.declared.facts.Start.{Start}
 use Rattle.nvme_audit.specs.declared.judge.Judge.{Judge}
@@ -12,7 +14,7 @@ use Rattle.nvme_audit.specs.declared.verdict.Verdict.TheVariants.{Broken}
 use Rattle.nvme_audit.specs.Lives.{Past}
 use Rattle.nvme_audit.specs.Lawful.{is_broken}
 use Rattle.nvme_audit.specs.Standing.{StandsAt}
-use Rattle.nvme_audit_text.specs.Format.{head_of_line, event_of_line}
+use Rattle.nvme_audit_text.specs.Format.{Heard, head_of_line, said_of_line, event_of_line}
 use Rattle.nvme_audit_text.specs.declared.fault.LogError.{LogError}
 use Rattle.nvme_audit_text.specs.declared.fault.LogError.TheVariants as error
 use Rattle.nvme_audit_text.specs.declared.views.View.{View}
@@ -20,8 +22,13 @@ use Rattle.nvme_audit_text.specs.declared.head.Head.{Head}
 use Rattle.nvme_audit_text.specs.declared.audit.Finding.{Finding}
 use Rattle.nvme_audit_text.specs.declared.audit.Audit.{Audit}
 use Rattle.nvme_audit_text.specs.declared.audit.Auditor.{Auditor}
-use Rattle.nvme_audit_text.specs.Audits.{added, host_at, asked_in, IsLawfulText, IsBrokenText, IsAudit, IsFault, IsFound}
-use Rattle.nvme_audit_text.specs.inside.Steps.{IsTaken, IsOther, AuditsAt, IsFinding, IsHeadFault, IsEventFault, AuditedUpTo}
+use Rattle.nvme_audit_text.specs.declared.audit.Broken.TheVariants as broken
+use Rattle.nvme_audit_text.specs.declared.picks.PickAuditor.{PickAuditor}
+use Rattle.nvme_audit_text.specs.declared.picks.PickFinding.{PickFinding}
+use Rattle.nvme_audit_text.specs.Picks.{arbitration_of, IsAllowedBefore}
+use Rattle.nvme_audit_text.specs.Audits.{added, host_at, asked_in, IsLawfulText, IsBrokenText, IsUnlawfulText, IsAudit, IsFault, IsFound}
+use Rattle.nvme_audit_text.specs.inside.Steps.{IsTaken, IsOther, AuditsAt, IsFinding, IsHeadFault, IsEventFault, AuditedUpTo, PicksAt, IsUnlawful, AllowedUpTo}
+use Rattle.nvme_audit_text.proofs.PickLemmas.{reverse_more, allowed_same}
 
 -- ---- one event
 match_true : (P Q : Type 0) (b : Bool) → b ≡ true → MatchBool b P Q → P
@@ -31,12 +38,6 @@ match_true P Q false h m = cc
 match_false : (P Q : Type 0) (b : Bool) → b ≡ false → MatchBool b P Q → Q
 match_false P Q true h m = cc
 match_false P Q false h m = m
-
-pub at_some : {A : Type 0} (P : Type 0) (Q : A → Type 0) (o : Option A) (x : A) → MatchOption o P Q → o ≡ Some x → Q x
-at_some P Q o x m e = subst (λ r. MatchOption r P Q) e m
-
-pub at_none : {A : Type 0} (P : Type 0) (Q : A → Type 0) (o : Option A) → MatchOption o P Q → o ≡ None → P
-at_none P Q o m e = subst (λ r. MatchOption r P Q) e m
 
 -- the controller breaks one
 pub audits_broken : (start : Start) (past : Past) (found : List Finding) (event : Event) (said : Verdict) (rule : Rule) (old new : Auditor) (judge : Judge) → IsTaken start past event said old.judge judge → said ≡ Broken rule
@@ -49,10 +50,6 @@ audits_broken start past found event said rule old new judge taken broken there 
 }
 
 -- ---- one line
--- one line more, of those before the others
-pub reverse_more : (line : ℕ × List ℕ) (lines rest : List (ℕ × List ℕ)) → reverse lines ++ line ∷ rest ≡ reverse (line ∷ lines) ++ rest
-reverse_more line lines rest = sym (append_assoc (reverse lines) (line ∷ []) rest) ∙ ap (λ (ls : List (ℕ × List ℕ)). ls ++ rest) (sym (reverse-cons line lines))
-
 -- after the head
 pub audited_head : (view : View) (text : List ℕ) (n : ℕ) (new : Option (List ℕ)) (head : Head) (auditor : Auditor) → TakesTold (λ line. head_of_line view line ≡ Ok head) 0 (Some text) n new
     → AuditsAt head.start [] [] auditor → auditor.asked ≡ asked_in head.start [] → AuditedUpTo view text new n head auditor
@@ -91,10 +88,10 @@ audited_more view text m (Some xs) n (Some ys) head auditor next said j (line, s
     }
 
 -- after the last line
-pub audited_all : (view : View) (text : List ℕ) (old : Option (List ℕ)) (number : ℕ) (head : Head) (auditor : Auditor) (audit : Audit) → AuditedUpTo view text old number head auditor → HasNoTold number old → AreInAll number old audit.lines
-    → audit.broken ≡ None → audit.host_breaches ≡ auditor.host_breaches → audit.host.items ≡ auditor.host.items → audit.asked ≡ auditor.asked → IsAudit view text audit
-audited_all view text None number head auditor audit j n all none host told asked = absurd j
-audited_all view text (Some xs) number head auditor audit j n all none host told asked =
+pub audited_all : (view : View) (text : List ℕ) (old : Option (List ℕ)) (number : ℕ) (head : Head) (auditor : Auditor) (picks : PickAuditor) (audit : Audit) → AuditedUpTo view text old number head auditor → AllowedUpTo view text old number head picks
+    → HasNoTold number old → AreInAll number old audit.lines → audit.picks ≡ picks.judged → audit.broken ≡ None → audit.host_breaches ≡ auditor.host_breaches → audit.host.items ≡ auditor.host.items → audit.asked ≡ auditor.asked → IsAudit view text audit
+audited_all view text None number head auditor picks audit j p n all count none host told asked = absurd j
+audited_all view text (Some xs) number head auditor picks audit j p n all count none host told asked =
     let whole : IsLawfulText view text audit = record {
       head = head;
       past = j.past;
@@ -111,17 +108,20 @@ audited_all view text (Some xs) number head auditor audit j n all none host told
       host_is = host ∙ j.audits.host;
       told_are = told ∙ j.audits.told;
       asked_are = asked ∙ j.counted;
+      history = p.past;
+      allowed = allowed_same view text (numbered number (lines_of xs)) [] head p.past n p.before;
+      picks_are = count ∙ p.at.judged;
     } in subst (IsFound view text audit) (sym none) whole
 
 -- at a line at which the controller breaks a rule
-pub audited_finding : (view : View) (text : List ℕ) (m : ℕ) (old : Option (List ℕ)) (n : ℕ) (new : Option (List ℕ)) (head : Head) (auditor next : Auditor) (said : Option Event) (finding : Finding) (audit : Audit)
-    → AuditedUpTo view text old m head auditor → TakesTold (λ line. event_of_line view head line ≡ Ok said) m old n new
+pub audited_finding : (view : View) (text : List ℕ) (m : ℕ) (old : Option (List ℕ)) (n : ℕ) (new : Option (List ℕ)) (head : Head) (auditor next : Auditor) (picks : PickAuditor) (said : Option Event) (finding : Finding) (audit : Audit)
+    → AuditedUpTo view text old m head auditor → AllowedUpTo view text old m head picks → TakesTold (λ line. event_of_line view head line ≡ Ok said) m old n new
     → ((past : Past) (found : List Finding) → AuditsAt head.start past found auditor → IsFinding head.start past n said finding × AuditsAt head.start past found next)
     → ((past : Past) → StandsAt head.start past auditor.judge → auditor.asked ≡ asked_in head.start past → next.asked ≡ asked_in head.start (added said past))
-    → audit.lines ≡ n → audit.broken ≡ Some finding → audit.host_breaches ≡ next.host_breaches → audit.host.items ≡ next.host.items → audit.asked ≡ next.asked → IsAudit view text audit
-audited_finding view text m None n new head auditor next said finding audit j t f g lines broken host told asked = absurd j
-audited_finding view text m (Some xs) n None head auditor next said finding audit j t f g lines broken host told asked = absurd t
-audited_finding view text m (Some xs) n (Some ys) head auditor next said finding audit j (line, split, is, count) f g lines broken host told asked =
+    → audit.lines ≡ n → audit.picks ≡ picks.judged → audit.broken ≡ Some (broken.OfQueues finding) → audit.host_breaches ≡ next.host_breaches → audit.host.items ≡ next.host.items → audit.asked ≡ next.asked → IsAudit view text audit
+audited_finding view text m None n new head auditor next picks said finding audit j p t f g lines judged broken host told asked = absurd j
+audited_finding view text m (Some xs) n None head auditor next picks said finding audit j p t f g lines judged broken host told asked = absurd t
+audited_finding view text m (Some xs) n (Some ys) head auditor next picks said finding audit j p (line, split, is, count) f g lines judged broken host told asked =
     let (of, at) = f j.past j.found j.audits in
     let first : IsBrokenText view text audit finding = record {
       head = head;
@@ -146,12 +146,43 @@ audited_finding view text m (Some xs) n (Some ys) head auditor next said finding
       said_is = of.said_is;
       facts_are = of.facts_are;
       broken = of.broken;
+      history = p.past;
+      allowed = subst (λ (k : ℕ). IsAllowedBefore view text ((k, line) ∷ numbered n (lines_of ys)) head p.past) (sym of.line_is) (allowed_same view text (numbered m (lines_of xs)) ((n, line) ∷ numbered n (lines_of ys)) head p.past split p.before);
+      picks_are = judged ∙ p.at.judged;
+    } in subst (IsFound view text audit) (sym broken) first
+
+-- at a line whose pick breaks a rule
+pub audited_unlawful : (view : View) (text : List ℕ) (m : ℕ) (old : Option (List ℕ)) (n : ℕ) (new : Option (List ℕ)) (head : Head) (auditor : Auditor) (picks next : PickAuditor) (said : Heard) (finding : PickFinding) (audit : Audit)
+    → AuditedUpTo view text new n head auditor → AllowedUpTo view text old m head picks → TakesTold (λ line. said_of_line view head line ≡ Ok said) m old n new
+    → ((arbitration : Arbitration) (past : History) → PicksAt arbitration past picks → IsUnlawful arbitration past n said finding × (next.judged ≡ picks_in past + 1))
+    → audit.lines ≡ n → audit.picks ≡ next.judged → audit.broken ≡ Some (broken.OfArbitration finding) → audit.host_breaches ≡ auditor.host_breaches → audit.host.items ≡ auditor.host.items → audit.asked ≡ auditor.asked → IsAudit view text audit
+audited_unlawful view text m None n new head auditor picks next said finding audit j p t f lines judged broken host told asked = absurd p
+audited_unlawful view text m (Some xs) n None head auditor picks next said finding audit j p t f lines judged broken host told asked = absurd t
+audited_unlawful view text m (Some xs) n (Some ys) head auditor picks next said finding audit j p (line, split, is, count) f lines judged broken host told asked =
+    let ((event, said_is, of), one) = f (arbitration_of head) p.past p.at in
+    let first : IsUnlawfulText view text audit finding = record {
+      head = head;
+      past = j.past;
+      found = j.found;
+      history = p.past;
+      event = event;
+      line = line;
+      later = numbered n (lines_of ys);
+      allowed = subst (λ (k : ℕ). IsAllowedBefore view text ((k, line) ∷ numbered n (lines_of ys)) head p.past) (sym of.line_is) (allowed_same view text (numbered m (lines_of xs)) ((n, line) ∷ numbered n (lines_of ys)) head p.past split p.before);
+      lawful = j.before;
+      lines_are = lines ∙ sym of.line_is;
+      host_is = host ∙ j.audits.host;
+      told_are = told ∙ j.audits.told;
+      asked_are = asked ∙ j.counted;
+      picks_are = judged ∙ one;
+      says = is ∙ ap (λ (s : Heard). Ok s) said_is;
+      breach_is = of.breach_is;
     } in subst (IsFound view text audit) (sym broken) first
 
 -- at a line that is faulty
-pub audited_fault : (view : View) (text : List ℕ) (old : Option (List ℕ)) (number : ℕ) (head : Head) (auditor : Auditor) (e : LogError) → AuditedUpTo view text old number head auditor → IsEventFault view head e number old → IsFault view text e
-audited_fault view text None number head auditor e j f = absurd j
-audited_fault view text (Some xs) number head auditor (error.Line line fault note) j (quoted, rest, split, is) =
+pub audited_fault : (view : View) (text : List ℕ) (old : Option (List ℕ)) (number : ℕ) (head : Head) (auditor : Auditor) (picks : PickAuditor) (e : LogError) → AuditedUpTo view text old number head auditor → AllowedUpTo view text old number head picks → IsEventFault view head e number old → IsFault view text e
+audited_fault view text None number head auditor picks e j p f = absurd j
+audited_fault view text (Some xs) number head auditor picks (error.Line line fault note) j p (quoted, rest, split, is) =
     inr (inr (record {
       head = head;
       past = j.past;
@@ -166,11 +197,13 @@ audited_fault view text (Some xs) number head auditor (error.Line line fault not
         tells = j.before.tells;
         lawful = j.before.lawful;
       };
+      history = p.past;
+      allowed = allowed_same view text (numbered number (lines_of xs)) ((line, quoted) ∷ rest) head p.past split p.before;
       is = is;
     }))
-audited_fault view text (Some xs) number head auditor error.Read j f = tt
-audited_fault view text (Some xs) number head auditor error.TooLong j f = tt
-audited_fault view text (Some xs) number head auditor error.NoMemory j f = tt
+audited_fault view text (Some xs) number head auditor picks error.Read j p f = tt
+audited_fault view text (Some xs) number head auditor picks error.TooLong j p f = tt
+audited_fault view text (Some xs) number head auditor picks error.NoMemory j p f = tt
 
 -- an error that tells no fault of a line
 pub other_fault : (view : View) (text : List ℕ) (e : LogError) → IsOther e → IsFault view text e

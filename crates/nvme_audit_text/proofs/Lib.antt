@@ -4,6 +4,8 @@ pub mod EntryLemmas
 pub mod LineLemmas
 pub mod ToldLemmas
 pub mod CountLemmas
+pub mod PickLemmas
+pub mod HeardLemmas
 pub mod AuditLemmas
 pub mod FirstLemmas
 pub mod WholeLemmas

@@ -1,11 +1,12 @@
 -- The line that comes next, and its fault.
-use Rattle.std.proofs.Common.{◌≡◌, ◌≢◌, ℕ, ◌<◌, ltb, true, List, length, Option, Some, None, Result, Err, inl, inr, refl, sym, subst}
+use Rattle.std.proofs.Common.{◌≡◌, ◌≢◌, ℕ, ◌<◌, ltb, true, List, length, Option, Some, None, Result, Ok, Err, inl, inr, refl, sym, ap, subst}
 use Rattle.std.proofs.lemmas.Bool.{lt-ltb}
 use Rattle.nvme_lines.specs.Lines.{longest_line, lines_of, numbered, TakesTold, StartsTold, HasNoTold, MeetsTold}
 use Rattle.nvme_lines.specs.declared.lines.NextError.{NextError}
 use Rattle.nvme_lines.specs.declared.lines.NextError.TheVariants as next
-use Rattle.nvme_audit_text.specs.Readings.{Fails}
-use Rattle.nvme_audit_text.specs.Format.{data_of, head_of_line, event_of_line}
+use Rattle.nvme_audit.specs.declared.event.Event.{Event}
+use Rattle.nvme_audit_text.specs.Readings.{◌>>=◌, Fails}
+use Rattle.nvme_audit_text.specs.Format.{Heard, event_heard, data_of, head_of_line, said_of_line, event_of_line}
 use Rattle.nvme_audit_text.specs.declared.fault.LineFault.{LineFault}
 use Rattle.nvme_audit_text.specs.declared.fault.LineFault.TheVariants as faults
 use Rattle.nvme_audit_text.specs.declared.fault.LogError.{LogError}
@@ -13,6 +14,18 @@ use Rattle.nvme_audit_text.specs.declared.fault.LogError.TheVariants as error
 use Rattle.nvme_audit_text.specs.declared.views.View.{View}
 use Rattle.nvme_audit_text.specs.declared.head.Head.{Head}
 use Rattle.nvme_audit_text.specs.inside.Steps.{IsOther, IsLineFault, IsStopped, HasHeadFault, IsHeadFault, IsEventFault}
+
+-- the event of queues in what a line tells
+abbrev event_said : Result Heard LineFault → Result (Option Event) LineFault
+event_said r = r >>= (λ said. Ok (event_heard said))
+
+takes_so : (P Q : List ℕ → Type 0) (m n : ℕ) (a b : Option (List ℕ)) → ((l : List ℕ) → P l → Q l) → TakesTold P m a n b → TakesTold Q m a n b
+takes_so P Q m n None b f t = tt
+takes_so P Q m n (Some xs) None f t = t
+takes_so P Q m n (Some xs) (Some ys) f (line, split, is, count) = (line, split, f line is, count)
+
+pub takes_event : (view : View) (head : Head) (said : Heard) (m n : ℕ) (a b : Option (List ℕ)) → TakesTold (λ line. said_of_line view head line ≡ Ok said) m a n b → TakesTold (λ line. event_of_line view head line ≡ Ok (event_heard said)) m a n b
+takes_event view head said m n a b t = takes_so (λ line. said_of_line view head line ≡ Ok said) (λ line. event_of_line view head line ≡ Ok (event_heard said)) m n a b (λ l is. ap event_said is) t
 
 starts_as : (P : List ℕ → Type 0) (line : List ℕ) (m n : ℕ) (a b : Option (List ℕ)) → TakesTold (λ l. l ≡ line) m a n b → P line → StartsTold P m a n
 starts_as P line m n None b t p = tt
@@ -37,6 +50,8 @@ failed faults.Unknown reading f n = f
 failed faults.NoKind reading f n = f
 failed (faults.Untold kind) reading f n = f
 failed (faults.NotTold kind) reading f n = f
+failed (faults.NoMechanism kind) reading f n = f
+failed (faults.Arbitration fault) reading f n = f
 
 head_starts : (view : View) (fault : LineFault) (m n : ℕ) (a : Option (List ℕ)) → StartsTold (λ line. head_of_line view line ≡ Err fault) m a n → HasHeadFault view fault m a n
 head_starts view fault m n None s = tt
@@ -61,9 +76,9 @@ pub head_fails : (view : View) (e : LogError) (m number : ℕ) (fault : LineFaul
 head_fails view e m number fault line a b told t f =
     told_head view e m number fault a told (λ n. head_starts view fault m number a (starts_as (λ l. head_of_line view l ≡ Err fault) line m number a b t (failed fault (head_of_line view line) f n)))
 
-pub event_fails : (view : View) (head : Head) (e : LogError) (m number : ℕ) (fault : LineFault) (line : List ℕ) (a b : Option (List ℕ)) → IsLineFault e number fault → TakesTold (λ l. l ≡ line) m a number b → Fails fault (event_of_line view head line) → IsEventFault view head e m a
-event_fails view head e m number fault line a b told t f =
-    told_event view head e m number fault a told (λ n. starts_as (λ l. event_of_line view head l ≡ Err fault) line m number a b t (failed fault (event_of_line view head line) f n))
+pub said_fails : (view : View) (head : Head) (e : LogError) (m number : ℕ) (fault : LineFault) (line : List ℕ) (a b : Option (List ℕ)) → IsLineFault e number fault → TakesTold (λ l. l ≡ line) m a number b → Fails fault (said_of_line view head line) → IsEventFault view head e m a
+said_fails view head e m number fault line a b told t f =
+    told_event view head e m number fault a told (λ n. starts_as (λ l. event_of_line view head l ≡ Err fault) line m number a b t (ap event_said (failed fault (said_of_line view head line) f n)))
 
 -- a line that is too long
 long_head : (view : View) (line : List ℕ) → longest_line < length line → head_of_line view line ≡ Err faults.TooLong
@@ -71,7 +86,7 @@ unfolding head_of_line data_of
 long_head view line h = let e : ltb longest_line (length line) ≡ true = lt-ltb _ _ h in rw e
 
 long_event : (view : View) (head : Head) (line : List ℕ) → longest_line < length line → event_of_line view head line ≡ Err faults.TooLong
-unfolding event_of_line data_of
+unfolding said_of_line data_of
 long_event view head line h = let e : ltb longest_line (length line) ≡ true = lt-ltb _ _ h in rw e
 
 other_head : (view : View) (e : LogError) (m : ℕ) (a : Option (List ℕ)) → IsOther e → IsHeadFault view e m a

@@ -1,5 +1,5 @@
 -- An auditor that goes on goes through the lines of a text.
-use Rattle.std.proofs.Common.{◌≡◌, ℕ, List, [], ◌∷◌, ◌++◌, reverse, length, Option, Some, None, Ok, inl, inr, refl, sym, ap, subst, ◌∙◌, arith}
+use Rattle.std.proofs.Common.{◌≡◌, ℕ, List, [], ◌∷◌, ◌++◌, Option, Some, None, Ok, inl, inr, refl, sym, ap, subst, ◌∙◌, arith}
 use Rattle.std.specs.Prelude.{IfSome}
 use Rattle.nvme_lines.specs.Lines.{lines_of, numbered, TakesTold, HasNoTold, AreInAll}
 use Rattle.nvme_audit.specs.declared.event.Event.{Event}
@@ -11,13 +11,14 @@ use Rattle.nvme_audit_text.specs.declared.fault.LogError.TheVariants as error
 use Rattle.nvme_audit_text.specs.declared.views.View.{View}
 use Rattle.nvme_audit_text.specs.declared.head.Head.{Head}
 use Rattle.nvme_audit_text.specs.declared.audit.Finding.{Finding}
-use Rattle.nvme_audit_text.specs.declared.whole.Told.{Told}
 use Rattle.nvme_audit_text.specs.declared.whole.WholeAudit.{WholeAudit}
 use Rattle.nvme_audit_text.specs.declared.whole.WholeAuditor.{WholeAuditor}
+use Rattle.nvme_audit_text.specs.declared.picks.WholePicks.{WholePicks}
+use Rattle.nvme_audit_text.specs.Picks.{AreToldPicks}
 use Rattle.nvme_audit_text.specs.Audits.{added, is_host, most_told}
 use Rattle.nvme_audit_text.specs.WholeAudits.{told_at, most_broken, AreTold, IsJudgedBefore, IsWholeAudit, IsWholeFault}
-use Rattle.nvme_audit_text.specs.inside.Steps.{IsOther, IsHeadFault, IsEventFault, GoesOn, JudgedUpTo}
-use Rattle.nvme_audit_text.proofs.AuditLemmas.{reverse_more}
+use Rattle.nvme_audit_text.specs.inside.Steps.{IsOther, IsHeadFault, IsEventFault, GoesOn, JudgedUpTo, SaidUpTo}
+use Rattle.nvme_audit_text.proofs.PickLemmas.{reverse_more, said_same}
 
 -- ---- lines before others
 later_same : (view : View) (text : List ℕ) (later other : List (ℕ × List ℕ)) (head : Head) (past : Past) (broken hosts : List Finding) → later ≡ other → IsJudgedBefore view text later head past broken hosts → IsJudgedBefore view text other head past broken hosts
@@ -67,10 +68,10 @@ judged_more view text m (Some xs) n (Some ys) head auditor next said j (line, sp
 }
 
 -- after the last line
-pub judged_all : (view : View) (text : List ℕ) (old : Option (List ℕ)) (number : ℕ) (head : Head) (auditor : WholeAuditor) (audit : WholeAudit) → JudgedUpTo view text old number head auditor → HasNoTold number old → AreInAll number old audit.lines
-    → audit.broken ≡ auditor.broken → audit.host ≡ auditor.host → audit.asked ≡ auditor.asked → IsWholeAudit view text audit
-judged_all view text None number head auditor audit j n all broken host asked = absurd j
-judged_all view text (Some xs) number head auditor audit j n all broken host asked = record {
+pub judged_all : (view : View) (text : List ℕ) (old : Option (List ℕ)) (number : ℕ) (head : Head) (auditor : WholeAuditor) (picks : WholePicks) (audit : WholeAudit) → JudgedUpTo view text old number head auditor → SaidUpTo view text old number head picks
+    → HasNoTold number old → AreInAll number old audit.lines → audit.unlawful ≡ picks.unlawful → audit.picks ≡ picks.judged → audit.broken ≡ auditor.broken → audit.host ≡ auditor.host → audit.asked ≡ auditor.asked → IsWholeAudit view text audit
+judged_all view text None number head auditor picks audit j p n all unlawful judged broken host asked = absurd j
+judged_all view text (Some xs) number head auditor picks audit j p n all unlawful judged broken host asked = record {
   head = head;
   past = j.past;
   broken = j.broken;
@@ -80,6 +81,10 @@ judged_all view text (Some xs) number head auditor audit j n all broken host ask
   broken_are = subst (AreTold most_broken j.broken) (sym broken) j.goes_on.broken_are;
   hosts_are = subst (AreTold most_told j.hosts) (sym host) j.goes_on.hosts_are;
   asked_are = asked ∙ j.goes_on.asked_are;
+  said = p.said;
+  picks = said_same view text (numbered number (lines_of xs)) [] head p.said n p.before;
+  unlawful_are = subst (AreToldPicks most_broken p.said.found) (sym unlawful) p.at.found_are;
+  picks_are = judged ∙ p.at.judged_are;
 }
 
 -- at a line that is faulty

@@ -1,6 +1,9 @@
 -- Logs as texts, and what an audit of one answers. (profile)
 use Rattle.std.specs.Prelude.{◌≡◌, ◌⊎◌, ℕ, ◌+◌, Bool, true, false, if◌then◌else◌, List, [], ◌∷◌, ◌++◌, reverse, length, map, take, Option, Some, None, Ok, Err}
 use Rattle.nvme_lines.specs.Lines.{lines_of, told_lines}
+use Rattle.nvme_arbiter.specs.History.{ArbitrationEvent, History}
+use Rattle.nvme_judge.specs.Turns.{picks_in}
+use Rattle.nvme_trace.specs.Bases.{IsBreach}
 use Rattle.nvme_audit.specs.declared.event.Event.{Event}
 use Rattle.nvme_audit.specs.declared.event.Event.TheVariants.{Tail, Head as HeadBell, Fetch, Post}
 use Rattle.nvme_audit.specs.declared.facts.Start.{Start}
@@ -20,8 +23,12 @@ use Rattle.nvme_audit_text.specs.declared.head.Head.{Head}
 use Rattle.nvme_audit_text.specs.declared.facts.Facts.{Facts}
 use Rattle.nvme_audit_text.specs.declared.audit.Finding.{Finding}
 use Rattle.nvme_audit_text.specs.declared.audit.Audit.{Audit}
-use Rattle.nvme_audit_text.specs.Format.{head_of_line, event_of_line}
+use Rattle.nvme_audit_text.specs.declared.audit.Broken.{Broken as Breaks}
+use Rattle.nvme_audit_text.specs.declared.audit.Broken.TheVariants as broken
+use Rattle.nvme_audit_text.specs.declared.picks.PickFinding.{PickFinding}
+use Rattle.nvme_audit_text.specs.Format.{OfArbitration, head_of_line, said_of_line, event_of_line}
 use Rattle.nvme_audit_text.specs.Names.{all_rules}
+use Rattle.nvme_audit_text.specs.Picks.{arbitration_of, IsAllowedBefore}
 
 -- ---- what is told of an event
 -- what stood before it: the facts of its queues and of the outstanding command of its name
@@ -83,7 +90,7 @@ pub record IsLawfulBefore (view : View) (text : List ℕ) (later : List (ℕ × 
   pub lawful : IsLawfulLog head.start past
 
 -- ---- answers
--- in the whole text the controller breaks no rule
+-- in the whole text the controller breaks no rule of queues, nor of arbitration
 pub record IsLawfulText (view : View) (text : List ℕ) (audit : Audit) : Type 0 where
   pub head : Head
   pub past : Past
@@ -93,8 +100,12 @@ pub record IsLawfulText (view : View) (text : List ℕ) (audit : Audit) : Type 0
   pub host_is : audit.host_breaches ≡ host_breaches head.start past
   pub told_are : audit.host.items ≡ take most_told found
   pub asked_are : audit.asked ≡ asked_in head.start past
+  -- and each pick is allowed
+  pub history : History
+  pub allowed : IsAllowedBefore view text [] head history
+  pub picks_are : audit.picks ≡ picks_in history
 
--- at the line of this number the controller breaks a rule, and at none before
+-- at the line of this number the controller breaks a rule of queues, and at none before any
 pub record IsBrokenText (view : View) (text : List ℕ) (audit : Audit) (finding : Finding) : Type 0 where
   pub head : Head
   pub past : Past
@@ -110,10 +121,34 @@ pub record IsBrokenText (view : View) (text : List ℕ) (audit : Audit) (finding
   pub said_is : finding.said ≡ verdict head.start past finding.event
   pub facts_are : finding.facts ≡ facts_of head.start past finding.event
   pub broken : is_broken finding.said ≡ true
+  pub history : History
+  pub allowed : IsAllowedBefore view text ((finding.line, line) ∷ later) head history
+  pub picks_are : audit.picks ≡ picks_in history
 
-abbrev pub IsFound : View → List ℕ → Audit → Option Finding → Type 0
+-- at the line of this number a pick breaks a rule of arbitration, and at none before any is broken
+pub record IsUnlawfulText (view : View) (text : List ℕ) (audit : Audit) (finding : PickFinding) : Type 0 where
+  pub head : Head
+  pub past : Past
+  pub found : List Finding
+  pub history : History
+  pub event : ArbitrationEvent
+  pub line : List ℕ
+  pub later : List (ℕ × List ℕ)
+  pub allowed : IsAllowedBefore view text ((finding.line, line) ∷ later) head history
+  -- nor does the line break a rule of queues
+  pub lawful : IsLawfulBefore view text later head past found
+  pub lines_are : audit.lines ≡ finding.line
+  pub host_is : audit.host_breaches ≡ host_breaches head.start past
+  pub told_are : audit.host.items ≡ take most_told found
+  pub asked_are : audit.asked ≡ asked_in head.start past
+  pub picks_are : audit.picks ≡ picks_in history + 1
+  pub says : said_of_line view head line ≡ Ok (OfArbitration event)
+  pub breach_is : IsBreach (arbitration_of head) history event finding.breach
+
+abbrev pub IsFound : View → List ℕ → Audit → Option Breaks → Type 0
 IsFound view text audit None = IsLawfulText view text audit
-IsFound view text audit (Some finding) = IsBrokenText view text audit finding
+IsFound view text audit (Some (broken.OfQueues finding)) = IsBrokenText view text audit finding
+IsFound view text audit (Some (broken.OfArbitration finding)) = IsUnlawfulText view text audit finding
 
 -- what an audit of a text answers
 abbrev pub IsAudit : View → List ℕ → Audit → Type 0
@@ -135,6 +170,8 @@ pub record IsNoEvent (view : View) (text : List ℕ) (line : ℕ) (fault : LineF
   pub quoted : List ℕ
   pub later : List (ℕ × List ℕ)
   pub before : IsLawfulBefore view text ((line, quoted) ∷ later) head past found
+  pub history : History
+  pub allowed : IsAllowedBefore view text ((line, quoted) ∷ later) head history
   pub is : event_of_line view head quoted ≡ Err fault
 
 abbrev pub IsFaultAt : View → List ℕ → ℕ → LineFault → Type 0

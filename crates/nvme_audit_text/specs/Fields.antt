@@ -14,6 +14,8 @@ kind_text kind.Post = codes "post"
 kind_text kind.Complete = codes "complete"
 kind_text kind.Start = codes "start"
 kind_text kind.Done = codes "done"
+kind_text kind.Pick = codes "pick"
+kind_text kind.Set = codes "set"
 
 -- a field as it stands in a line
 abbrev pub text_of : Field → List ℕ
@@ -25,6 +27,8 @@ text_of field.By = codes "by"
 text_of field.End = codes "end"
 text_of field.Queues = codes "queues"
 text_of field.Mqes = codes "mqes"
+text_of field.Mechanism = codes "mechanism"
+text_of field.Settings = codes "cdw11"
 text_of (field.Of kind) = kind_text kind
 text_of field.Slot = codes "slot"
 text_of field.Sqe = codes "sqe"

@@ -1,5 +1,5 @@
 -- What a line of a log says, or its first fault. (profile)
-use Rattle.std.specs.Prelude.{ℕ, ◌+◌, Bool, nat_lt, is_some, if◌then◌else◌, List, length, Option, Some, None, ok_or, Result, Ok, Err}
+use Rattle.std.specs.Prelude.{ℕ, ◌+◌, Bool, nat_lt, is_some, is_none, if◌then◌else◌, List, length, Option, Some, None, ok_or, Result, Ok, Err}
 use Rattle.std.specs.Str.{is_utf8}
 use Rattle.serde_json.specs.Data.{Data}
 use Rattle.serde_json.specs.Find.{get, as_object}
@@ -8,13 +8,20 @@ use Rattle.nvme_entry.specs.AdminCommand.{admin_command_of}
 use Rattle.nvme_lines.specs.Lines.{longest_line}
 use Rattle.nvme_audit.specs.declared.event.Event.{Event}
 use Rattle.nvme_audit.specs.declared.event.Event.TheVariants as event
+use Rattle.nvme_arbiter.specs.History.{ArbitrationEvent}
+use Rattle.nvme_trace.specs.declared.basis.Basis.TheVariants.{Specification}
+use Rattle.nvme_trace.specs.declared.fault.LineFault.{LineFault as TraceFault}
+use Rattle.nvme_trace.specs.Format as trace
+use Rattle.nvme_trace.specs.Format.{event_view}
 use Rattle.nvme_audit_text.specs.declared.fault.Kind.{Kind}
 use Rattle.nvme_audit_text.specs.declared.fault.Kind.TheVariants as kind
 use Rattle.nvme_audit_text.specs.declared.fault.Field.TheVariants as field
 use Rattle.nvme_audit_text.specs.declared.fault.LineFault.{LineFault}
-use Rattle.nvme_audit_text.specs.declared.fault.LineFault.TheVariants.{TooLong, NotUtf8, NotJson, NotObject, NoKind, NotTold}
+use Rattle.nvme_audit_text.specs.declared.fault.LineFault.TheVariants.{TooLong, NotUtf8, NotJson, NotObject, NoKind, NotTold, NoMechanism, Arbitration}
 use Rattle.nvme_audit_text.specs.declared.views.View.{View}
 use Rattle.nvme_audit_text.specs.declared.head.Head.{Head}
+use Rattle.nvme_audit_text.specs.declared.events.Said.{Said}
+use Rattle.nvme_audit_text.specs.declared.events.Said.TheVariants as said
 use Rattle.nvme_audit_text.specs.Fields.{kind_text}
 use Rattle.nvme_audit_text.specs.Readings.{◌>>=◌, ◌>>◌, only, one_at, number_at, maybe_at}
 use Rattle.nvme_audit_text.specs.Heads.{head_in}
@@ -33,7 +40,9 @@ kind_in d =
     else (if has kind.Post d then Some kind.Post
     else (if has kind.Complete d then Some kind.Complete
     else (if has kind.Start d then Some kind.Start
-    else (if has kind.Done d then Some kind.Done else None))))))
+    else (if has kind.Done d then Some kind.Done
+    else (if has kind.Pick d then Some kind.Pick
+    else (if has kind.Set d then Some kind.Set else None))))))))
 
 -- ---- events
 unfoldable pub tail_in : Data → Result Event LineFault
@@ -73,22 +82,64 @@ post_in view k d = do
   only (completion_fields d) d
   Ok (event.Post cq (kept_if view.post_slots slot) (seen_through view completion))
 
-abbrev pub told : Result Event LineFault → Result (Option Event) LineFault
-told r = r >>= (λ e. Ok (Some e))
+-- ---- arbitration
+-- a pick or a change of the settings, spelled as in a trace that is judged by the specification
+abbrev pub of_trace : Result ArbitrationEvent TraceFault → Result ArbitrationEvent LineFault
+of_trace (Ok e) = Ok e
+of_trace (Err fault) = Err (Arbitration fault)
 
--- a line of this kind. Of completions one kind counts. A `post` where the head doesn't tell them contradicts it
-unfoldable pub event_of : View → Head → Kind → Data → Result (Option Event) LineFault
-event_of view head kind.Tail d = told (tail_in d)
-event_of view head kind.Head d = told (head_doorbell_in d)
-event_of view head kind.Fetch d = told (fetch_in view d)
-event_of view head kind.Post d =
-    if head.has_posts then (if head.start.tells.posts then told (post_in view kind.Post d) else Ok None) else Err (NotTold kind.Post)
-event_of view head kind.Complete d = if head.start.tells.posts then Ok None else told (post_in view kind.Complete d)
-event_of view head kind.Start d = Ok None
-event_of view head kind.Done d = Ok None
+abbrev pub arbitration_in : Data → Result ArbitrationEvent LineFault
+arbitration_in d = of_trace (trace.event_in Specification d)
 
-unfoldable pub event_in : View → Head → Data → Result (Option Event) LineFault
-event_in view head d = ok_or (kind_in d) NoKind >>= (λ k. event_of view head k d)
+-- ---- what a line tells
+-- an event of queues, one of arbitration, or nothing that is looked at
+pub data Heard : Type 0 where
+  Nothing : Heard
+  OfQueues : (event : Event) → Heard
+  OfArbitration : (event : ArbitrationEvent) → Heard
+
+abbrev pub event_heard : Heard → Option Event
+event_heard Nothing = None
+event_heard (OfQueues event) = Some event
+event_heard (OfArbitration event) = None
+
+abbrev pub arbitration_heard : Heard → Option ArbitrationEvent
+arbitration_heard Nothing = None
+arbitration_heard (OfQueues event) = None
+arbitration_heard (OfArbitration event) = Some event
+
+-- what the code reads, as one of these
+abbrev pub heard_of : Said → Heard
+heard_of said.Nothing = Nothing
+heard_of (said.OfQueues event) = OfQueues event
+heard_of (said.OfArbitration event) = OfArbitration (event_view event)
+
+abbrev pub told : Result Event LineFault → Result Heard LineFault
+told r = r >>= (λ e. Ok (OfQueues e))
+
+-- what a view leaves of arbitration
+abbrev pub arbitration_through : View → ArbitrationEvent → Heard
+arbitration_through view e = if view.picks then OfArbitration e else Nothing
+
+abbrev pub told_through : View → Result ArbitrationEvent LineFault → Result Heard LineFault
+told_through view r = r >>= (λ e. Ok (arbitration_through view e))
+
+-- a line of this kind. Of completions one kind counts. A `post` where the head doesn't tell them contradicts it, and so does a `pick`
+unfoldable pub said_of : View → Head → Kind → Data → Result Heard LineFault
+said_of view head kind.Tail d = told (tail_in d)
+said_of view head kind.Head d = told (head_doorbell_in d)
+said_of view head kind.Fetch d = told (fetch_in view d)
+said_of view head kind.Post d =
+    if head.has_posts then (if head.start.tells.posts then told (post_in view kind.Post d) else Ok Nothing) else Err (NotTold kind.Post)
+said_of view head kind.Complete d = if head.start.tells.posts then Ok Nothing else told (post_in view kind.Complete d)
+said_of view head kind.Start d = Ok Nothing
+said_of view head kind.Done d = Ok Nothing
+said_of view head kind.Pick d =
+    if is_none head.arbitration then Err (NoMechanism kind.Pick) else (if head.has_picks then told_through view (arbitration_in d) else Err (NotTold kind.Pick))
+said_of view head kind.Set d = if is_none head.arbitration then Err (NoMechanism kind.Set) else told_through view (arbitration_in d)
+
+unfoldable pub said_in : View → Head → Data → Result Heard LineFault
+said_in view head d = ok_or (kind_in d) NoKind >>= (λ k. said_of view head k d)
 
 -- ---- a line
 unfoldable pub data_of : List ℕ → Result Data LineFault
@@ -104,9 +155,21 @@ head_of_line view line = do
   object_in d
   head_in view d
 
--- the event that a later line tells, if any
-unfoldable pub event_of_line : View → Head → List ℕ → Result (Option Event) LineFault
-event_of_line view head line = do
+-- what a later line tells
+unfoldable pub said_of_line : View → Head → List ℕ → Result Heard LineFault
+said_of_line view head line = do
   d ← data_of line
   object_in d
-  event_in view head d
+  said_in view head d
+
+-- the event of queues that it tells, if any
+abbrev pub event_of_line : View → Head → List ℕ → Result (Option Event) LineFault
+event_of_line view head line = said_of_line view head line >>= (λ said. Ok (event_heard said))
+
+-- the event of arbitration, if any
+abbrev pub arbitration_told : Result Heard LineFault → Option ArbitrationEvent
+arbitration_told (Ok said) = arbitration_heard said
+arbitration_told (Err fault) = None
+
+abbrev pub arbitration_of_line : View → Head → List ℕ → Option ArbitrationEvent
+arbitration_of_line view head line = arbitration_told (said_of_line view head line)

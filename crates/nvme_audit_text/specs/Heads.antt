@@ -3,13 +3,18 @@ use Rattle.std.specs.Prelude.{ℕ, ◌+◌, ◌-◌, ◌==◌, ◌&&◌, ◌||�
 use Rattle.std.specs.Cmp.Lexicographic.{pointwise}
 use Rattle.serde_json.specs.Data.{Data, Items, no_items, item}
 use Rattle.serde_json.specs.Find.{get, as_str, as_array}
+use Rattle.nvme_arbiter.specs.Settings.{settings_of}
+use Rattle.nvme_arbiter.specs.declared.settings.Mechanism.{Mechanism}
 use Rattle.nvme_audit.specs.declared.facts.Tells.{Tells}
+use Rattle.nvme_trace.specs.declared.fault.LineFault.{LineFault as TraceFault}
+use Rattle.nvme_trace.specs.declared.records.Head.{Head as TraceHead}
+use Rattle.nvme_trace.specs.Format.{mechanism_of}
 use Rattle.nvme_audit_text.specs.declared.fault.Kind.{Kind}
 use Rattle.nvme_audit_text.specs.declared.fault.Kind.TheVariants as kind
 use Rattle.nvme_audit_text.specs.declared.fault.Field.{Field}
 use Rattle.nvme_audit_text.specs.declared.fault.Field.TheVariants as field
 use Rattle.nvme_audit_text.specs.declared.fault.LineFault.{LineFault}
-use Rattle.nvme_audit_text.specs.declared.fault.LineFault.TheVariants.{Bad, Untold}
+use Rattle.nvme_audit_text.specs.declared.fault.LineFault.TheVariants.{Missing, Bad, Untold}
 use Rattle.nvme_audit_text.specs.declared.views.View.{View}
 use Rattle.nvme_audit_text.specs.declared.views.Completions.{Completions}
 use Rattle.nvme_audit_text.specs.declared.views.Completions.TheVariants.{AsTold, Posts, Reads}
@@ -27,7 +32,7 @@ names k d = is_text (kind_text k) (as_str d)
 
 -- a value is the name of a kind
 abbrev pub is_kind : Data → Bool
-is_kind d = names kind.Tail d || names kind.Head d || names kind.Fetch d || names kind.Post d || names kind.Complete d || names kind.Start d || names kind.Done d
+is_kind d = names kind.Tail d || names kind.Head d || names kind.Fetch d || names kind.Post d || names kind.Complete d || names kind.Start d || names kind.Done d || names kind.Pick d
 
 abbrev pub are_kinds : Items → Bool
 are_kinds no_items = true
@@ -85,8 +90,36 @@ unread_in d = do
   maybe_at field.Queues 65536 d >>= at_least_one field.Queues
   maybe_at field.Mqes 65536 d >>= at_least_one field.Mqes
 
+-- ---- arbitration
+abbrev pub named : Result Mechanism TraceFault → Result (Option Mechanism) LineFault
+named (Ok mechanism) = Ok (Some mechanism)
+named (Err e) = Err (Bad field.Mechanism)
+
+-- the mechanism where it is told, spelled as in a trace
+abbrev pub mechanism_from : Option Data → Result (Option Mechanism) LineFault
+mechanism_from None = Ok None
+mechanism_from (Some v) = named (mechanism_of v)
+
+-- it is told with Command Dword 11 of the Arbitration feature, or neither is
+abbrev pub arbitration_by : Option Mechanism → Option ℕ → Result (Option TraceHead) LineFault
+arbitration_by None None = Ok None
+arbitration_by None (Some cdw11) = Err (Missing field.Mechanism)
+arbitration_by (Some mechanism) None = Err (Missing field.Settings)
+arbitration_by (Some mechanism) (Some cdw11) = Ok (Some (record { mechanism = mechanism; settings = settings_of cdw11 }))
+
+unfoldable pub arbitration_in : Data → Result (Option TraceHead) LineFault
+arbitration_in d = do
+  mechanism ← mechanism_from (get (text_of field.Mechanism) d)
+  cdw11 ← maybe_at field.Settings 4294967295 d
+  arbitration_by mechanism cdw11
+
+-- whether all picks are told: where they are, the mechanism is told too
+abbrev pub picks_told : Option TraceHead → Items → Result Bool LineFault
+picks_told None told = if has_kind kind.Pick told then Err (Missing field.Mechanism) else Ok false
+picks_told (Some arbitration) told = Ok (has_kind kind.Pick told)
+
 abbrev pub head_fields : Data → ℕ
-head_fields d = 4 + one_at field.By d + one_at field.End d + one_at field.Queues d + one_at field.Mqes d
+head_fields d = 4 + one_at field.By d + one_at field.End d + one_at field.Queues d + one_at field.Mqes d + one_at field.Mechanism d + one_at field.Settings d
 
 -- ---- the head, through a view
 abbrev pub tells_of : View → Items → Bool → Tells
@@ -102,5 +135,7 @@ head_in view d = do
   asqs ← size_at field.Asq d
   acqs ← size_at field.Acq d
   unread_in d
+  arbitration ← arbitration_in d
+  has_picks ← picks_told arbitration told
   only (head_fields d) d
-  Ok (record { start = record { tells = tells_of view told posts; asqs = asqs; acqs = acqs }; has_posts = has_kind kind.Post told })
+  Ok (record { start = record { tells = tells_of view told posts; asqs = asqs; acqs = acqs }; has_posts = has_kind kind.Post told; arbitration = arbitration; has_picks = has_picks })

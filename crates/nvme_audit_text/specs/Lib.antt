@@ -5,6 +5,7 @@ pub mod Entries
 pub mod Format
 pub mod Views
 pub mod Names
+pub mod Picks
 pub mod Audits
 pub mod WholeAudits
 pub mod Laws

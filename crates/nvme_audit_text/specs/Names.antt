@@ -1,5 +1,7 @@
 -- The names of rules. (profile)
 use Rattle.std.specs.Prelude.{ℕ, List, [], ◌∷◌, codes}
+use Rattle.nvme_arbiter.specs.declared.specified.Rule.{Rule as PickRule}
+use Rattle.nvme_arbiter.specs.declared.specified.Rule.TheVariants as pick_rule
 use Rattle.nvme_audit.specs.declared.verdict.Rule.{Rule}
 use Rattle.nvme_audit.specs.declared.verdict.Rule.TheVariants as rule
 use Rattle.nvme_audit.specs.declared.verdict.Breach.{Breach}
@@ -30,6 +32,17 @@ abbrev pub all_rules : List Rule
 all_rules =
     rule.FetchClosed ∷ rule.FetchBeyondTail ∷ rule.FetchSlot ∷ rule.PostClosed ∷ rule.Slot ∷ rule.Phase ∷ rule.CqFull ∷ rule.CqWrong ∷ rule.Life
     ∷ rule.Sqhd ∷ rule.SqdelUnasked ∷ rule.AbortUnasked ∷ rule.AbortUntrue ∷ rule.StatusForeign ∷ rule.StatusCreate ∷ rule.StatusDelete ∷ rule.Features ∷ []
+
+-- a rule of arbitration, which each pick keeps
+abbrev pub pick_rule_text : PickRule → List ℕ
+pick_rule_text pick_rule.Candidates = codes "pick-candidates"
+pick_rule_text pick_rule.Burst = codes "pick-burst"
+pick_rule_text pick_rule.Priority = codes "pick-priority"
+pick_rule_text pick_rule.Credit = codes "pick-credit"
+pick_rule_text pick_rule.Turn = codes "pick-turn"
+
+abbrev pub all_pick_rules : List PickRule
+all_pick_rules = pick_rule.Candidates ∷ pick_rule.Burst ∷ pick_rule.Priority ∷ pick_rule.Credit ∷ pick_rule.Turn ∷ []
 
 -- a rule for the host
 abbrev pub breach_text : Breach → List ℕ

@@ -17,12 +17,12 @@ seen_through view c = record c { sqhd = kept_if view.sq_heads c.sqhd; phase = ke
 
 -- all that a log tells
 abbrev pub whole : View
-whole = record { completions = AsTold; tails = true; heads = true; fetch_slots = true; post_slots = true; phases = true; sq_heads = true }
+whole = record { completions = AsTold; tails = true; heads = true; fetch_slots = true; post_slots = true; phases = true; sq_heads = true; picks = true }
 
--- what an observer sees. The host doesn't see when an entry is fetched, nor from where
+-- what an observer sees: no picks. The host doesn't see when an entry is fetched, nor from where
 abbrev pub view_of : Observer → View
-view_of Bus = record whole { completions = Posts }
-view_of Host = record whole { completions = Reads; tails = false; fetch_slots = false }
+view_of Bus = record whole { completions = Posts; picks = false }
+view_of Host = record whole { completions = Reads; tails = false; fetch_slots = false; picks = false }
 
 -- a view without what one rule alone reads. The rules that are always judged have nothing of the kind: others rest on them
 abbrev pub left_out : Rule → View → View

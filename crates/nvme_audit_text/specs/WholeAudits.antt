@@ -1,5 +1,5 @@
 -- What an audit of a whole log answers, which goes on after breaches of the controller. (profile)
-use Rattle.std.specs.Prelude.{◌≡◌, ◌⊎◌, ℕ, ◌+◌, Bool, if◌then◌else◌, List, [], ◌∷◌, ◌++◌, reverse, length, map, take, Option, Some, None, Ok, Err}
+use Rattle.std.specs.Prelude.{◌≡◌, ◌⊎◌, ℕ, Bool, if◌then◌else◌, List, [], ◌∷◌, ◌++◌, reverse, length, map, take, Option, Some, None, Ok, Err}
 use Rattle.nvme_lines.specs.Lines.{lines_of, told_lines}
 use Rattle.nvme_audit.specs.declared.event.Event.{Event}
 use Rattle.nvme_audit.specs.declared.facts.Start.{Start}
@@ -19,6 +19,7 @@ use Rattle.nvme_audit_text.specs.declared.whole.Told.{Told}
 use Rattle.nvme_audit_text.specs.declared.whole.WholeAudit.{WholeAudit}
 use Rattle.nvme_audit_text.specs.Format.{head_of_line, event_of_line}
 use Rattle.nvme_audit_text.specs.Names.{all_rules}
+use Rattle.nvme_audit_text.specs.Picks.{PicksSaid, AreToldPicks, IsSaidBefore}
 use Rattle.nvme_audit_text.specs.Audits.{facts_of, is_host, most_told, TellEvents, IsNoHead}
 
 -- ---- what is told of an event
@@ -70,6 +71,11 @@ pub record IsWholeAudit (view : View) (text : List ℕ) (audit : WholeAudit) : T
   pub broken_are : AreTold most_broken broken audit.broken
   pub hosts_are : AreTold most_told hosts audit.host
   pub asked_are : audit.asked ≡ asked_whole head.start past
+  -- the picks are judged beside it, and go on by themselves
+  pub said : PicksSaid
+  pub picks : IsSaidBefore view text [] head said
+  pub unlawful_are : AreToldPicks most_broken said.found audit.unlawful
+  pub picks_are : audit.picks ≡ said.judged
 
 -- ---- faults
 -- a later line tells nothing

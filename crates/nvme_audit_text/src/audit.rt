@@ -7,17 +7,19 @@ ghost use Rattle.nvme_audit.specs.Standing.{StandsAt};
 ghost use Rattle.nvme_audit_text.specs.declared.views.View.{View};
 ghost use Rattle.nvme_audit_text.specs.declared.head.Head.{Head};
 ghost use Rattle.nvme_audit_text.specs.declared.audit.Finding.{Finding};
-ghost use Rattle.nvme_audit_text.specs.Format.{head_of_line, event_of_line};
+ghost use Rattle.nvme_audit_text.specs.Format.{heard_of, head_of_line, said_of_line};
 ghost use Rattle.nvme_audit_text.specs.Readings.{Fails};
+ghost use Rattle.nvme_audit_text.specs.Picks.{WasObserved};
 ghost use Rattle.nvme_audit_text.specs.Audits.{added, host_at, most_told, asked_in, IsAudit, IsFault};
 ghost use Rattle.nvme_audit_text.specs.inside.Steps.{IsTaken, IsOther, AuditsAt, IsFinding, IsLineFault, IsStopped, IsHeadFault, IsEventFault};
 
-use crate::events::{event_of_line, head_of_line};
+use crate::events::{Said, head_of_line, said_of_line};
 use crate::facts::Facts;
 use crate::fault::{LineFault, LogError};
 use crate::head::Head;
 use crate::names::{RULE_COUNT, none_asked};
 use crate::notes::{event_note, head_note};
+use crate::picks::{PickAuditor, PickFinding, arbitration_of};
 use crate::views::View;
 use nvme_audit::{AuditError, Count, Event, Judge, Start, Verdict, count_asked};
 use nvme_lines::{NextError, NumberedLines};
@@ -40,6 +42,25 @@ pub struct Finding {
     pub facts: Facts,
 }
 
+/// What the controller breaks.
+#[derive(Clone, Copy)]
+pub enum Broken {
+    /// A rule of queues, commands and statuses.
+    OfQueues(Finding),
+    /// A rule of arbitration.
+    OfArbitration(PickFinding),
+}
+
+impl Broken {
+    /// The number of its line, from 1 on.
+    pub fn line(&self) -> u64 {
+        match self {
+            Broken::OfQueues(finding) => finding.line,
+            Broken::OfArbitration(finding) => finding.line,
+        }
+    }
+}
+
 /// The answer of an audit.
 #[derive(Drop)]
 pub struct Audit {
@@ -50,9 +71,11 @@ pub struct Audit {
     /// How many there are.
     pub host_breaches: u64,
     /// Where the controller breaks a rule first.
-    pub broken: Option<Finding>,
-    /// Of each rule for the controller, how often it asked something.
+    pub broken: Option<Broken>,
+    /// Of each rule for the controller but those of arbitration, how often it asked something.
     pub asked: [Count; RULE_COUNT],
+    /// How many picks were judged: each of the rules of arbitration asked something of each.
+    pub picks: u64,
 }
 
 // A judge, and what it told of the host so far.
@@ -185,12 +208,13 @@ impl Auditor {
     }
 
     // The answer after the lines so far.
-    fn answer(self, lines: u64, broken: Option<Finding>) -> Audit
+    fn answer(self, lines: u64, broken: Option<Broken>, picks: u64) -> Audit
         ensures lines { result.lines ≡ lines }
         ensures broken { result.broken ≡ broken }
         ensures host { result.host_breaches ≡ self.host_breaches }
         ensures told { result.host.items ≡ self.host.items }
         ensures asked { result.asked ≡ self.asked }
+        ensures picks { result.picks ≡ picks }
     {
         let asked = self.asked;
         Audit {
@@ -199,6 +223,7 @@ impl Auditor {
             host_breaches: self.host_breaches,
             broken,
             asked,
+            picks,
         }
     }
 }
@@ -254,9 +279,9 @@ fn head_fault<R: Read>(alloc: Global, lines: &NumberedLines<R>, fault: LineFault
 }
 
 // The fault of the latest line, which tells nothing, with its note.
-#[tactic(auto, using(crate::proofs::LineLemmas::event_fails))]
+#[tactic(auto, using(crate::proofs::LineLemmas::said_fails))]
 fn event_fault<R: Read>(alloc: Global, lines: &NumberedLines<R>, fault: LineFault) -> LogError
-    ensures { (view : View) (head : Head) (rest : Option (List ℕ)) (m : ℕ) → TakesTold (λ l. l ≡ lines.now.latest) m rest lines.now.number lines.now.rest → Fails fault (event_of_line view head lines.now.latest) → IsEventFault view head result m rest }
+    ensures { (view : View) (head : Head) (rest : Option (List ℕ)) (m : ℕ) → TakesTold (λ l. l ≡ lines.now.latest) m rest lines.now.number lines.now.rest → Fails fault (said_of_line view head lines.now.latest) → IsEventFault view head result m rest }
 {
     match event_note(alloc, lines.latest(), fault) {
         Ok(note) => fault_at(lines.number(), fault, note),
@@ -294,20 +319,21 @@ pub(crate) fn head_in_text<R: Read>(
     }
 }
 
-/// Reads the next line after the head that isn't blank: the event that it tells, if any. `None` at the end of the log.
+/// Reads the next line after the head that isn't blank. `None` at the end of the log.
 pub(crate) fn said_next<R: Read>(
     alloc: Global,
     through: &View,
     head: &Head,
     lines: &mut NumberedLines<R>,
-) -> Result<Option<Option<Event>>, LogError>
-    ensures ok { IfOk result (λ o. MatchOption o (HasNoTold lines.old.number lines.old.rest × AreInAll lines.old.number lines.old.rest lines.new.number) (λ said. TakesTold (λ line. event_of_line through.now head.now line ≡ Ok said) lines.old.number lines.old.rest lines.new.number lines.new.rest)) }
+) -> Result<Option<Said>, LogError>
+    ensures ok { IfOk result (λ o. MatchOption o (HasNoTold lines.old.number lines.old.rest × AreInAll lines.old.number lines.old.rest lines.new.number) (λ said. TakesTold (λ line. said_of_line through.now head.now line ≡ Ok (heard_of said)) lines.old.number lines.old.rest lines.new.number lines.new.rest)) }
+    ensures observed { IfOk result (λ o. IfSome o (λ said. WasObserved (heard_of said))) }
     ensures err { IfErr result (λ e. IsEventFault through.now head.now e lines.old.number lines.old.rest) }
 {
     if !told_line(alloc, lines)? {
         return Ok(None);
     }
-    match event_of_line(alloc, through, head, lines.latest()) {
+    match said_of_line(alloc, through, head, lines.latest()) {
         Ok(said) => Ok(Some(said)),
         Err(fault) => Err(event_fault(alloc, lines, fault)),
     }
@@ -342,12 +368,18 @@ fn audited<R: Read>(
     ensures fault { IfErr result (λ e. (text : List ℕ) → TakesTold (λ line. head_of_line through.now line ≡ Ok head.now) 0 (Some text) lines.old.number lines.old.rest → IsFault through.now text e) }
 {
     let mut auditor = Auditor::new(alloc, head.start);
+    let mut picks = PickAuditor::new(arbitration_of(head));
     for _ in 1..u64::MAX {
         let Some(said) = said_next(alloc, through, head, lines)? else {
-            return Ok(auditor.answer(lines.number(), None));
+            return Ok(auditor.answer(lines.number(), None, picks.judged()));
         };
-        if let Some(finding) = auditor.note(lines.number(), said)? {
-            return Ok(auditor.answer(lines.number(), Some(finding)));
+        if let Some(finding) = auditor.note(lines.number(), said.event())? {
+            let broken = Some(Broken::OfQueues(finding));
+            return Ok(auditor.answer(lines.number(), broken, picks.judged()));
+        }
+        if let Some(unlawful) = picks.note(lines.number(), &said)? {
+            let broken = Some(Broken::OfArbitration(unlawful));
+            return Ok(auditor.answer(lines.number(), broken, picks.judged()));
         }
     }
     Err(LogError::Read)

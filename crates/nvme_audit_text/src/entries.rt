@@ -154,8 +154,8 @@ pub(crate) fn word_in(line: &Value, field: Field) -> Result<Option<u16>, LineFau
     }
 }
 
-// A number of 32 bits where it is told.
-fn dword_in(line: &Value, field: Field) -> Result<Option<u32>, LineFault>
+/// A number of 32 bits where it is told.
+pub(crate) fn dword_in(line: &Value, field: Field) -> Result<Option<u32>, LineFault>
     ensures { result ≡ maybe_at field 4294967295 (view line.now) }
 {
     match maybe_at(line, field, 0xffff_ffff)? {

@@ -1,11 +1,14 @@
 // Reads what a line says.
-ghost use Rattle.std.specs.Prelude.{◌≡◌, ◌≤◌, length, ok_or, Ok};
+ghost use Rattle.std.specs.Prelude.{◌≡◌, ◌≤◌, length, ok_or, Ok, IfOk};
 ghost use Rattle.serde_json.specs.Read.{read};
 ghost use Rattle.serde_json.specs.View.{view};
 ghost use Rattle.nvme_lines.specs.Lines.{longest_line};
 ghost use Rattle.nvme_audit_text.specs.Readings.{Gives, seen_by};
 ghost use Rattle.nvme_audit_text.specs.Views.{kept_if, seen_through};
-ghost use Rattle.nvme_audit_text.specs.Format.{has, kind_in, tail_in, head_doorbell_in, fetch_fields, fetch_in, completion_fields, post_in, event_of, event_in, data_of, object_in, head_of_line, event_of_line};
+ghost use Rattle.nvme_audit_text.specs.Format.{has, kind_in, tail_in, head_doorbell_in, fetch_fields, fetch_in, completion_fields, post_in, of_trace, arbitration_in, heard_of, arbitration_through, said_of, said_in, data_of, object_in, head_of_line, said_of_line};
+ghost use Rattle.nvme_trace.specs.Format.{event_view};
+ghost use Rattle.nvme_trace.specs.Judged.{IsObserved};
+ghost use Rattle.nvme_audit_text.specs.Picks.{WasObserved};
 
 use crate::entries::{completion_in, entry_in, word_in};
 use crate::fault::{Field, Kind, LineFault};
@@ -14,8 +17,35 @@ use crate::reading::{maybe_at, number_at, one_at, only};
 use crate::views::View;
 use nvme_audit::{Completion, Event};
 use nvme_entry::admin_of;
+use nvme_trace::{Basis, TraceEvent};
 use serde_json::Value;
 use std::alloc::Global;
+
+/// What a line after the head tells.
+#[derive(Drop)]
+pub enum Said {
+    /// Nothing that is looked at.
+    Nothing,
+    /// An event of queues.
+    OfQueues(Event),
+    /// A pick or a change of the settings.
+    OfArbitration(TraceEvent),
+}
+
+impl Said {
+    ghost use Rattle.std.specs.Prelude.{◌≡◌};
+    ghost use Rattle.nvme_audit_text.specs.Format.{heard_of, event_heard};
+
+    /// The event of queues, if it is one.
+    pub(crate) fn event(&self) -> Option<Event>
+        ensures { result ≡ event_heard (heard_of self.now) }
+    {
+        match self {
+            Said::OfQueues(event) => Some(*event),
+            _ => None,
+        }
+    }
+}
 
 // Whether a line has the field of a kind.
 fn has(kind: Kind, line: &Value) -> bool
@@ -43,6 +73,10 @@ fn kind_in(line: &Value) -> Option<Kind>
         Some(Kind::Start)
     } else if has(Kind::Done, line) {
         Some(Kind::Done)
+    } else if has(Kind::Pick, line) {
+        Some(Kind::Pick)
+    } else if has(Kind::Set, line) {
+        Some(Kind::Set)
     } else {
         None
     }
@@ -152,15 +186,35 @@ fn post_in(through: &View, kind: Kind, line: &Value) -> Result<Event, LineFault>
     })
 }
 
+// A pick or a change of the settings.
+fn arbitration_in(line: &Value) -> Result<TraceEvent, LineFault>
+    ensures value { seen_by event_view result ≡ arbitration_in (view line.now) }
+    ensures observed { IfOk result (λ e. IsObserved (event_view e)) }
+{
+    match nvme_trace::event_in(Basis::Specification, line) {
+        Ok(event) => Ok(event),
+        Err(fault) => Err(LineFault::Arbitration(fault)),
+    }
+}
+
+// What a view leaves of arbitration.
+fn arbitration_through(through: &View, event: TraceEvent) -> Said
+    requires observed { IsObserved (event_view event) }
+    ensures value { heard_of result ≡ arbitration_through through.now (event_view event) }
+    ensures observed { WasObserved (heard_of result) }
+{
+    if through.picks {
+        Said::OfArbitration(event)
+    } else {
+        Said::Nothing
+    }
+}
+
 // What a line of this kind says. Of completions one kind counts.
-#[tactic(auto, unfolding(crate::specs::Format::event_of))]
-fn event_of(
-    through: &View,
-    head: &Head,
-    kind: Kind,
-    line: &Value,
-) -> Result<Option<Event>, LineFault>
-    ensures { result ≡ event_of through.now head.now kind (view line.now) }
+#[tactic(auto, unfolding(crate::specs::Format::said_of))]
+fn said_of(through: &View, head: &Head, kind: Kind, line: &Value) -> Result<Said, LineFault>
+    ensures value { seen_by heard_of result ≡ said_of through.now head.now kind (view line.now) }
+    ensures observed { IfOk result (λ said. WasObserved (heard_of said)) }
 {
     let posts = head.start.tells.posts;
     let event = match kind {
@@ -170,18 +224,24 @@ fn event_of(
         Kind::Post if !head.has_posts => return Err(LineFault::NotTold(Kind::Post)),
         Kind::Post if posts => post_in(through, Kind::Post, line)?,
         Kind::Complete if !posts => post_in(through, Kind::Complete, line)?,
-        _ => return Ok(None),
+        Kind::Pick | Kind::Set if head.arbitration.is_none() => {
+            return Err(LineFault::NoMechanism(kind));
+        }
+        Kind::Pick if !head.has_picks => return Err(LineFault::NotTold(Kind::Pick)),
+        Kind::Pick | Kind::Set => return Ok(arbitration_through(through, arbitration_in(line)?)),
+        _ => return Ok(Said::Nothing),
     };
-    Ok(Some(event))
+    Ok(Said::OfQueues(event))
 }
 
 // What a line after the head says.
-#[tactic(auto, unfolding(crate::specs::Format::event_in))]
-fn event_in(through: &View, head: &Head, line: &Value) -> Result<Option<Event>, LineFault>
-    ensures { result ≡ event_in through.now head.now (view line.now) }
+#[tactic(auto, unfolding(crate::specs::Format::said_in))]
+fn said_in(through: &View, head: &Head, line: &Value) -> Result<Said, LineFault>
+    ensures value { seen_by heard_of result ≡ said_in through.now head.now (view line.now) }
+    ensures observed { IfOk result (λ said. WasObserved (heard_of said)) }
 {
     match kind_in(line) {
-        Some(kind) => event_of(through, head, kind, line),
+        Some(kind) => said_of(through, head, kind, line),
         None => Err(LineFault::NoKind),
     }
 }
@@ -230,18 +290,19 @@ pub fn head_of_line(alloc: Global, through: &View, line: &[u8]) -> Result<Head, 
     head_in(through, &value)
 }
 
-/// The event that a later line tells. `None` where it is of a kind that isn't looked at.
-#[tactic(auto, unfolding(crate::specs::Format::event_of_line))]
-pub fn event_of_line(
+/// What a later line tells.
+#[tactic(auto, unfolding(crate::specs::Format::said_of_line))]
+pub fn said_of_line(
     alloc: Global,
     through: &View,
     head: &Head,
     line: &[u8],
-) -> Result<Option<Event>, LineFault>
+) -> Result<Said, LineFault>
     requires { length line.now ≤ longest_line }
-    ensures { Gives result (event_of_line through.now head.now line.now) }
+    ensures value { Gives (seen_by heard_of result) (said_of_line through.now head.now line.now) }
+    ensures observed { IfOk result (λ said. WasObserved (heard_of said)) }
 {
     let value = data_of(alloc, line)?;
     object_in(&value)?;
-    event_in(through, head, &value)
+    said_in(through, head, &value)
 }

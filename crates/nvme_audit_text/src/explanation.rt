@@ -1,10 +1,14 @@
 // Writes what is said of a line at which a rule is broken.
 ghost use Rattle.std.specs.Prelude.{◌≡◌, ◌+◌};
 
-use crate::audit::{Audit, Finding};
-use crate::names::{breach_name, rule_name, section_of, section_of_breach};
-use crate::whole::WholeAudit;
+use crate::audit::{Audit, Broken, Finding};
+use crate::names::{
+    breach_name, pick_rule_name, rule_name, section_of, section_of_breach, section_of_pick,
+};
+use crate::picks::PickFinding;
+use crate::whole::{Place, WholeAudit};
 use nvme_audit::{Breach, Command, Completion, Cq, Event, Rule, Sq, Verdict};
+use nvme_trace::{SettingsInWords, put_limits, sentence_of};
 use std::fmt;
 
 // How many slots a queue of this size has, zero based.
@@ -314,14 +318,42 @@ impl fmt::Display for Finding {
     }
 }
 
+impl fmt::Display for PickFinding {
+    fn fmt<W: fmt::Write>(&self, f: &mut fmt::Formatter<W>) -> fmt::Result {
+        let breach = &self.breach;
+        let (line, name) = (self.line, pick_rule_name(breach.rule));
+        let (qid, n) = (breach.picked.qid, breach.picked.n);
+        let (sentence, section) = (sentence_of(breach.rule), section_of_pick(breach.rule));
+        write!(f, "broken: line {line}: {name}")?;
+        write!(
+            f,
+            "\nwhat: {n} commands of submission queue {qid} are picked"
+        )?;
+        write!(
+            f,
+            "\nwanted: {sentence}\nwhy: Base Specification, {section}"
+        )?;
+        put_limits(breach, f)?;
+        let settings = SettingsInWords {
+            mechanism: breach.mechanism,
+            settings: breach.settings,
+        };
+        write!(f, "\nsettings: {settings}")
+    }
+}
+
+impl fmt::Display for Broken {
+    fn fmt<W: fmt::Write>(&self, f: &mut fmt::Formatter<W>) -> fmt::Result {
+        match self {
+            Broken::OfQueues(finding) => write!(f, "{finding}"),
+            Broken::OfArbitration(finding) => write!(f, "{finding}"),
+        }
+    }
+}
+
 // Writes how many breaches of some kind aren't told.
-fn put_more<W: fmt::Write>(
-    who: &str,
-    count: u64,
-    told: usize,
-    f: &mut fmt::Formatter<W>,
-) -> fmt::Result {
-    match count.saturating_sub(told as u64) {
+fn put_more<W: fmt::Write>(who: &str, more: u64, f: &mut fmt::Formatter<W>) -> fmt::Result {
+    match more {
         0 => Ok(()),
         more => write!(f, "\n{who}: and {more} more"),
     }
@@ -336,7 +368,7 @@ fn put_hosts<W: fmt::Write>(
     for finding in told {
         write!(f, "\n{finding}")?;
     }
-    put_more("host", count, told.len(), f)
+    put_more("host", count.saturating_sub(told.len() as u64), f)
 }
 
 // Writes that the controller breaks no rule.
@@ -347,33 +379,33 @@ fn put_lawful<W: fmt::Write>(lines: u64, f: &mut fmt::Formatter<W>) -> fmt::Resu
 impl fmt::Display for Audit {
     fn fmt<W: fmt::Write>(&self, f: &mut fmt::Formatter<W>) -> fmt::Result {
         match &self.broken {
-            Some(finding) => write!(f, "{finding}")?,
+            Some(broken) => write!(f, "{broken}")?,
             None => put_lawful(self.lines, f)?,
         }
         put_hosts(&self.host, self.host_breaches, f)
     }
 }
 
-// Writes the breaches of the controller that are told, and how many more there are.
-fn put_all_broken<W: fmt::Write>(
-    told: &[Finding],
-    count: u64,
-    f: &mut fmt::Formatter<W>,
-) -> fmt::Result {
-    let mut before = "";
-    for finding in told {
-        write!(f, "{before}{finding}")?;
-        before = "\n";
+// Writes the breaches of the controller that are told, by their lines.
+fn put_all_broken<W: fmt::Write>(audit: &WholeAudit, f: &mut fmt::Formatter<W>) -> fmt::Result {
+    let (mut before, mut at) = ("", Place::first());
+    for _ in 0..audit.told() {
+        let Some((broken, next)) = audit.broken_at(at) else {
+            return Ok(());
+        };
+        write!(f, "{before}{broken}")?;
+        (before, at) = ("\n", next);
     }
-    put_more("broken", count, told.len(), f)
+    Ok(())
 }
 
 impl fmt::Display for WholeAudit {
     fn fmt<W: fmt::Write>(&self, f: &mut fmt::Formatter<W>) -> fmt::Result {
-        if self.broken.first.is_empty() {
+        if self.told() == 0 {
             put_lawful(self.lines, f)?;
         }
-        put_all_broken(&self.broken.first, self.broken.count, f)?;
+        put_all_broken(self, f)?;
+        put_more("broken", self.untold(), f)?;
         put_hosts(&self.host.first, self.host.count, f)
     }
 }

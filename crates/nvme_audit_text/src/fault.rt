@@ -22,6 +22,10 @@ pub enum Kind {
     Start,
     /// The controller ended a command. No rule reads it.
     Done,
+    /// Arbitration picked a queue. The fields are those of a trace's pick.
+    Pick,
+    /// The settings of arbitration changed, as in a trace.
+    Set,
 }
 
 impl Kind {
@@ -39,6 +43,8 @@ impl Kind {
             Kind::Complete => "complete",
             Kind::Start => "start",
             Kind::Done => "done",
+            Kind::Pick => "pick",
+            Kind::Set => "set",
         }
     }
 }
@@ -62,6 +68,10 @@ pub enum Field {
     Queues,
     /// `mqes` of the head: how many slots a queue may have.
     Mqes,
+    /// `mechanism` of the head: the arbitration mechanism, told with `cdw11`.
+    Mechanism,
+    /// `cdw11` of the head: Command Dword 11 of the Arbitration feature, told with `mechanism`.
+    Settings,
     /// The kind of an event, whose value is the identifier of its queue.
     Of(Kind),
     Slot,
@@ -99,6 +109,8 @@ impl Field {
             Field::End => "end",
             Field::Queues => "queues",
             Field::Mqes => "mqes",
+            Field::Mechanism => "mechanism",
+            Field::Settings => "cdw11",
             Field::Of(kind) => kind.name(),
             Field::Slot => "slot",
             Field::Sqe => "sqe",
@@ -152,6 +164,12 @@ pub enum LineFault {
     /// The line is of a kind that can't be there, since the head doesn't tell it.
     #[error("{name} in a log whose tells has none", name = .0.name())]
     NotTold(Kind),
+    /// The line tells a pick or a change of the settings, and the head no mechanism.
+    #[error("{name} in a log whose head has no mechanism", name = .0.name())]
+    NoMechanism(Kind),
+    /// The line of a pick or a change of the settings has a fault of a line of a trace.
+    #[error("{0}")]
+    Arbitration(nvme_trace::LineFault),
     /// Out of memory, before a fault was found.
     #[error("out of memory")]
     NoMemory,

@@ -4,14 +4,17 @@ ghost use Rattle.std.specs.List.{list_all, list_any};
 ghost use Rattle.serde_json.specs.Find.{as_str};
 ghost use Rattle.serde_json.specs.View.{view, items_view};
 ghost use Rattle.nvme_audit_text.specs.Readings.{seen_by};
-ghost use Rattle.nvme_audit_text.specs.Heads.{is_text, names, is_kind, are_kinds, has_kind, told_in, if_told, posts_by, size_of, size_at, text_from, end_from, unread_in, head_fields, tells_of, head_in};
+ghost use Rattle.nvme_audit_text.specs.Heads.{is_text, names, is_kind, are_kinds, has_kind, told_in, if_told, posts_by, size_of, size_at, text_from, end_from, unread_in, named, mechanism_from, arbitration_by, arbitration_in, picks_told, head_fields, tells_of, head_in};
 ghost use Rattle.nvme_audit_text.specs.Fields.{text_of};
 ghost use Rattle.serde_json.specs.Find.{get};
 
+use crate::entries::dword_in;
 use crate::fault::{Field, Kind, LineFault};
 use crate::reading::{at_least_one, maybe_at, number_at, one_at, only, value_at};
 use crate::views::{Completions, View};
+use nvme_arbiter::{Mechanism, Settings};
 use nvme_audit::{Start, Tells};
+use nvme_trace::{Head as Arbitration, mechanism_of};
 use serde_json::Value;
 
 /// The first line of a log.
@@ -21,6 +24,10 @@ pub struct Head {
     pub start: Start,
     /// Whether it tells the completions that the controller wrote.
     pub has_posts: bool,
+    /// The arbitration mechanism and its settings, where they are told.
+    pub arbitration: Option<Arbitration>,
+    /// Whether it tells the picks.
+    pub has_picks: bool,
 }
 
 // Whether a value is this text.
@@ -51,6 +58,7 @@ fn is_kind(value: &Value) -> bool
         || names(Kind::Complete, value)
         || names(Kind::Start, value)
         || names(Kind::Done, value)
+        || names(Kind::Pick, value)
 }
 
 // Whether each value is the name of a kind.
@@ -153,6 +161,57 @@ fn unread_in(line: &Value) -> Result<(), LineFault>
     at_least_one(Field::Mqes, maybe_at(line, Field::Mqes, 65_536)?)
 }
 
+// The mechanism where it is told.
+fn mechanism_in(line: &Value) -> Result<Option<Mechanism>, LineFault>
+    ensures { result ≡ mechanism_from (get (text_of Field.Mechanism) (view line.now)) }
+{
+    let Some(value) = line.get(Field::Mechanism.name()) else {
+        return Ok(None);
+    };
+    match mechanism_of(value) {
+        Ok(mechanism) => Ok(Some(mechanism)),
+        Err(_) => Err(LineFault::Bad(Field::Mechanism)),
+    }
+}
+
+// The mechanism with its settings, where they are told.
+fn arbitration_by(
+    mechanism: Option<Mechanism>,
+    cdw11: Option<u32>,
+) -> Result<Option<Arbitration>, LineFault>
+    ensures { result ≡ arbitration_by mechanism cdw11 }
+{
+    match (mechanism, cdw11) {
+        (None, None) => Ok(None),
+        (None, Some(_)) => Err(LineFault::Missing(Field::Mechanism)),
+        (Some(_), None) => Err(LineFault::Missing(Field::Settings)),
+        (Some(mechanism), Some(cdw11)) => Ok(Some(Arbitration {
+            mechanism,
+            settings: Settings::from_cdw11(cdw11),
+        })),
+    }
+}
+
+// What the head tells of arbitration.
+#[tactic(auto, unfolding(crate::specs::Heads::arbitration_in))]
+fn arbitration_in(line: &Value) -> Result<Option<Arbitration>, LineFault>
+    ensures { result ≡ arbitration_in (view line.now) }
+{
+    let mechanism = mechanism_in(line)?;
+    arbitration_by(mechanism, dword_in(line, Field::Settings)?)
+}
+
+// Whether all picks are told.
+fn picks_told(arbitration: &Option<Arbitration>, told: &[Value]) -> Result<bool, LineFault>
+    ensures { result ≡ picks_told arbitration.now (items_view told.now) }
+{
+    let has_picks = has_kind(Kind::Pick, told);
+    match arbitration {
+        None if has_picks => Err(LineFault::Missing(Field::Mechanism)),
+        _ => Ok(has_picks),
+    }
+}
+
 // The number of fields of a head.
 fn head_fields(line: &Value) -> usize
     ensures { result ≡ head_fields (view line.now) }
@@ -161,6 +220,8 @@ fn head_fields(line: &Value) -> usize
         + one_at(Field::End, line)
         + one_at(Field::Queues, line)
         + one_at(Field::Mqes, line)
+        + one_at(Field::Mechanism, line)
+        + one_at(Field::Settings, line)
 }
 
 // What is told, through a view.
@@ -188,6 +249,8 @@ pub(crate) fn head_in(through: &View, line: &Value) -> Result<Head, LineFault>
     let asqs = size_at(line, Field::Asq)?;
     let acqs = size_at(line, Field::Acq)?;
     unread_in(line)?;
+    let arbitration = arbitration_in(line)?;
+    let has_picks = picks_told(&arbitration, told)?;
     only(head_fields(line), line)?;
     Ok(Head {
         start: Start {
@@ -196,5 +259,7 @@ pub(crate) fn head_in(through: &View, line: &Value) -> Result<Head, LineFault>
             acqs,
         },
         has_posts: has_kind(Kind::Post, told),
+        arbitration,
+        has_picks,
     })
 }

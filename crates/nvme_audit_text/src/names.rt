@@ -2,10 +2,11 @@
 ghost use Rattle.std.specs.Prelude.{◌≡◌, ◌≢◌, None, IfSome, []};
 ghost use Rattle.std.specs.List.{All};
 ghost use Rattle.nvme_audit.specs.declared.facts.Start.{Start};
-ghost use Rattle.nvme_audit_text.specs.Names.{rule_text, all_rules, breach_text};
+ghost use Rattle.nvme_audit_text.specs.Names.{rule_text, all_rules, pick_rule_text, all_pick_rules, breach_text};
 ghost use Rattle.nvme_audit_text.specs.Audits.{asked_in};
 
 use nvme_audit::{Breach, Count, Rule};
+use nvme_trace::Rule as PickRule;
 
 // How many rules for the controller there are.
 pub(crate) const RULE_COUNT: usize = 17;
@@ -127,6 +128,46 @@ pub(crate) fn section_of(rule: Rule) -> &'static str {
         Rule::StatusCreate => "Create I/O Submission Queue, Create I/O Completion Queue",
         Rule::StatusDelete => "Delete I/O Submission Queue, Delete I/O Completion Queue",
         Rule::Features => "Number of Queues",
+    }
+}
+
+// The rules of arbitration, in the order in which they are told.
+const PICK_RULES: &[PickRule] = &[
+    PickRule::Candidates,
+    PickRule::Burst,
+    PickRule::Priority,
+    PickRule::Credit,
+    PickRule::Turn,
+];
+
+/// The name of a rule of arbitration.
+pub fn pick_rule_name(rule: PickRule) -> &'static str
+    ensures { result.now ≡ pick_rule_text rule }
+{
+    match rule {
+        PickRule::Candidates => "pick-candidates",
+        PickRule::Burst => "pick-burst",
+        PickRule::Priority => "pick-priority",
+        PickRule::Credit => "pick-credit",
+        PickRule::Turn => "pick-turn",
+    }
+}
+
+/// The rules of arbitration.
+pub fn pick_rules() -> &'static [PickRule]
+    ensures { result.now ≡ all_pick_rules }
+{
+    PICK_RULES
+}
+
+/// The section of a rule of arbitration.
+pub(crate) fn section_of_pick(rule: PickRule) -> &'static str {
+    match rule {
+        PickRule::Candidates | PickRule::Turn => "Command Arbitration",
+        PickRule::Burst => "Command Arbitration, Arbitration feature",
+        PickRule::Priority | PickRule::Credit => {
+            "Weighted Round Robin with Urgent Priority Class Arbitration"
+        }
     }
 }
 

@@ -7,9 +7,10 @@ use std::alloc::{AllocError, Global};
 // How many characters of a name or a value are shown.
 const SHOWN: usize = 40;
 
-const HEAD: &str = "log, tells, asq and acq, and by, end, queues and mqes where they are known";
+const HEAD: &str =
+    "log, tells, asq and acq, and by, end, queues, mqes, mechanism and cdw11 where they are known";
 
-const KINDS: &str = "tail, head, fetch, post, complete, start or done";
+const KINDS: &str = "tail, head, fetch, post, complete, start, done, pick or set";
 
 // The fields that a line of a kind may have.
 fn fields_of(kind: Kind) -> &'static [&'static str] {
@@ -26,7 +27,18 @@ fn fields_of(kind: Kind) -> &'static [&'static str] {
     }
 }
 
-const HEAD_FIELDS: &[&str] = &["log", "tells", "asq", "acq", "by", "end", "queues", "mqes"];
+const HEAD_FIELDS: &[&str] = &[
+    "log",
+    "tells",
+    "asq",
+    "acq",
+    "by",
+    "end",
+    "queues",
+    "mqes",
+    "mechanism",
+    "cdw11",
+];
 
 const EVENTS: &[Kind] = &[
     Kind::Tail,
@@ -41,16 +53,18 @@ fn wanted(field: Field) -> &'static str {
     match field {
         Field::Log => "1",
         Field::Tells => {
-            "an array of kinds: \"tail\", \"head\", \"fetch\", \"post\", \"complete\", \"start\", \"done\""
+            "an array of kinds: \"tail\", \"head\", \"fetch\", \"post\", \"complete\", \"start\", \"done\", \"pick\""
         }
         Field::Asq | Field::Acq => "a whole number of slots from 2 to 4096",
         Field::By => "a text",
         Field::End => "\"quiet\" or \"cut\"",
         Field::Queues | Field::Mqes => "a whole number from 1 to 65536",
+        Field::Mechanism => "\"round-robin\" or \"weighted\"",
         Field::Sqe => "128 hexadecimal digits",
         Field::Cqe => "32 hexadecimal digits",
         Field::Op => "a whole number from 0 to 255",
-        Field::Cdw10 | Field::Cdw11 | Field::Dw0 => "a whole number from 0 to 4294967295",
+        Field::Settings | Field::Cdw10 | Field::Cdw11 | Field::Dw0 =>
+            "a whole number from 0 to 4294967295",
         Field::Status => "a whole number from 0 to 32767",
         Field::Phase => "0 or 1",
         Field::Of(_) | Field::Slot | Field::Cid | Field::Sq | Field::Sqhd => {
@@ -210,6 +224,11 @@ pub(crate) fn event_note(
 ) -> Result<String, AllocError> {
     match fault {
         LineFault::Unknown => unknown_note(alloc, line, known_in(alloc, line)?),
+        LineFault::NoMechanism(_) => {
+            format!(in alloc; ": picks are judged where the head tells mechanism and cdw11")
+        }
+        LineFault::NotTold(Kind::Pick) => { format!(in alloc; ": a log tells all picks or none") }
+        LineFault::Arbitration(fault) => nvme_trace::event_note(alloc, line, fault),
         LineFault::NotTold(_) => {
             format!(in alloc; ": completions are told by post, all of them, or by complete")
         }

@@ -37,6 +37,8 @@ pub struct View {
     pub phases: bool,
     /// Whether SQHD is looked at.
     pub sq_heads: bool,
+    /// Whether picks are looked at.
+    pub picks: bool,
 }
 
 impl View {
@@ -55,10 +57,11 @@ impl View {
             post_slots: true,
             phases: true,
             sq_heads: true,
+            picks: true,
         }
     }
 
-    /// What an observer sees of it. The host doesn't see when an entry is fetched, nor from where.
+    /// What an observer sees of it: no picks. The host doesn't see when an entry is fetched, nor from where.
     pub fn of(observer: Observer) -> View
         ensures { result ≡ view_of observer }
     {
@@ -66,12 +69,14 @@ impl View {
         match observer {
             Observer::Bus => View {
                 completions: Completions::Posts,
+                picks: false,
                 ..whole
             },
             Observer::Host => View {
                 completions: Completions::Reads,
                 tails: false,
                 fetch_slots: false,
+                picks: false,
                 ..whole
             },
         }

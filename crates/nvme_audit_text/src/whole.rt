@@ -12,11 +12,14 @@ ghost use Rattle.nvme_audit_text.specs.Audits.{added, is_host, most_told};
 ghost use Rattle.nvme_audit_text.specs.WholeAudits.{told_if, told_at, most_broken, AreTold, asked_whole, IsWholeAudit, IsWholeFault};
 ghost use Rattle.nvme_audit_text.specs.inside.Steps.{IsOther, GoesOn};
 
-use crate::audit::{Finding, MOST_TOLD, fault_of, head_in_text, keep_first, one_more, said_next};
+use crate::audit::{
+    Broken, Finding, MOST_TOLD, fault_of, head_in_text, keep_first, one_more, said_next,
+};
 use crate::facts::Facts;
 use crate::fault::LogError;
 use crate::head::Head;
 use crate::names::{RULE_COUNT, none_asked};
+use crate::picks::{PickFinding, ToldPicks, WholePicks, arbitration_of};
 use crate::views::View;
 use nvme_audit::{Count, Event, Start, Verdict, WholeJudge, count_asked};
 use nvme_lines::NumberedLines;
@@ -45,8 +48,85 @@ pub struct WholeAudit {
     pub broken: Told,
     /// Those of the host, of which the first ten are kept.
     pub host: Told,
-    /// Of each rule for the controller, how often it asked something.
+    /// Of each rule for the controller but those of arbitration, how often it asked something.
     pub asked: [Count; RULE_COUNT],
+    /// The picks that break a rule of arbitration, the first 1,000 of them. After each nothing is said of picks until the
+    /// settings change.
+    pub unlawful: ToldPicks,
+    /// How many picks were judged: each of the rules of arbitration asked something of each.
+    pub picks: u64,
+}
+
+/// A place among the breaches of the controller that are told, by their lines.
+#[derive(Clone, Copy)]
+pub struct Place {
+    broken: usize,
+    unlawful: usize,
+}
+
+impl Place {
+    /// That of the first one.
+    pub const fn first() -> Place {
+        Place {
+            broken: 0,
+            unlawful: 0,
+        }
+    }
+
+    // The earlier one of two breaches, and the place behind it.
+    fn earlier(
+        self,
+        finding: Option<Finding>,
+        unlawful: Option<PickFinding>,
+    ) -> Option<(Broken, Place)> {
+        let Some(unlawful) = unlawful else {
+            let finding = finding?;
+            return Some((Broken::OfQueues(finding), self.behind_broken()));
+        };
+        if let Some(finding) = finding
+            && finding.line <= unlawful.line
+        {
+            return Some((Broken::OfQueues(finding), self.behind_broken()));
+        }
+        Some((Broken::OfArbitration(unlawful), self.behind_unlawful()))
+    }
+
+    // Behind a breach of queues.
+    fn behind_broken(self) -> Place {
+        Place {
+            broken: self.broken.saturating_add(1),
+            ..self
+        }
+    }
+
+    // Behind one of arbitration.
+    fn behind_unlawful(self) -> Place {
+        Place {
+            unlawful: self.unlawful.saturating_add(1),
+            ..self
+        }
+    }
+}
+
+impl WholeAudit {
+    /// The breach of the controller at a place, and the next place. `None` behind the last one.
+    pub fn broken_at(&self, at: Place) -> Option<(Broken, Place)> {
+        let finding = self.broken.first.get(at.broken).copied();
+        let unlawful = self.unlawful.first.get(at.unlawful).copied();
+        at.earlier(finding, unlawful)
+    }
+
+    /// How many breaches of the controller are told.
+    pub fn told(&self) -> usize {
+        let told = self.broken.first.len();
+        told.saturating_add(self.unlawful.first.len())
+    }
+
+    /// How many more there are.
+    pub fn untold(&self) -> u64 {
+        let count = self.broken.count.saturating_add(self.unlawful.count);
+        count.saturating_sub(self.told() as u64)
+    }
 }
 
 // A judge, and what it told so far.
@@ -171,11 +251,13 @@ impl WholeAuditor {
     }
 
     // The answer after the lines so far.
-    fn answer(self, lines: u64) -> WholeAudit
+    fn answer(self, lines: u64, picks: WholePicks) -> WholeAudit
         ensures lines { result.lines ≡ lines }
         ensures broken { result.broken ≡ self.broken }
         ensures host { result.host ≡ self.host }
         ensures asked { result.asked ≡ self.asked }
+        ensures unlawful { result.unlawful ≡ picks.unlawful }
+        ensures picks { result.picks ≡ picks.judged }
     {
         let asked = self.asked;
         WholeAudit {
@@ -183,6 +265,8 @@ impl WholeAuditor {
             broken: self.broken,
             host: self.host,
             asked,
+            unlawful: picks.unlawful,
+            picks: picks.judged,
         }
     }
 }
@@ -217,11 +301,13 @@ fn audited<R: Read>(
     ensures fault { IfErr result (λ e. (text : List ℕ) → TakesTold (λ line. head_of_line through.now line ≡ Ok head.now) 0 (Some text) lines.old.number lines.old.rest → IsWholeFault through.now text e) }
 {
     let mut auditor = WholeAuditor::new(alloc, head.start);
+    let mut picks = WholePicks::new(alloc, arbitration_of(head));
     for _ in 1..u64::MAX {
         let Some(said) = said_next(alloc, through, head, lines)? else {
-            return Ok(auditor.answer(lines.number()));
+            return Ok(auditor.answer(lines.number(), picks));
         };
-        auditor.note(lines.number(), said)?;
+        auditor.note(lines.number(), said.event())?;
+        picks.note(lines.number(), &said)?;
     }
     Err(LogError::Read)
 }

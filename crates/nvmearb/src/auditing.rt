@@ -5,7 +5,7 @@ use crate::noted::{Noted, Notes};
 use crate::telling::{failed, no_memory, unwritten};
 use nvme_audit_text::{
     Audit, Count, LogError, Observer, Rule, View, WholeAudit, audit_log, audit_whole_log,
-    rule_name, rule_named, rules,
+    pick_rule_name, pick_rules, rule_name, rule_named, rules,
 };
 use nvme_sim::AuditWords;
 use std::alloc::Global;
@@ -45,6 +45,21 @@ impl Choice {
         without.leave_out(rule);
         matches!(self, Choice::Only) || without != View::whole()
     }
+
+    // Whether it may have this name of a rule. Those of arbitration can't be left out.
+    fn may_have(self, name: &str) -> bool {
+        match rule_named(name) {
+            Some(rule) => self.may_name(rule),
+            None => matches!(self, Choice::Only) && is_pick_rule(name),
+        }
+    }
+}
+
+// Whether a name is that of a rule of arbitration.
+fn is_pick_rule(name: &str) -> bool {
+    pick_rules()
+        .iter()
+        .any(|rule| pick_rule_name(*rule) == name)
 }
 
 // Whether a rule is among these names.
@@ -54,7 +69,7 @@ fn is_among(rule: Rule, names: &str) -> bool {
 
 // The first of these names that is none of a rule which the option may name.
 fn unfit_in(choice: Choice, names: &str) -> Option<&str> {
-    names.split(',').find(|name| !rule_named(name).is_some_and(|rule| choice.may_name(rule)))
+    names.split(',').find(|name| !choice.may_have(name))
 }
 
 // Writes that an option has another value. The answer is the exit status.
@@ -65,17 +80,16 @@ fn unfit<E: Write>(option: &str, value: &str, wanted: &str, errors: &mut E) -> u
     BAD_LINE
 }
 
-// Writes the name of a rule behind this text, where an option may name it. The answer stands before the next name.
+// Writes the name of a rule behind this text, where an option may have it. The answer stands before the next name.
 fn put_rule<E: Write>(
     choice: Choice,
-    rule: Rule,
+    name: &str,
     before: &'static str,
     errors: &mut E,
 ) -> &'static str {
-    if !choice.may_name(rule) {
+    if !choice.may_have(name) {
         return before;
     }
-    let name = rule_name(rule);
     let _ = write!(errors, "{before}{name}");
     ", "
 }
@@ -88,7 +102,10 @@ fn no_rule<E: Write>(choice: Choice, name: &str, errors: &mut E) -> u8
     let _ = write!(errors, "nvmearb: {option} {name:?}: expected rules of");
     let mut before = " ";
     for rule in rules() {
-        before = put_rule(choice, *rule, before, errors);
+        before = put_rule(choice, rule_name(*rule), before, errors);
+    }
+    for rule in pick_rules() {
+        before = put_rule(choice, pick_rule_name(*rule), before, errors);
     }
     let _ = writeln!(errors);
     BAD_LINE
@@ -120,21 +137,29 @@ fn view_of<E: Write>(line: &AuditWords, errors: &mut E) -> Result<View, u8>
     Ok(view)
 }
 
-// Writes how often a rule asked something.
-fn put_count<W: Write>(count: &Count, output: &mut W) -> io::Result<()> {
-    let (name, times) = (rule_name(count.rule), count.times);
+// Writes how often the rule of a name asked something.
+fn put_times<W: Write>(name: &str, times: u64, output: &mut W) -> io::Result<()> {
     match times {
         0 => writeln!(output, "coverage: {name}: never"),
         _ => writeln!(output, "coverage: {name}: {times}"),
     }
 }
 
-// Writes how often each rule asked something, where that is wanted.
-fn put_counts<W: Write>(counts: &[Count], coverage: bool, output: &mut W) -> io::Result<()> {
-    if coverage {
-        for count in counts {
-            put_count(count, output)?;
-        }
+// Writes how often each rule asked something, where that is wanted: those of arbitration of each pick that was judged.
+fn put_counts<W: Write>(
+    counts: &[Count],
+    picks: u64,
+    coverage: bool,
+    output: &mut W,
+) -> io::Result<()> {
+    if !coverage {
+        return Ok(());
+    }
+    for count in counts {
+        put_times(rule_name(count.rule), count.times, output)?;
+    }
+    for rule in pick_rules() {
+        put_times(pick_rule_name(*rule), picks, output)?;
     }
     Ok(())
 }
@@ -142,13 +167,13 @@ fn put_counts<W: Write>(counts: &[Count], coverage: bool, output: &mut W) -> io:
 // Writes what was found.
 fn put_audit<W: Write>(audit: &Audit, coverage: bool, output: &mut W) -> io::Result<()> {
     writeln!(output, "{audit}")?;
-    put_counts(&audit.asked, coverage, output)
+    put_counts(&audit.asked, audit.picks, coverage, output)
 }
 
 // Writes what was found where all breaches are told.
 fn put_whole_audit<W: Write>(audit: &WholeAudit, coverage: bool, output: &mut W) -> io::Result<()> {
     writeln!(output, "{audit}")?;
-    put_counts(&audit.asked, coverage, output)
+    put_counts(&audit.asked, audit.picks, coverage, output)
 }
 
 // The exit status of an answer that was written, or not.
@@ -244,9 +269,9 @@ fn all_audited_from<R: Read + Drop, W: Write, E: Write>(
     match audit_whole_log(alloc, view, input) {
         Ok(audit) => {
             let written = put_whole_audit(&audit, coverage, output);
-            let (broken, host) = (audit.broken.count, audit.host.count);
+            let is_broken = audit.broken.count > 0 || audit.unlawful.count > 0;
             AuditOutcome {
-                status: status_of(written, broken > 0, host, errors),
+                status: status_of(written, is_broken, audit.host.count, errors),
                 whole: Some(audit),
             }
         }

@@ -1,7 +1,7 @@
 // Checks of several traces, audits of several logs, and their answers for other programs.
 use crate::kept::Kept;
 use crate::telling::subcommand;
-use nvme_audit_text::{Finding, Told, Verdict, WholeAudit, rule_name};
+use nvme_audit_text::{Broken, Place, Told, Verdict, WholeAudit, pick_rule_name, rule_name};
 use std::alloc::{AllocError, Global};
 use std::io::{self, Write};
 
@@ -199,14 +199,6 @@ impl Judged {
         }
     }
 
-    // The breaches of the controller that are told one by one.
-    fn broken(&self) -> &[Finding] {
-        match &self.whole {
-            Some(whole) => whole.broken.first.as_slice(),
-            None => &[],
-        }
-    }
-
     // A fault was told, and there is no answer.
     fn is_fault(&self) -> bool {
         !matches!(self.answer.answer(), Some(answer) if !answer.is_empty())
@@ -275,25 +267,38 @@ fn put_lines<W: Write>(text: &[u8], output: &mut W) -> io::Result<()> {
 
 // Writes a breach of the controller as an object of JSON, behind this text. The answer stands before the next one.
 fn put_breach<W: Write>(
-    finding: &Finding,
+    broken: &Broken,
     before: &'static [u8],
     output: &mut W,
 ) -> io::Result<&'static [u8]> {
-    let Verdict::Broken(rule) = finding.said else {
-        return Ok(before);
+    let name = match broken {
+        Broken::OfQueues(finding) => {
+            let Verdict::Broken(rule) = finding.said else {
+                return Ok(before);
+            };
+            rule_name(rule)
+        }
+        Broken::OfArbitration(finding) => pick_rule_name(finding.breach.rule),
     };
-    let (line, name) = (finding.line, rule_name(rule));
+    let line = broken.line();
     output.write_all(before)?;
     write!(output, "{{\"line\":{line},\"rule\":\"{name}\"}}")?;
     Ok(b",")
 }
 
 // Writes the breaches of the controller as an array of JSON.
-fn put_breaches<W: Write>(findings: &[Finding], output: &mut W) -> io::Result<()> {
+fn put_breaches<W: Write>(whole: &Option<WholeAudit>, output: &mut W) -> io::Result<()> {
     let mut before: &'static [u8] = b"";
     output.write_all(b",\"breaches\":[")?;
-    for finding in findings {
-        before = put_breach(finding, before, output)?;
+    if let Some(whole) = whole {
+        let mut at = Place::first();
+        for _ in 0..whole.told() {
+            let Some((broken, next)) = whole.broken_at(at) else {
+                break;
+            };
+            before = put_breach(&broken, before, output)?;
+            at = next;
+        }
     }
     output.write_all(b"]")
 }
@@ -312,7 +317,7 @@ pub(crate) fn put_json<W: Write>(answers: &[Judged], output: &mut W) -> io::Resu
         )?;
         put_lines(judged.text(), output)?;
         if judged.tells_all {
-            put_breaches(judged.broken(), output)?;
+            put_breaches(&judged.whole, output)?;
         }
         output.write_all(b"}")?;
         before = ",";
@@ -381,25 +386,44 @@ impl<W: Write> Write for Escaped<'_, W> {
 }
 
 // Writes a breach as a failure, which isn't ended.
-fn put_failure<W: Write>(kind: &str, finding: &Finding, output: &mut W) -> io::Result<()> {
+fn put_failure<W: Write>(kind: &str, breach: &Broken, output: &mut W) -> io::Result<()> {
     write!(output, "<failure message=\"{kind}\">")?;
     let mut escaped = Escaped { output };
-    write!(escaped, "{finding}")
+    write!(escaped, "{breach}")
 }
 
-// Writes each breach as a failure, and in the last one how many more there are.
-fn put_failures<W: Write>(kind: &str, breaches: &Told, output: &mut W) -> io::Result<()> {
-    let mut end = "";
-    for finding in &breaches.first {
-        output.write_all(end.as_bytes())?;
-        put_failure(kind, finding, output)?;
-        end = "</failure>";
-    }
-    let more = breaches.count.saturating_sub(breaches.first.len() as u64);
+// Ends the last failure of a kind, behind how many more there are.
+fn end_failures<W: Write>(kind: &str, more: u64, end: &str, output: &mut W) -> io::Result<()> {
     if more > 0 {
         write!(output, "\n{kind}: and {more} more")?;
     }
     output.write_all(end.as_bytes())
+}
+
+// Writes each breach of the controller as a failure.
+fn put_broken_failures<W: Write>(whole: &WholeAudit, output: &mut W) -> io::Result<()> {
+    let (mut end, mut at) = ("", Place::first());
+    for _ in 0..whole.told() {
+        let Some((broken, next)) = whole.broken_at(at) else {
+            break;
+        };
+        output.write_all(end.as_bytes())?;
+        put_failure("broken", &broken, output)?;
+        (end, at) = ("</failure>", next);
+    }
+    end_failures("broken", whole.untold(), end, output)
+}
+
+// Writes each breach of the host that is told as a failure.
+fn put_host_failures<W: Write>(hosts: &Told, output: &mut W) -> io::Result<()> {
+    let mut end = "";
+    for finding in &hosts.first {
+        output.write_all(end.as_bytes())?;
+        put_failure("host", &Broken::OfQueues(*finding), output)?;
+        end = "</failure>";
+    }
+    let more = hosts.count.saturating_sub(hosts.first.len() as u64);
+    end_failures("host", more, end, output)
 }
 
 // Writes the answer to one file as a test case.
@@ -412,8 +436,8 @@ fn put_case<W: Write>(judged: &Judged, output: &mut W) -> io::Result<()> {
     }
     if let Some(whole) = &judged.whole {
         output.write_all(b"\">")?;
-        put_failures("broken", &whole.broken, output)?;
-        put_failures("host", &whole.host, output)?;
+        put_broken_failures(whole, output)?;
+        put_host_failures(&whole.host, output)?;
         return output.write_all(b"</testcase>\n");
     }
     let kind = if judged.is_fault() {

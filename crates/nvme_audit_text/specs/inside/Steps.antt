@@ -1,8 +1,14 @@
 -- One line more of an audit.
-use Rattle.std.specs.Prelude.{◌≡◌, ◌≢◌, ◌⊎◌, ℕ, ◌+◌, true, List, [], ◌∷◌, length, take, Option, Some, None, Err, MatchBool}
+use Rattle.std.specs.Prelude.{◌≡◌, ◌≢◌, ◌⊎◌, ℕ, ◌+◌, Bool, true, false, List, [], ◌∷◌, length, take, Option, Some, None, Err, MatchBool}
 use Rattle.nvme_lines.specs.Lines.{lines_of, numbered, StartsTold}
 use Rattle.nvme_lines.specs.declared.lines.NextError.{NextError}
 use Rattle.nvme_lines.specs.declared.lines.NextError.TheVariants as next
+use Rattle.nvme_arbiter.specs.History.{ArbitrationEvent, Picked, Changed, History}
+use Rattle.nvme_arbiter.specs.declared.settings.Mechanism.{Mechanism}
+use Rattle.nvme_judge.specs.Standing.{JudgeView, JudgeStandsAt}
+use Rattle.nvme_judge.specs.Turns.{picks_in}
+use Rattle.nvme_trace.specs.Bases.{IsSpecifiedEvent, IsBreach}
+use Rattle.nvme_trace.specs.declared.records.Head.{Head as Arbitration}
 use Rattle.nvme_audit.specs.declared.event.Event.{Event}
 use Rattle.nvme_audit.specs.declared.facts.Start.{Start}
 use Rattle.nvme_audit.specs.declared.judge.Judge.{Judge}
@@ -18,7 +24,11 @@ use Rattle.nvme_audit_text.specs.declared.views.View.{View}
 use Rattle.nvme_audit_text.specs.declared.head.Head.{Head}
 use Rattle.nvme_audit_text.specs.declared.audit.Finding.{Finding}
 use Rattle.nvme_audit_text.specs.declared.audit.Auditor.{Auditor}
-use Rattle.nvme_audit_text.specs.Format.{head_of_line, event_of_line}
+use Rattle.nvme_audit_text.specs.declared.picks.PickFinding.{PickFinding}
+use Rattle.nvme_audit_text.specs.declared.picks.PickAuditor.{PickAuditor}
+use Rattle.nvme_audit_text.specs.declared.picks.WholePicks.{WholePicks}
+use Rattle.nvme_audit_text.specs.Format.{Heard, OfArbitration, head_of_line, event_of_line}
+use Rattle.nvme_audit_text.specs.Picks.{arbitration_of, IsAllowed, IsAllowedBefore, Span, PicksSaid, SaysOf, AreToldPicks, IsSaidBefore}
 use Rattle.nvme_audit_text.specs.declared.whole.WholeAuditor.{WholeAuditor}
 use Rattle.nvme_audit_text.specs.Audits.{IsLawfulBefore, facts_of, host_breaches, most_told, asked_in}
 use Rattle.nvme_audit_text.specs.WholeAudits.{most_broken, AreTold, asked_whole, IsJudgedBefore}
@@ -115,3 +125,64 @@ pub record IsJudgedUpTo (view : View) (text rest : List ℕ) (number : ℕ) (hea
 abbrev pub JudgedUpTo : View → List ℕ → Option (List ℕ) → ℕ → Head → WholeAuditor → Type 0
 JudgedUpTo view text None number head auditor = ⊥
 JudgedUpTo view text (Some rest) number head auditor = IsJudgedUpTo view text rest number head auditor
+
+-- ---- picks
+-- an auditor of picks stands at a history, of which the specification allows each pick
+pub record PicksAt (arbitration : Arbitration) (past : History) (auditor : PickAuditor) : Type 0 where
+  pub stands : JudgeStandsAt arbitration.mechanism arbitration.settings [] past auditor.judge
+  pub allowed : IsAllowed arbitration past
+  pub judged : auditor.judged ≡ picks_in past
+
+-- a judge took an event that it allows
+pub record IsKeptEvent (arbitration : Arbitration) (past : History) (event : ArbitrationEvent) (judge : JudgeView) : Type 0 where
+  pub stands : JudgeStandsAt arbitration.mechanism arbitration.settings [] (event ∷ past) judge
+  pub allowed : IsSpecifiedEvent arbitration past event
+
+-- what is told of a pick that it doesn't allow
+pub record IsPickFinding (arbitration : Arbitration) (past : History) (line : ℕ) (event : ArbitrationEvent) (finding : PickFinding) : Type 0 where
+  pub line_is : finding.line ≡ line
+  pub breach_is : IsBreach arbitration past event finding.breach
+
+-- it is that of this line
+abbrev pub IsUnlawful : Arbitration → History → ℕ → Heard → PickFinding → Type 0
+IsUnlawful arbitration past line said finding = (event : ArbitrationEvent) × (said ≡ OfArbitration event) × IsPickFinding arbitration past line event finding
+
+-- it stands where this many lines were read
+pub record IsAllowedUpTo (view : View) (text rest : List ℕ) (number : ℕ) (head : Head) (auditor : PickAuditor) : Type 0 where
+  pub past : History
+  pub before : IsAllowedBefore view text (numbered number (lines_of rest)) head past
+  pub at : PicksAt (arbitration_of head) past auditor
+
+abbrev pub AllowedUpTo : View → List ℕ → Option (List ℕ) → ℕ → Head → PickAuditor → Type 0
+AllowedUpTo view text None number head auditor = ⊥
+AllowedUpTo view text (Some rest) number head auditor = IsAllowedUpTo view text rest number head auditor
+
+-- ---- the picks of a whole log
+-- where picks are judged, the judge stands at the span
+abbrev pub SpanIs : Mechanism → Option Span → Bool → JudgeView → Type 0
+SpanIs mechanism None let_go judge = let_go ≡ true
+SpanIs mechanism (Some span) let_go judge = (let_go ≡ false) × JudgeStandsAt mechanism span.settings [] span.past judge
+
+-- an auditor that goes on, where this was said of the picks
+pub record PicksGoOn (mechanism : Mechanism) (said : PicksSaid) (auditor : WholePicks) : Type 0 where
+  pub mechanism_is : auditor.mechanism ≡ mechanism
+  pub span : SpanIs mechanism said.span auditor.is_let_go auditor.judge
+  pub found_are : AreToldPicks most_broken said.found auditor.unlawful
+  pub judged_are : auditor.judged ≡ said.judged
+
+-- it goes on with an event more, of the line of this number
+abbrev pub GoesOnWith : Mechanism → ℕ → Option ArbitrationEvent → PicksSaid → WholePicks → Type 0
+GoesOnWith mechanism line event said auditor = (next : PicksSaid) × SaysOf mechanism line event said next × PicksGoOn mechanism next auditor
+
+abbrev pub IsPick : ArbitrationEvent → Type 0
+IsPick (Picked seen pick) = Unit {0}
+IsPick (Changed settings) = ⊥
+
+pub record IsSaidUpTo (view : View) (text rest : List ℕ) (number : ℕ) (head : Head) (auditor : WholePicks) : Type 0 where
+  pub said : PicksSaid
+  pub before : IsSaidBefore view text (numbered number (lines_of rest)) head said
+  pub at : PicksGoOn (arbitration_of head).mechanism said auditor
+
+abbrev pub SaidUpTo : View → List ℕ → Option (List ℕ) → ℕ → Head → WholePicks → Type 0
+SaidUpTo view text None number head auditor = ⊥
+SaidUpTo view text (Some rest) number head auditor = IsSaidUpTo view text rest number head auditor

@@ -1,6 +1,7 @@
 use Rattle.std.proofs.Common.{refl}
+use Rattle.nvme_arbiter.specs.declared.specified.Rule.TheVariants as pick_rule
 use Rattle.nvme_audit.specs.declared.verdict.Rule.TheVariants as rule
-use Rattle.nvme_audit_text.specs.Laws.{EachRuleStands}
+use Rattle.nvme_audit_text.specs.Laws.{EachRuleStands, EachPickRuleStands}
 use Rattle.nvme_audit_text.proofs.laws.each_rule_stands.Goals as goal
 
 stands : EachRuleStands
@@ -22,5 +23,15 @@ stands rule.StatusCreate = (14, refl)
 stands rule.StatusDelete = (15, refl)
 stands rule.Features = (16, refl)
 
-pub returns : goal.returns
-returns c = stands
+picks_stand : EachPickRuleStands
+picks_stand pick_rule.Candidates = (0, refl)
+picks_stand pick_rule.Burst = (1, refl)
+picks_stand pick_rule.Priority = (2, refl)
+picks_stand pick_rule.Credit = (3, refl)
+picks_stand pick_rule.Turn = (4, refl)
+
+pub returns-clause-queues : goal.returns-clause-queues
+returns-clause-queues c = stands
+
+pub returns-clause-picks : goal.returns-clause-picks
+returns-clause-picks c = picks_stand
