@@ -1,4 +1,5 @@
 pub mod Begun
+pub mod Bits
 pub mod Idle
 pub mod OneByOne
 pub mod Order

@@ -5,3 +5,4 @@ pub mod Laws
 pub mod Reaches
 pub mod Runs
 pub mod Steps
+pub mod inside

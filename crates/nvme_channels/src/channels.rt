@@ -1,9 +1,11 @@
 // The channels of a device, and the commands that it has.
-ghost use Rattle.std.specs.Prelude.{◌≡◌, ◌≤◌, ◌<◌, [], ◌∷◌, ◌++◌, All, IfErr, IfOk, IfSome, OnOk, count_by, length, position, slice_set, vec_capacity, vec_len};
+ghost use Rattle.std.specs.Prelude.{◌≡◌, ◌≤◌, ◌<◌, [], ◌∷◌, ◌++◌, All, IfErr, IfOk, IfSome, OnOk, count_by, length, map, position, slice_set, vec_capacity, vec_len};
 ghost use Rattle.nvme_channels.specs.Channel.{begun, is_idle};
 ghost use Rattle.nvme_channels.specs.declared.channels.TheConstants.{MAX_CHANNELS};
+ghost use Rattle.nvme_channels.specs.inside.Marks.{marks_of};
 
 use crate::channel::{Channel, StepFault};
+use crate::marks::Marks;
 use crate::placement::{Placement, Reach};
 use std::alloc::Global;
 use thiserror::Error;
@@ -63,11 +65,14 @@ pub struct Channels {
     depth: u16,
     channels: Vec<Channel>,
     waiting: Vec<Waiting>,
+    // Which channels are idle.
+    idle: Marks,
     // How many channels run a command.
     running: usize,
     ghost some: { 0 < vec_len channels },
     ghost worked: { All (λ c. c.busy ≤ c.ends) channels.items },
     ghost counted: { running ≡ count_by (λ c. c.running) channels.items },
+    ghost marked: { marks_of idle ≡ map is_idle channels.items },
     ghost reserved: { depth ≤ vec_capacity waiting },
 }
 
@@ -105,12 +110,16 @@ impl Channels {
         let Ok(channels) = vec![in alloc; idle; count] else {
             return Err(ChannelsFault::Memory);
         };
+        let Ok(idle) = Marks::new(alloc, count) else {
+            return Err(ChannelsFault::Memory);
+        };
         match Vec::with_capacity(alloc, usize::from(depth)) {
             Ok(waiting) => Ok(Channels {
                 placement,
                 depth,
                 channels,
                 waiting,
+                idle,
                 running: 0,
             }),
             Err(_) => Err(ChannelsFault::Memory),
@@ -146,6 +155,9 @@ impl Channels {
         ensures value { result ≡ idle_in (device_of self.now).channels reach }
         ensures within { IfSome result (λ k. k < length (device_of self.now).channels) }
     {
+        if reach.first == 0 && reach.end == self.channels.len() {
+            return self.idle.first();
+        }
         match first_idle(&self.channels[reach.first..reach.end]) {
             Some(place) => Some(reach.first + place),
             None => None,
@@ -180,6 +192,7 @@ impl Channels {
     {
         let others = self.running - self.channels[channel].running as usize;
         self.running = others + becomes.running as usize;
+        self.idle.put(channel, becomes.is_idle());
         self.channels[channel] = becomes;
     }
 

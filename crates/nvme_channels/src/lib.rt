@@ -5,6 +5,7 @@
 mod channel;
 mod channels;
 pub mod laws;
+mod marks;
 mod placement;
 
 pub use channel::{Channel, StepFault};

@@ -74,6 +74,30 @@ fn worked_stripes(rt: HostRuntime) -> Result<(), Fail> {
     Ok(())
 }
 
+// Commands run on the first channel that is idle, also beyond the 64th.
+#[test]
+fn many_channels(rt: HostRuntime) -> Result<(), Fail> {
+    let mut device = Channels::new(rt.alloc(), 130, Placement::Pool, 130)?;
+    for k in 0..130 {
+        assert_eq!(rt; device.take(0, k as u64, 0, 80), started(k as u64, k, 80));
+    }
+    assert_eq!(rt; device.take(0, 130, 0, 80), Err(StepFault::NoRoom));
+    for k in [129, 64, 63, 127] {
+        assert_eq!(rt; device.finish(80, k), Ok(None));
+    }
+    assert_eq!(rt; device.pause(64), Ok(()));
+    assert_eq!(rt; device.take(80, 131, 0, 80), started(131, 63, 160));
+    assert_eq!(rt; device.take(80, 132, 0, 80), started(132, 127, 160));
+    assert_eq!(rt; device.resume(80, 64), Ok(None));
+    assert_eq!(rt; device.take(80, 133, 0, 80), started(133, 64, 160));
+    assert_eq!(rt; device.take(80, 134, 0, 80), started(134, 129, 160));
+    assert_eq!(rt; device.pause(129), Ok(()));
+    assert_eq!(rt; device.finish(160, 129), Ok(None));
+    assert_eq!(rt; device.take(160, 135, 0, 80), Ok(None));
+    assert_eq!(rt; device.resume(170, 129), started(135, 129, 250));
+    Ok(())
+}
+
 // Regular commands each 100 picoseconds of 80 on one channel: none waits.
 #[test]
 fn regular_commands_do_not_wait(rt: HostRuntime) -> Result<(), Fail> {
