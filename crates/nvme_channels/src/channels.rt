@@ -1,5 +1,6 @@
 // The channels of a device, and the commands that it has.
-ghost use Rattle.std.specs.Prelude.{◌≡◌, ◌≤◌, ◌<◌, [], ◌∷◌, ◌++◌, All, IfErr, IfOk, IfSome, OnOk, count_by, length, map, position, slice_set, vec_capacity, vec_len};
+ghost use Rattle.std.specs.Prelude.{◌≡◌, ◌≤◌, ◌<◌, [], ◌∷◌, ◌++◌, All, IfErr, IfOk, IfSome, OnOk, count_by, length, map, position, slice_set, vec_len};
+ghost use Rattle.std.specs.VecDeque.{deque_capacity};
 ghost use Rattle.nvme_channels.specs.Channel.{begun, is_idle};
 ghost use Rattle.nvme_channels.specs.declared.channels.TheConstants.{MAX_CHANNELS};
 ghost use Rattle.nvme_channels.specs.inside.Marks.{marks_of};
@@ -8,6 +9,7 @@ use crate::channel::{Channel, StepFault};
 use crate::marks::Marks;
 use crate::placement::{Placement, Reach};
 use std::alloc::Global;
+use std::collections::VecDeque;
 use thiserror::Error;
 
 /// The most channels of a device.
@@ -64,7 +66,7 @@ pub struct Channels {
     placement: Placement,
     depth: u16,
     channels: Vec<Channel>,
-    waiting: Vec<Waiting>,
+    waiting: VecDeque<Waiting>,
     // Which channels are idle.
     idle: Marks,
     // How many channels run a command.
@@ -73,7 +75,7 @@ pub struct Channels {
     ghost worked: { All (λ c. c.busy ≤ c.ends) channels.items },
     ghost counted: { running ≡ count_by (λ c. c.running) channels.items },
     ghost marked: { marks_of idle ≡ map is_idle channels.items },
-    ghost reserved: { depth ≤ vec_capacity waiting },
+    ghost reserved: { depth ≤ deque_capacity waiting },
 }
 
 impl Channels {
@@ -113,7 +115,7 @@ impl Channels {
         let Ok(idle) = Marks::new(alloc, count) else {
             return Err(ChannelsFault::Memory);
         };
-        match Vec::with_capacity(alloc, usize::from(depth)) {
+        match VecDeque::with_capacity(alloc, usize::from(depth)) {
             Ok(waiting) => Ok(Channels {
                 placement,
                 depth,
@@ -134,8 +136,8 @@ impl Channels {
     }
 
     /// The commands that wait, in the order in which they came.
-    pub fn waiting(&self) -> &[Waiting]
-        ensures { result.now ≡ (device_of self.now).waiting }
+    pub fn waiting(&self) -> &VecDeque<Waiting>
+        ensures { result.now.items ≡ (device_of self.now).waiting }
     {
         &self.waiting
     }
@@ -248,7 +250,7 @@ impl Channels {
         requires room { 0 < room_of (device_of self.old) }
         ensures { device_of self.new ≡ with_content (device_of self.old) (device_of self.old).channels ((device_of self.old).waiting ++ command ∷ []) }
     {
-        self.waiting.push_reserved(command);
+        self.waiting.push_back_reserved(command);
     }
 
     /// Takes a command that begins at this block and runs so many picoseconds. It starts now, on the first idle channel of
