@@ -13,16 +13,16 @@ use std::collections::VecDeque;
 use thiserror::Error;
 
 /// The most channels of a device.
-pub const MAX_CHANNELS: usize = 4_096;
+pub const MAX_CHANNELS: usize = 65_535;
 
 /// Why there is no such device.
 #[derive(Clone, Copy, Debug, PartialEq, Eq, Error)]
 pub enum ChannelsFault {
     /// It has no channel.
-    #[error("expected 1 to 4,096 channels")]
+    #[error("expected 1 to 65,535 channels")]
     NoChannels,
-    /// It has more than 4,096 channels.
-    #[error("expected 1 to 4,096 channels")]
+    /// It has more than 65,535 channels.
+    #[error("expected 1 to 65,535 channels")]
     TooManyChannels,
     /// It has no command at a time.
     #[error("expected a depth above 0")]

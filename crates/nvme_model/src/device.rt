@@ -7,8 +7,8 @@ ghost use Rattle.nvme_channels.specs.declared.channels.TheConstants.{MAX_CHANNEL
 use nvme_channels::{MAX_CHANNELS, Placement};
 use thiserror::Error;
 
-/// The most commands that a device has at a time: the controller has no more that are picked and not posted.
-pub const MAX_DEPTH: u16 = 256;
+/// The most commands that a device has at a time.
+pub const MAX_DEPTH: u16 = 4_095;
 
 /// Why pauses are refused.
 #[derive(Clone, Copy, Debug, PartialEq, Eq, Error)]
@@ -53,11 +53,11 @@ impl Pauses {
 /// Why there is no such device.
 #[derive(Clone, Copy, Debug, PartialEq, Eq, Error)]
 pub enum DeviceFault {
-    /// It has no channel, or more than 4,096.
-    #[error("expected 1 to 4096 channels")]
+    /// It has no channel, or more than 65,535.
+    #[error("expected 1 to 65535 channels")]
     Channels,
-    /// It has no command at a time, or more than 256.
-    #[error("expected a depth of 1 to 256")]
+    /// It has no command at a time, or more than 4,095.
+    #[error("expected a depth of 1 to 4095")]
     Depth,
 }
 
@@ -79,7 +79,7 @@ pub struct Device {
 }
 
 impl Device {
-    /// A device of 1 to 4,096 channels and of a depth of 1 to 256.
+    /// A device of 1 to 65,535 channels and of a depth of 1 to 4,095.
     pub fn new(
         channels: usize,
         depth: u16,

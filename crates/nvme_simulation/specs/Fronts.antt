@@ -41,7 +41,7 @@ IsFrontOf mechanism settings f = Arbitrates mechanism settings f.controller f.po
 
 -- the most commands of each queue that hold a slot of the controller: as many as wait for arbitration and as the device may have
 abbrev pub queue_depth : ℕ
-queue_depth = 512
+queue_depth = 4351
 
 abbrev pub HasDepths : Front → Type 0
 HasDepths f = depths_of f.controller ≡ equal_depths queue_depth

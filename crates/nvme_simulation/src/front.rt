@@ -1,17 +1,18 @@
 // The controller with the slots of its commands.
 use crate::fault::{Broken, SimulationFault};
 use nvme_admin::{Limits, Region};
-use nvme_arbiter::{Mechanism, Seen, Settings};
+use nvme_arbiter::{HIGHEST_COUNT, Mechanism, Seen, Settings};
 use nvme_ctrl::{Answer, Controller, Post, Slot, StatusFlags, Step};
 use nvme_entry::{Sqe, Status};
+use nvme_model::MAX_DEPTH;
 use nvme_placing::Placement;
 use std::alloc::Global;
 
 // The most commands of a queue that hold a slot: as many as arbitration counts, and as many as the device may have.
-const DEPTH: u16 = 512;
+const DEPTH: u16 = HIGHEST_COUNT + MAX_DEPTH;
 
 // As many slots as commands may wait, of 64 I/O queues and the admin queue, and as many as the device may have.
-const POOL: usize = 66 * 256;
+const POOL: usize = 65 * HIGHEST_COUNT as usize + MAX_DEPTH as usize;
 
 /// The slots of each admin ring, which the Creates of all queues fit into.
 pub(crate) const ADMIN_SLOTS: u16 = 256;

@@ -56,8 +56,8 @@ time            none           the duration in which commands come     time = "3
 warm_up         0              0 to 100000000 first ones, uncounted    warm_up = 50000
 
 [device]:
-channels        1              1 to 4096, each runs one command        channels = 4
-depth           channels, 256  1 to 256 commands at a time             depth = 8
+channels        1              1 to 65535, each runs one command       channels = 4
+depth           channels, 4095 1 to 4095 commands at a time            depth = 8
 placing         "pool"         "pool", "striped" over the channels     placing = "striped"
 stripe          8              1 to 2^63 - 1 blocks, where striped     stripe = 16
 size            1048576        1 to 2^63 - 1 blocks                    size = 2048

@@ -127,12 +127,12 @@ fn times_that_do_not_fit(rt: HostRuntime) -> Result<(), Fail> {
 fn limits(rt: HostRuntime) -> Result<(), Fail> {
     let none = Channels::new(rt.alloc(), 0, Placement::Pool, 1);
     assert!(rt; matches!(none, Err(ChannelsFault::NoChannels)));
-    let many = Channels::new(rt.alloc(), 4_097, Placement::Pool, 1);
+    let many = Channels::new(rt.alloc(), 65_536, Placement::Pool, 1);
     assert!(rt; matches!(many, Err(ChannelsFault::TooManyChannels)));
     let shallow = Channels::new(rt.alloc(), 1, Placement::Pool, 0);
     assert!(rt; matches!(shallow, Err(ChannelsFault::NoDepth)));
     let deep = Channels::new(rt.alloc(), MAX_CHANNELS, Placement::Pool, u16::MAX)?;
-    assert_eq!(rt; deep.channels().len(), 4_096);
+    assert_eq!(rt; deep.channels().len(), 65_535);
     assert_eq!(rt; deep.room(), 65_535);
     assert_eq!(rt; Stripe::new(0), Err(StripeFault::NoBlocks));
     Ok(())
@@ -163,10 +163,10 @@ fn faults_read_well(rt: HostRuntime) -> Result<(), Fail> {
         assert_eq!(rt; told.as_str(), text);
     }
     for (fault, text) in [
-        (ChannelsFault::NoChannels, "expected 1 to 4,096 channels"),
+        (ChannelsFault::NoChannels, "expected 1 to 65,535 channels"),
         (
             ChannelsFault::TooManyChannels,
-            "expected 1 to 4,096 channels",
+            "expected 1 to 65,535 channels",
         ),
         (ChannelsFault::NoDepth, "expected a depth above 0"),
         (ChannelsFault::Memory, "out of memory"),

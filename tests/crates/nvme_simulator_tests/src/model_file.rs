@@ -218,8 +218,8 @@ time = 3 => f:3:8: simulation, time: found 3, expected a duration such as "80us"
 
 const FAULTS_OF_THE_DEVICE: &str = r#"
 chanels = 2 => f:3:1: device: unknown key "chanels", expected one of channels depth placing stripe size read write flush pauses; did you mean `channels`?
-channels = 0 => f:3:12: device, channels: found 0, expected a whole number from 1 to 4096
-depth = 257 => f:3:9: device, depth: found 257, expected a whole number from 1 to 256
+channels = 0 => f:3:12: device, channels: found 0, expected a whole number from 1 to 65535
+depth = 4096 => f:3:9: device, depth: found 4096, expected a whole number from 1 to 4095
 placing = "stripped" => f:3:11: device, placing: found "stripped", expected "pool" or "striped"; did you mean `striped`?
 stripe = 8 => f:3:1: device, stripe: has no effect without placing = "striped"
 size = 0 => f:3:8: device, size: found 0, expected a whole number from 1 to 9223372036854775807
