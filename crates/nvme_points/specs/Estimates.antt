@@ -18,23 +18,26 @@ differences_from value values = sum_by (λ other. abs_diff value other * abs_dif
 abbrev pub pair_differences : List ℕ → List ℕ → ℕ
 pair_differences values others = sum_by (λ value. differences_from value others) values
 
--- the square of half the width: that of the quantile, given in thousandths, times the variance divided by the number of values
-abbrev pub squared_width : ℕ → List ℕ → ℕ
-squared_width quantile values =
-    (quantile * quantile * pair_differences values values) / (length values * length values * (length values - 1) * 2_000_000)
+-- the square of the standard error of their mean, in millionths of a unit: the variance divided by the number of values
+abbrev pub squared_error : List ℕ → ℕ
+squared_error values = (pair_differences values values * 1_000_000) / (length values * length values * (length values - 1) * 2)
 
--- the whole root of the square
-pub record IsHalfWidth (quantile : ℕ) (values : List ℕ) (half : ℕ) : Type 0 where
-  pub least : half * half ≤ squared_width quantile values
-  pub most : squared_width quantile values < (half + 1) * (half + 1)
+-- the standard error in thousandths of a unit, rounded down: the whole root of the square
+pub record IsStandardError (values : List ℕ) (error : ℕ) : Type 0 where
+  pub least : error * error ≤ squared_error values
+  pub most : squared_error values < (error + 1) * (error + 1)
 
--- the quantile for so many values: one degree of freedom less, and of more than 100 that of 100
+-- the quantile for so many values, in millionths: one degree of freedom less, and of more than 100 that of 100
 abbrev pub IsQuantile : ℕ → ℕ → Type 0
 IsQuantile count quantile = quantile ≡ get_or QUANTILES (min (count - 2) 99) 0
 
--- half the width of the interval of 95 %
-abbrev pub IsInterval : List ℕ → ℕ → Type 0
-IsInterval values half = (quantile : ℕ) × IsQuantile (length values) quantile × IsHalfWidth quantile values half
+-- half the width of the interval of 95 %, rounded down
+pub record IsInterval (values : List ℕ) (half : ℕ) : Type 0 where
+  pub quantile : ℕ
+  pub quantile_is : IsQuantile (length values) quantile
+  pub error : ℕ
+  pub error_is : IsStandardError values error
+  pub half_is : half ≡ (quantile * error) / 1_000_000_000
 
 -- ---- what there isn't
 -- a number of 128 bits can't be this
@@ -45,15 +48,22 @@ IsTooLarge n = 0x1_0000_0000_0000_0000_0000_0000_0000_0000 ≤ n
 abbrev pub LacksMean : List ℕ → Type 0
 LacksMean values = (length values ≡ 0) ⊎ IsTooLarge (sum values)
 
--- a number by which half the width of an interval is reckoned is too large
-abbrev pub IsTooWide : ℕ → List ℕ → Type 0
-IsTooWide quantile values =
-    IsTooLarge (quantile * quantile) ⊎ (IsTooLarge (pair_differences values values) ⊎ (IsTooLarge (quantile * quantile * pair_differences values values)
-    ⊎ IsTooLarge (length values * length values * (length values - 1) * 2_000_000)))
+-- a number by which a standard error is reckoned is too large
+abbrev pub IsTooSpread : List ℕ → Type 0
+IsTooSpread values =
+    IsTooLarge (pair_differences values values) ⊎ (IsTooLarge (pair_differences values values * 1_000_000) ⊎ IsTooLarge (length values * length values * (length values - 1) * 2))
+
+-- the product by which half the width of their interval is reckoned is too large
+pub record AreTooWide (values : List ℕ) : Type 0 where
+  pub quantile : ℕ
+  pub quantile_is : IsQuantile (length values) quantile
+  pub error : ℕ
+  pub error_is : IsStandardError values error
+  pub too_large : IsTooLarge (quantile * error)
 
 -- values have no interval
 abbrev pub LacksInterval : List ℕ → Type 0
-LacksInterval values = (length values < 2) ⊎ ((quantile : ℕ) × IsQuantile (length values) quantile × IsTooWide quantile values)
+LacksInterval values = (length values < 2) ⊎ (IsTooSpread values ⊎ AreTooWide values)
 
 -- an estimate of the values that seeds gave: none where a seed gave none, and else what the values have
 pub record IsEstimate (values : List ℕ) (seeds : ℕ) (estimate : Estimate) : Type 0 where

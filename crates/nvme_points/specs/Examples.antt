@@ -1,6 +1,6 @@
 -- Worked examples of the definitions. (profile)
 use Rattle.std.specs.Prelude.{◌≡◌, ℕ, List, [], ◌∷◌}
-use Rattle.nvme_points.specs.Estimates.{pair_differences, squared_width}
+use Rattle.nvme_points.specs.Estimates.{IsInterval, pair_differences, squared_error}
 use Rattle.nvme_points.specs.Points.{choices_of, count_of}
 
 -- a key of two values, and one of three, which is faster
@@ -19,4 +19,6 @@ pub record PointExamples : Type 0 where
 pub record EstimateExamples : Type 0 where
   pub pairs : pair_differences (2 ∷ 4 ∷ 9 ∷ []) (2 ∷ 4 ∷ 9 ∷ []) ≡ 156
   pub same : pair_differences (7 ∷ 7 ∷ []) (7 ∷ 7 ∷ []) ≡ 0
-  pub width : squared_width 4_303 (2_000 ∷ 4_000 ∷ 9_000 ∷ []) ≡ 80_235_172
+  pub error : squared_error (2_000 ∷ 4_000 ∷ 9_000 ∷ []) ≡ 4_333_333_333_333
+  -- 4.302653 times 2081.665
+  pub half : IsInterval (2_000 ∷ 4_000 ∷ 9_000 ∷ []) 8_956

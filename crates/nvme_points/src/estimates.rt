@@ -1,17 +1,22 @@
 // Means over seeds, and how far they may be off.
 ghost use Rattle.std.specs.Prelude.{◌≡◌, ◌<◌, ◌⊎◌, IfNone, IfSome, length, sum};
-ghost use Rattle.nvme_points.specs.Estimates.{IsEstimate, IsHalfWidth, IsInterval, IsMean, IsQuantile, IsTooLarge, IsTooWide, LacksInterval, LacksMean, differences_from, pair_differences};
+ghost use Rattle.nvme_points.specs.Estimates.{IsEstimate, IsInterval, IsMean, IsQuantile, IsStandardError, IsTooLarge, IsTooSpread, LacksInterval, LacksMean, differences_from, pair_differences};
 
-// The 97.5 % quantiles of Student's t in thousandths, of 1, 2 and so on degrees of freedom.
+// The 97.5 % quantiles of Student's t in millionths, of 1, 2 and so on degrees of freedom.
 const QUANTILES: [u128; 100] = [
-    12_706, 4_303, 3_182, 2_776, 2_571, 2_447, 2_365, 2_306, 2_262, 2_228, 2_201, 2_179, 2_160,
-    2_145, 2_131, 2_120, 2_110, 2_101, 2_093, 2_086, 2_080, 2_074, 2_069, 2_064, 2_060, 2_056,
-    2_052, 2_048, 2_045, 2_042, 2_040, 2_037, 2_035, 2_032, 2_030, 2_028, 2_026, 2_024, 2_023,
-    2_021, 2_020, 2_018, 2_017, 2_015, 2_014, 2_013, 2_012, 2_011, 2_010, 2_009, 2_008, 2_007,
-    2_006, 2_005, 2_004, 2_003, 2_002, 2_002, 2_001, 2_000, 2_000, 1_999, 1_998, 1_998, 1_997,
-    1_997, 1_996, 1_995, 1_995, 1_994, 1_994, 1_993, 1_993, 1_993, 1_992, 1_992, 1_991, 1_991,
-    1_990, 1_990, 1_990, 1_989, 1_989, 1_989, 1_988, 1_988, 1_988, 1_987, 1_987, 1_987, 1_986,
-    1_986, 1_986, 1_986, 1_985, 1_985, 1_985, 1_984, 1_984, 1_984,
+    12_706_205, 4_302_653, 3_182_446, 2_776_445, 2_570_582, 2_446_912, 2_364_624, 2_306_004,
+    2_262_157, 2_228_139, 2_200_985, 2_178_813, 2_160_369, 2_144_787, 2_131_450, 2_119_905,
+    2_109_816, 2_100_922, 2_093_024, 2_085_963, 2_079_614, 2_073_873, 2_068_658, 2_063_899,
+    2_059_539, 2_055_529, 2_051_831, 2_048_407, 2_045_230, 2_042_272, 2_039_513, 2_036_933,
+    2_034_515, 2_032_245, 2_030_108, 2_028_094, 2_026_192, 2_024_394, 2_022_691, 2_021_075,
+    2_019_541, 2_018_082, 2_016_692, 2_015_368, 2_014_103, 2_012_896, 2_011_741, 2_010_635,
+    2_009_575, 2_008_559, 2_007_584, 2_006_647, 2_005_746, 2_004_879, 2_004_045, 2_003_241,
+    2_002_465, 2_001_717, 2_000_995, 2_000_298, 1_999_624, 1_998_972, 1_998_341, 1_997_730,
+    1_997_138, 1_996_564, 1_996_008, 1_995_469, 1_994_945, 1_994_437, 1_993_943, 1_993_464,
+    1_992_997, 1_992_543, 1_992_102, 1_991_673, 1_991_254, 1_990_847, 1_990_450, 1_990_063,
+    1_989_686, 1_989_319, 1_988_960, 1_988_610, 1_988_268, 1_987_934, 1_987_608, 1_987_290,
+    1_986_979, 1_986_675, 1_986_377, 1_986_086, 1_985_802, 1_985_523, 1_985_251, 1_984_984,
+    1_984_723, 1_984_467, 1_984_217, 1_983_972,
 ];
 
 /// A mean over seeds.
@@ -69,7 +74,7 @@ fn differences_of_pairs(values: &[u128]) -> Option<u128>
     Some(sum)
 }
 
-// The quantile for so many values, in thousandths: one degree of freedom less. Above 100 degrees it is that of 100, which is
+// The quantile for so many values, in millionths: one degree of freedom less. Above 100 degrees it is that of 100, which is
 // at most 1.3 % too wide. `None` of fewer than two values.
 fn quantile(count: usize) -> Option<u128>
     ensures quantile { IfSome result (IsQuantile count) }
@@ -79,30 +84,29 @@ fn quantile(count: usize) -> Option<u128>
     Some(QUANTILES[index])
 }
 
-// Half the width of the interval by a quantile in thousandths. `None` of fewer than two values, or where the numbers don't fit.
-fn half_width_by(quantile: u128, values: &[u128]) -> Option<u128>
-    ensures half { IfSome result (IsHalfWidth quantile values.now) }
-    ensures none { IfNone result ((length values.now < 2) ⊎ IsTooWide quantile values.now) }
+// The standard error of the mean in thousandths, rounded down. `None` of fewer than two values, or where the numbers don't fit.
+fn standard_error(values: &[u128]) -> Option<u128>
+    ensures error { IfSome result (IsStandardError values.now) }
+    ensures none { IfNone result ((length values.now < 2) ⊎ IsTooSpread values.now) }
 {
     let count = values.len() as u128;
-    let above = quantile
-        .checked_mul(quantile)?
-        .checked_mul(differences_of_pairs(values)?)?;
+    let above = differences_of_pairs(values)?.checked_mul(1_000_000)?;
     let freedom = count.checked_sub(1)?;
     let below = count
         .checked_mul(count)?
         .checked_mul(freedom)?
-        .checked_mul(2_000_000)?;
+        .checked_mul(2)?;
     Some(above.checked_div(below)?.isqrt())
 }
 
-/// Half the width of the interval of 95 % around the mean of values that are drawn independently, by Student's t, rounded down.
-/// `None` of fewer than two values, or where the numbers don't fit.
+/// Half the width of the interval of 95 % around the mean of values that are drawn independently, by Student's t, rounded down:
+/// the quantile times the standard error of the mean. `None` of fewer than two values, or where the numbers don't fit.
 pub fn half_width(values: &[u128]) -> Option<u128>
     ensures interval { IfSome result (IsInterval values.now) }
     ensures none { IfNone result (LacksInterval values.now) }
 {
-    half_width_by(quantile(values.len())?, values)
+    let product = quantile(values.len())?.checked_mul(standard_error(values)?)?;
+    Some(product / 1_000_000_000)
 }
 
 /// The mean of the values of seeds, of which a seed may have none, and half the width of its interval.

@@ -279,10 +279,10 @@ fn widths_are_those_of_student(rt: HostRuntime) -> Result<(), Fail> {
             half: Some(half),
         }
     };
-    // (the deviation is 1000 times the root of 2, and 12.706 of it divided by the root of 2 are 12706)
+    // (the deviation is 1000 times the root of 2, and 12.706205 of it divided by the root of 2 are 12706.2)
     assert_eq!(rt; estimate_of(&[1_000, 3_000], 2), whole(2_000, 12_706));
-    // (the deviation is the root of 13 times 1000, and 4.303 of it divided by the root of 3 are 8957.4)
-    assert_eq!(rt; estimate_of(&[2_000, 4_000, 9_000], 3), whole(5_000, 8_957));
+    // (the deviation is the root of 13 times 1000, and 4.302653 of it divided by the root of 3 are 8956.7)
+    assert_eq!(rt; estimate_of(&[2_000, 4_000, 9_000], 3), whole(5_000, 8_956));
     assert_eq!(rt; estimate_of(&[7, 7, 7], 3), whole(7, 0));
     assert_eq!(rt; estimate_of(&[7], 1).half, None);
     assert_eq!(rt; estimate_of(&[7], 2).mean, None);

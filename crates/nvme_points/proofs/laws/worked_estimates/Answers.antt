@@ -1,5 +1,6 @@
 use Rattle.std.proofs.Common.{refl}
 use Rattle.nvme_points.specs.Estimates.{differences_from}
+use native.Mathlib.Omega.{arith}
 use Rattle.nvme_points.proofs.laws.worked_estimates.Goals as goal
 
 pub returns : goal.returns
@@ -7,5 +8,12 @@ unfolding differences_from
 returns c = record {
   pairs = refl;
   same = refl;
-  width = refl;
+  error = refl;
+  half = record {
+    quantile = 4_302_653;
+    quantile_is = refl;
+    error = 2_081_665;
+    error_is = record { least = omega arith; most = omega arith };
+    half_is = refl;
+  };
 }
