@@ -1,0 +1,7 @@
+use Rattle.std.proofs.Common.{refl}
+use Rattle.std.specs.Fmt.{digits}
+use Rattle.nvme_cells.proofs.laws.worked_rows.Goals as goal
+
+pub returns : goal.returns
+unfolding digits
+returns c = record { names = refl; sheet = refl; object = refl; escaped = refl; table = refl }

@@ -1,0 +1,6 @@
+pub mod Examples
+pub mod inside
+pub mod Rows
+pub mod Strings
+pub mod Tables
+pub mod Values

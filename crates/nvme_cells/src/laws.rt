@@ -1,0 +1,7 @@
+//! Laws over the definitions alone. Each function does nothing: its contract is the law.
+ghost use Rattle.nvme_cells.specs.Examples.{RowExamples};
+
+/// Rows in each form.
+pub fn worked_rows()
+    ensures { RowExamples }
+{}
