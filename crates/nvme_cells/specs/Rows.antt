@@ -22,10 +22,10 @@ commas text (field ∷ fields) = text field ++ flat_map (λ other. codes "," ++ 
 abbrev pub csv_text : Named → List ℕ
 csv_text field = value_text [] [] field.value
 
-abbrev pub csv_names : List Named → List ℕ
+unfoldable pub csv_names : List Named → List ℕ
 csv_names fields = commas (λ field. field.name) fields ++ codes "\n"
 
-abbrev pub csv_values : List Named → List ℕ
+unfoldable pub csv_values : List Named → List ℕ
 csv_values fields = commas csv_text fields ++ codes "\n"
 
 -- a value in an object: null stands for nothing, and texts are strings
@@ -36,8 +36,8 @@ json_value value = value_text (codes "null") [] value
 abbrev pub json_member : Named → List ℕ
 json_member field = json_string field.name ++ (codes ":" ++ json_value field.value)
 
-abbrev pub json_members : List Named → List ℕ
+unfoldable pub json_members : List Named → List ℕ
 json_members fields = commas json_member fields
 
-abbrev pub json_object : List Named → List ℕ
-json_object fields = codes "{" ++ (json_members fields ++ codes "}")
+unfoldable pub json_object : List Named → List ℕ
+json_object fields = codes "{" ++ json_members fields ++ codes "}"

@@ -56,9 +56,9 @@ pub enum Cell<'a> {
     Percent(u128, Places),
 }
 
-impl Cell<'_> {
+impl<'a> Cell<'a> {
     /// A whole number, or nothing.
-    pub fn number(number: Option<u128>) -> Cell<'static>
+    pub fn number(number: Option<u128>) -> Cell<'a>
         ensures { value_of result ≡ whole_of number }
     {
         match number {
@@ -68,7 +68,7 @@ impl Cell<'_> {
     }
 
     /// So many units of the last of the digits behind the point, or nothing.
-    pub fn decimal(units: Option<u128>, places: Places) -> Cell<'static>
+    pub fn decimal(units: Option<u128>, places: Places) -> Cell<'a>
         ensures { value_of result ≡ fraction_of places units }
     {
         match units {
@@ -78,7 +78,7 @@ impl Cell<'_> {
     }
 
     /// The same of a percentage.
-    pub fn percent(units: Option<u128>, places: Places) -> Cell<'static>
+    pub fn percent(units: Option<u128>, places: Places) -> Cell<'a>
         ensures { value_of result ≡ percentage_of places units }
     {
         match units {

@@ -123,20 +123,22 @@ pub fn put_values<W: Write>(
     put(b"\n", writer)
 }
 
-/// Writes members of a JSON object, without its braces. `WriteFault` where a write failed.
+/// Writes members of a JSON object, without its braces, behind what stands before them. `WriteFault` where a write failed.
 pub fn put_members<W: Write>(
+    before: &str,
     first: &Field,
     parts: &[&[Field]],
     writer: &mut W,
 ) -> Result<(), WriteFault>
     ensures { Writes (W.contents writer.old) (W.contents writer.new) result
-        (json_members (named_of first.now ∷ flat_map (λ part. map named_of part.now) parts.now)) }
+        (before.now ++ json_members (named_of first.now ∷ flat_map (λ part. map named_of part.now) parts.now)) }
 {
+    put(before.as_bytes(), writer)?;
     put_joined(Form::Member, first, parts, writer)
 }
 
-/// Writes a JSON object. `WriteFault` where a write failed.
-pub fn put_object<W: Write>(
+// Writes a JSON object.
+fn put_braced<W: Write>(
     first: &Field,
     parts: &[&[Field]],
     writer: &mut W,
@@ -144,7 +146,20 @@ pub fn put_object<W: Write>(
     ensures { Writes (W.contents writer.old) (W.contents writer.new) result
         (json_object (named_of first.now ∷ flat_map (λ part. map named_of part.now) parts.now)) }
 {
-    put(b"{", writer)?;
-    put_members(first, parts, writer)?;
+    put_members("{", first, parts, writer)?;
     put(b"}", writer)
+}
+
+/// Writes a JSON object behind what stands before it. `WriteFault` where a write failed.
+pub fn put_object<W: Write>(
+    before: &str,
+    first: &Field,
+    parts: &[&[Field]],
+    writer: &mut W,
+) -> Result<(), WriteFault>
+    ensures { Writes (W.contents writer.old) (W.contents writer.new) result
+        (before.now ++ json_object (named_of first.now ∷ flat_map (λ part. map named_of part.now) parts.now)) }
+{
+    put(before.as_bytes(), writer)?;
+    put_braced(first, parts, writer)
 }

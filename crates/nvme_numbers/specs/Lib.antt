@@ -1,13 +1,16 @@
 pub mod Answers
 pub mod Collected
+pub mod Columns
 pub mod Examples
 pub mod Fairness
 pub mod Feeding
 pub mod Feeds
 pub mod inside
 pub mod Names
+pub mod Objects
 pub mod Quotients
 pub mod Rows
+pub mod Sheets
 pub mod Sums
 pub mod Texts
 pub mod Told

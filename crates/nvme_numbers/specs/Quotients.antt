@@ -1,5 +1,5 @@
 -- Shares, rates and Jain's index of fairness. (profile)
-use Rattle.std.specs.Prelude.{◌≡◌, ◌≤◌, ℕ, ◌+◌, ◌*◌, ◌/◌, ◌^◌, ◌⊎◌, List, Option, MatchOption, length, sum}
+use Rattle.std.specs.Prelude.{◌≡◌, ℕ, ◌+◌, ◌*◌, ◌/◌, ◌^◌, ◌==◌, List, Option, Some, None, if◌then◌else◌, length, nat_lt, sum}
 use Rattle.std.specs.List.{sum_by}
 
 -- a quotient, rounded to the nearest whole number, and half a unit up
@@ -7,9 +7,12 @@ abbrev pub rounded : ℕ → ℕ → ℕ
 rounded above below = (above + below / 2) / below
 
 -- a part of a whole in so many units: none of nothing, or where the numbers have more than 128 bits
+abbrev pub quotient_of : (part units whole : ℕ) → Option ℕ
+quotient_of part units whole =
+    if nat_lt (part * units + whole / 2) (2 ^ 128) then (if whole == 0 then None else Some (rounded (part * units) whole)) else None
+
 abbrev pub IsQuotient : (part units whole : ℕ) → Option ℕ → Type 0
-IsQuotient part units whole q =
-    MatchOption q ((whole ≡ 0) ⊎ (2 ^ 128 ≤ part * units + whole / 2)) (λ v. v ≡ rounded (part * units) whole)
+IsQuotient part units whole q = q ≡ quotient_of part units whole
 
 abbrev pub squares_of : List ℕ → ℕ
 squares_of parts = sum_by (λ p. p * p) parts

@@ -21,7 +21,7 @@ use crate::tally::{RankedTally, Tally};
 use nvme_arbiter::{Class, Mechanism, Settings};
 use nvme_channels::Channel;
 use nvme_output::WriteFault;
-use object::{put_object, put_open_object};
+use object::{put_answer, put_open_object};
 use sheet::put_sheet;
 use std::alloc::{AllocError, Global};
 use std::io::Write;
@@ -393,6 +393,9 @@ impl Numbers {
 impl Answer<'_> {
     ghost use Rattle.nvme_numbers.specs.Answers.{time_of};
     ghost use Rattle.nvme_numbers.specs.Quotients.{IsQuotient};
+    ghost use Rattle.nvme_numbers.specs.Objects.{answer_json, answer_open_json};
+    ghost use Rattle.nvme_numbers.specs.Sheets.{answer_csv};
+    ghost use Rattle.nvme_output.specs.Written.{Writes};
 
     /// The part of the simulated time in which a channel ran commands, in thousandths of a percent, rounded. `None` where no
     /// time passed.
@@ -420,28 +423,25 @@ impl Answer<'_> {
     }
 
     /// Writes the same as one JSON object and a newline. Times are in picoseconds. `WriteFault` where a write failed.
-    pub fn write_json<W: Write>(&self, writer: &mut W) -> Result<(), WriteFault> {
-        match put_object(self, writer) {
-            Ok(()) => Ok(()),
-            Err(_) => Err(WriteFault),
-        }
+    pub fn write_json<W: Write>(&self, writer: &mut W) -> Result<(), WriteFault>
+        ensures { Writes (W.contents writer.old) (W.contents writer.new) result (answer_json self.now) }
+    {
+        put_answer(self, writer)
     }
 
     /// Writes the same, but for the brace and the newline that end it, so that more keys may follow. `WriteFault` where a write
     /// failed.
-    pub fn write_open_json<W: Write>(&self, writer: &mut W) -> Result<(), WriteFault> {
-        match put_open_object(self, writer) {
-            Ok(()) => Ok(()),
-            Err(_) => Err(WriteFault),
-        }
+    pub fn write_open_json<W: Write>(&self, writer: &mut W) -> Result<(), WriteFault>
+        ensures { Writes (W.contents writer.old) (W.contents writer.new) result (answer_open_json self.now) }
+    {
+        put_open_object(self, writer)
     }
 
     /// Writes a line of comma-separated values for each queue, each class and all. The first line has the names. Times are in
     /// picoseconds. `WriteFault` where a write failed.
-    pub fn write_csv<W: Write>(&self, writer: &mut W) -> Result<(), WriteFault> {
-        match put_sheet(self, writer) {
-            Ok(()) => Ok(()),
-            Err(_) => Err(WriteFault),
-        }
+    pub fn write_csv<W: Write>(&self, writer: &mut W) -> Result<(), WriteFault>
+        ensures { Writes (W.contents writer.old) (W.contents writer.new) result (answer_csv self.now) }
+    {
+        put_sheet(self, writer)
     }
 }

@@ -4,6 +4,7 @@
 #![tactic(auto)]
 
 mod answer;
+mod columns;
 mod feed;
 mod finish_log;
 mod groups;

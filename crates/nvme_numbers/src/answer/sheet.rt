@@ -1,124 +1,187 @@
 // An answer as comma-separated values.
-use super::Answer;
-use super::wording::{put_index, put_number, put_share, put_utilization};
+ghost use Rattle.std.specs.Prelude.{◌≡◌, map};
+ghost use Rattle.std.specs.List.{flat_map};
+ghost use Rattle.nvme_cells.specs.Rows.{csv_values, named_of};
+ghost use Rattle.nvme_numbers.specs.Sheets.{answer_csv, line_of_all, line_of_class, line_of_queue, origins, placed, seed_of};
+ghost use Rattle.nvme_numbers.specs.inside.Lines.{fields_of, line_text, scope_fields, total_fields};
+ghost use Rattle.nvme_output.specs.Written.{Writes};
+
+use super::{Answer, Member};
+use crate::columns::{aboves, column, commands, feeds, latencies, parts, rates};
 use crate::names::class_name;
-use crate::row::{Row, Spread};
-use std::io::{self, Write};
+use crate::row::Row;
+use nvme_arbiter::Class;
+use nvme_cells::{Cell, Field, Places, put_names, put_values};
+use nvme_output::WriteFault;
+use std::io::Write;
 
-// The names of the columns.
-const NAMES: &[u8] =
-    b"seed,version,digest,scope,name,class,commands,share,iops,bytes_per_second,latency_mean_ps,latency_p50_ps,latency_p95_ps,latency_p99_ps,latency_p999_ps,latency_max_ps,host_mean_ps,arbitration_mean_ps,device_mean_ps,service_mean_ps,utilization,jain,jain_by_weight,iops_fed,bytes_per_second_fed,fed_ps,above_p50,above_p95,above_p99,above_p999\n";
-
-// Writes which program simulated what, with a comma behind it.
-fn put_about<W: Write>(answer: &Answer, writer: &mut W) -> io::Result<()> {
-    let (version, digest, seed) = (answer.about.version, answer.about.digest, answer.asked.seed);
-    write!(writer, "{seed},{version},{digest},")
+// What of a line is written.
+#[derive(Clone, Copy)]
+enum Line {
+    Names,
+    Values,
 }
 
-// Writes how long commands took.
-fn put_spread<W: Write>(spread: &Spread, writer: &mut W) -> io::Result<()> {
-    let Spread {
-        mean,
-        p50,
-        p95,
-        p99,
-        p999,
-        longest,
-        ..
-    } = *spread;
-    write!(writer, ",{mean},{p50},{p95},{p99},{p999},{longest}")?;
-    let Spread {
-        host,
-        arbitration,
-        device,
-        service,
-        ..
-    } = *spread;
-    write!(writer, ",{host},{arbitration},{device},{service}")
+// Of which commands a line tells.
+#[derive(Clone, Copy)]
+enum Scope {
+    // Those of the queue at a place.
+    Queue(usize, Class),
+    // Those of the queues of a class.
+    Class(Class),
+    All,
 }
 
-// Writes a row after a comma.
-fn put_row<W: Write>(row: &Row, writer: &mut W) -> io::Result<()> {
-    let commands = row.commands;
-    write!(writer, ",{commands},")?;
-    put_share(row.share, "", writer)?;
-    writer.write_all(b",")?;
-    put_number(row.iops, "", writer)?;
-    writer.write_all(b",")?;
-    put_number(row.bytes_per_second, "", writer)?;
-    match &row.spread {
-        Some(spread) => put_spread(spread, writer),
-        None => writer.write_all(b",,,,,,,,,,"),
+// The seed of the simulation.
+fn seed<'a>(answer: &Answer) -> Field<'a>
+    ensures { named_of result ≡ seed_of answer.now }
+{
+    column("seed", Cell::Number(u128::from(answer.asked.seed)))
+}
+
+// Which program simulated what.
+fn origins<'a>(answer: &Answer<'a>) -> [Field<'a>; 2]
+    ensures { map named_of result ≡ origins answer.now }
+{
+    [
+        column("version", Cell::Word(answer.about.version)),
+        column("digest", Cell::Word(answer.about.digest)),
+    ]
+}
+
+// Of which commands a line tells.
+fn scopes<'a>(scope: Scope) -> [Field<'a>; 3]
+    ensures { map named_of result ≡ scope_fields scope }
+{
+    let (word, name, class) = match scope {
+        Scope::Queue(place, class) => {
+            let number = Cell::Number(place as u128 + 1);
+            ("queue", number, Cell::Word(class_name(class)))
+        }
+        Scope::Class(class) => {
+            let name = Cell::Word(class_name(class));
+            ("class", name, name)
+        }
+        Scope::All => ("all", Cell::Word("all"), Cell::Empty),
+    };
+    [
+        column("scope", Cell::Word(word)),
+        column("name", name),
+        column("class", class),
+    ]
+}
+
+// What the line of all alone tells.
+fn totals<'a>(answer: &Answer, scope: Scope) -> [Field<'a>; 3]
+    ensures { map named_of result ≡ total_fields answer.now scope }
+{
+    let [busy, jain, by_weight] = match scope {
+        Scope::Queue(..) | Scope::Class(_) => [Cell::Empty; 3],
+        Scope::All => [
+            Cell::decimal(answer.utilization(), Places::Five),
+            Cell::decimal(answer.jain, Places::Four),
+            Cell::decimal(answer.jain_by_weight, Places::Four),
+        ],
+    };
+    [
+        column("utilization", busy),
+        column("jain", jain),
+        column("jain_by_weight", by_weight),
+    ]
+}
+
+// Writes a line.
+fn put_line<W: Write>(
+    line: Line,
+    answer: &Answer,
+    scope: Scope,
+    row: &Row,
+    writer: &mut W,
+) -> Result<(), WriteFault>
+    ensures { Writes (W.contents writer.old) (W.contents writer.new) result (line_text line (fields_of answer.now scope row.now)) }
+{
+    let seed = seed(answer);
+    let others: [&[Field]; 9] = [
+        &origins(answer),
+        &scopes(scope),
+        &[commands(row)],
+        &rates(row),
+        &latencies(&row.spread),
+        &parts(&row.spread),
+        &totals(answer, scope),
+        &feeds(&row.fed),
+        &aboves(&row.spread),
+    ];
+    match line {
+        Line::Names => put_names(&seed, &others, writer),
+        Line::Values => put_values(&seed, &others, writer),
     }
 }
 
-// Writes the rest of a row behind a comma, and ends the line.
-fn put_rest<W: Write>(row: &Row, writer: &mut W) -> io::Result<()> {
-    let time = row.fed.time;
-    writer.write_all(b",")?;
-    put_number(row.fed.iops, "", writer)?;
-    writer.write_all(b",")?;
-    put_number(row.fed.bytes_per_second, "", writer)?;
-    write!(writer, ",{time}")?;
-    let Some(spread) = &row.spread else {
-        return writer.write_all(b",,,,\n");
-    };
-    let Spread {
-        above_p50,
-        above_p95,
-        above_p99,
-        above_p999,
-        ..
-    } = *spread;
-    writeln!(writer, ",{above_p50},{above_p95},{above_p99},{above_p999}")
+// Writes the line of a queue.
+fn put_queue<W: Write>(
+    answer: &Answer,
+    place: usize,
+    queue: &Member,
+    writer: &mut W,
+) -> Result<(), WriteFault>
+    ensures { Writes (W.contents writer.old) (W.contents writer.new) result (csv_values (line_of_queue answer.now place queue.now)) }
+{
+    let scope = Scope::Queue(place, queue.class);
+    put_line(Line::Values, answer, scope, &queue.row, writer)
 }
 
-// Writes a line for each queue.
-fn put_queues<W: Write>(answer: &Answer, writer: &mut W) -> io::Result<()> {
-    let mut number = 1usize;
-    for queue in &answer.queues {
-        put_about(answer, writer)?;
-        let class = class_name(queue.class);
-        write!(writer, "queue,{number},{class}")?;
-        put_row(&queue.row, writer)?;
-        writer.write_all(b",,,")?;
-        put_rest(&queue.row, writer)?;
-        number = number.saturating_add(1);
+// Writes the lines of the queues.
+fn put_queues<W: Write>(
+    answer: &Answer,
+    queues: &[Member],
+    writer: &mut W,
+) -> Result<(), WriteFault>
+    ensures { Writes (W.contents writer.old) (W.contents writer.new) result
+        (placed (λ place m. csv_values (line_of_queue answer.now place m)) 0 queues.now) }
+{
+    for (place, queue) in queues.iter().enumerate() {
+        put_queue(answer, place, queue, writer)?;
     }
     Ok(())
 }
 
-// Writes a line for each class.
-fn put_classes<W: Write>(answer: &Answer, writer: &mut W) -> io::Result<()> {
-    for class in &answer.classes {
-        put_about(answer, writer)?;
-        let name = class_name(class.class);
-        write!(writer, "class,{name},{name}")?;
-        put_row(&class.row, writer)?;
-        writer.write_all(b",,,")?;
-        put_rest(&class.row, writer)?;
+// Writes the line of a class.
+fn put_class<W: Write>(answer: &Answer, class: &Member, writer: &mut W) -> Result<(), WriteFault>
+    ensures { Writes (W.contents writer.old) (W.contents writer.new) result (csv_values (line_of_class answer.now class.now)) }
+{
+    let scope = Scope::Class(class.class);
+    put_line(Line::Values, answer, scope, &class.row, writer)
+}
+
+// Writes the lines of the classes.
+fn put_classes<W: Write>(
+    answer: &Answer,
+    classes: &[Member],
+    writer: &mut W,
+) -> Result<(), WriteFault>
+    ensures { Writes (W.contents writer.old) (W.contents writer.new) result
+        (flat_map (λ m. csv_values (line_of_class answer.now m)) classes.now) }
+{
+    for class in classes {
+        put_class(answer, class, writer)?;
     }
     Ok(())
 }
 
 // Writes the line of all, which alone has what is told of all together.
-fn put_all<W: Write>(answer: &Answer, writer: &mut W) -> io::Result<()> {
-    put_about(answer, writer)?;
-    writer.write_all(b"all,all,")?;
-    put_row(&answer.all, writer)?;
-    writer.write_all(b",")?;
-    put_utilization(answer.utilization(), "", writer)?;
-    writer.write_all(b",")?;
-    put_index(answer.jain, "", writer)?;
-    writer.write_all(b",")?;
-    put_index(answer.jain_by_weight, "", writer)?;
-    put_rest(&answer.all, writer)
+fn put_all<W: Write>(line: Line, answer: &Answer, writer: &mut W) -> Result<(), WriteFault>
+    ensures { Writes (W.contents writer.old) (W.contents writer.new) result (line_text line (line_of_all answer.now)) }
+{
+    put_line(line, answer, Scope::All, &answer.all, writer)
 }
 
 /// Writes the lines.
-pub fn put_sheet<W: Write>(answer: &Answer, writer: &mut W) -> io::Result<()> {
-    writer.write_all(NAMES)?;
-    put_queues(answer, writer)?;
-    put_classes(answer, writer)?;
-    put_all(answer, writer)
+pub fn put_sheet<W: Write>(answer: &Answer, writer: &mut W) -> Result<(), WriteFault>
+    ensures { Writes (W.contents writer.old) (W.contents writer.new) result (answer_csv answer.now) }
+{
+    put_all(Line::Names, answer, writer)?;
+    put_queues(answer, &answer.queues, writer)?;
+    put_classes(answer, &answer.classes, writer)?;
+    put_all(Line::Values, answer, writer)
 }

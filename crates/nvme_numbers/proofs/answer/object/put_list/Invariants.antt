@@ -1,0 +1,10 @@
+use Rattle.std.proofs.Common.{◌++◌, take}
+use Rattle.std.specs.Io.KnownBytes.{Appends}
+use Rattle.nvme_numbers.specs.Objects.{channel_object, comma_before}
+use Rattle.nvme_numbers.specs.Sheets.{placed}
+use Rattle.nvme_numbers.proofs.answer.object.put_list.Given as goal
+
+-- those so far were written
+abbrev pub invariant-loop-place : goal.invariant-loop-place
+invariant-loop-place g l =
+    Appends (g.W.Write.contents l.fn.writer) (g.W.Write.contents l.writer) (placed (λ place x. comma_before place ++ channel_object l.answer x) 0 (take l.place l.channels))
