@@ -118,7 +118,7 @@ module _ (rules : FrontRules) (starts : StartsWithAdmin rules) (by_regions : pla
         | inr other ↦ leave rules (ClosedCq qid region) past q x.stage it.effects_at_once (cq_closed rules past (effects_of rules notes h) q qid region other) p
       ]
 
-  cqs_at : (notes : Notes) → EachNote (IsLawful rules) notes → IsLimitedRun rules.mechanism rules.start.settings (arbitration_of (logged notes)) → NamesAreFree (shown rules notes)
+  pub cqs_at : (notes : Notes) → EachNote (IsLawful rules) notes → IsLimitedRun rules.mechanism rules.start.settings (arbitration_of (logged notes)) → NamesAreFree (shown rules notes)
       → KeepsDuties (start_of rules) (shown rules notes) → TurnsCqsAlone (shown rules notes) → (q : ℕ) → (q ≡ 0 → ⊥) → CqQueueAt rules notes q
   cqs_at [] h l free duties turns_alone q io = record {
     stage = unknown;

@@ -99,7 +99,7 @@ module _ (rules : FrontRules) where
   owned_by past h q st (gone k e c del p a o own y) = own
 
   -- the queue of an open completion region
-  open_region : (notes : Notes) → Each (EffectsAtOnce rules) (logged notes) → (s : ℕ) → is_open_cq_region notes s ≡ true → (p : ℕ) × (open_cq (logged notes) p ≡ Some s) × (cqid_of_region (logged notes) s ≡ Some p)
+  pub open_region : (notes : Notes) → Each (EffectsAtOnce rules) (logged notes) → (s : ℕ) → is_open_cq_region notes s ≡ true → (p : ℕ) × (open_cq (logged notes) p ≡ Some s) × (cqid_of_region (logged notes) s ≡ Some p)
   open_region notes h s is_open = by some.0 (open_cq (logged notes) some.0) refl some.1 where
     some : (p : ℕ) × (is_index s (open_cq (logged notes) p) ≡ true)
     some = any_of (λ (p : ℕ). is_index s (open_cq (logged notes) p)) (upto queue_limit) is_open

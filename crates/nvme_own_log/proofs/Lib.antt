@@ -23,4 +23,5 @@ mod CqPhases
 mod CqSteps
 mod CqQueues
 pub mod Completions
+pub mod Doorbells
 mod TurnExamples

@@ -1,7 +1,7 @@
 -- Where a log agrees with a queue's own side, the rules of rings and of names are kept.
-use Rattle.std.proofs.Common.{◌≡◌, ℕ, ◌+◌, ◌%◌, ◌<◌, ◌≤◌, ◌==◌, ◌&&◌, nat_le, Bool, true, false, if◌then◌else◌, List, length, Option, Some, None, is_some, refl, sym, ap, ◌∙◌, arith, inl, inr}
+use Rattle.std.proofs.Common.{◌≡◌, ℕ, ◌+◌, ◌%◌, ◌<◌, ◌≤◌, ◌==◌, ◌&&◌, nat_le, nat_lt, Bool, true, false, not, if◌then◌else◌, List, length, Option, Some, None, is_some, refl, sym, ap, ◌∙◌, arith, inl, inr}
 use Rattle.std.specs.Prelude.{slice_get}
-use Rattle.std.proofs.lemmas.Bool.{eq-eqb, lt-leb}
+use Rattle.std.proofs.lemmas.Bool.{eq-eqb, le-ltb, lt-leb}
 use Rattle.std.proofs.lemmas.Option.{slice_get_within}
 use Rattle.nvme_entry.specs.AdminCommand.{admin_command_of}
 use Rattle.nvme_entry.specs.declared.submission.Sqe.{Sqe}
@@ -15,11 +15,12 @@ use Rattle.nvme_audit.specs.declared.verdict.Verdict.{Verdict}
 use Rattle.nvme_audit.specs.declared.verdict.Verdict.TheVariants.{Kept}
 use Rattle.nvme_audit.specs.Lives.{Past, asked}
 use Rattle.nvme_audit.specs.Queues.{ring_of, qsize_of}
-use Rattle.nvme_audit.specs.Rings.{slots_of, number_of, phase_of}
+use Rattle.nvme_audit.specs.Rings.{slots_of, gap, advanced, qsize_in, submitted, fetched, posted, consumed, number_of, phase_of}
 use Rattle.nvme_audit.specs.Aborts.{was_named}
 use Rattle.nvme_audit.specs.Marks.{mark_of, owes}
 use Rattle.nvme_audit.specs.Early.{is_early}
 use Rattle.nvme_audit.specs.Facts.{sq_after, cq_after, command_with, outstanding}
+use Rattle.nvme_audit.specs.Host.{tail_rules, tail_verdict, head_rules, head_verdict}
 use Rattle.nvme_audit.specs.Rules.{is_other, is_other_phase, is_head_of, fetch_rules, fetch_verdict, name_rules, name_verdict, slot_rules, if_kept, post_verdict}
 use Rattle.nvme_audit.proofs.HeadLemmas.{heads}
 use Rattle.nvme_audit.proofs.StepLemmas.{same_out}
@@ -85,8 +86,30 @@ module _ (start : Start) (log : Past) (q slots cqid many : ℕ) (entries : List 
       ∙ ap (λ (o : Option Command). name_rules cq (sq_after start log q) (Some a.ring) o (Some head)) there
       ∙ rw (own_cq, head_is) refl)
 
+  -- its own tail: a slot, no further on than where the ring is full
+  pub tail_kept : (slot : ℕ) → slot < slots → many + gap slots (many % slots) slot < length entries + slots → tail_verdict (sq_after start log q) slot ≡ Kept
+  tail_kept slot below fits =
+      let same : slots_of a.ring.qsize ≡ slots = a.slots_are (omega (arith, below)) in
+      let further : advanced a.ring.qsize (submitted start log q) slot ≡ many + gap slots (many % slots) slot =
+      ap (λ (n : ℕ). advanced a.ring.qsize n slot) a.submitted_is ∙ ap (λ (k : ℕ). many + gap k (many % k) slot) same in
+      let is_slot : nat_lt a.ring.qsize slot ≡ false = le-ltb a.ring.qsize slot (omega (arith, same, below)) in
+      let few : nat_lt (fetched log q + a.ring.qsize) (advanced a.ring.qsize (submitted start log q) slot) ≡ false =
+      le-ltb (fetched log q + a.ring.qsize) (advanced a.ring.qsize (submitted start log q) slot) (omega (arith, same, further, fits, a.fetched_is)) in
+      kept_if (sq_after start log q).excused _ (ap (λ (o : Option Ring). tail_rules (qsize_in o) (submitted start log q) (fetched log q) slot) a.ring_is ∙ rw (is_slot, few) refl)
+
 -- ---- completion queues
 module _ (start : Start) (log : Past) (q slots many taken : ℕ) (a : CqAgrees start log q slots many taken) where
+  -- its own head: a slot, no further on than the completions
+  pub head_kept : (slot : ℕ) → slot < slots → taken + gap slots (taken % slots) slot ≤ many → head_verdict (cq_after start log q) slot ≡ Kept
+  head_kept slot below fits =
+      let same : slots_of a.qsize ≡ slots = a.slots_are (omega (arith, below)) in
+      let further : advanced a.qsize (consumed start log q) slot ≡ taken + gap slots (taken % slots) slot =
+      ap (λ (n : ℕ). advanced a.qsize n slot) a.consumed_is ∙ ap (λ (k : ℕ). taken + gap k (taken % k) slot) same in
+      let is_slot : nat_lt a.qsize slot ≡ false = le-ltb a.qsize slot (omega (arith, same, below)) in
+      let posted_so : (not (is_early start log q) && nat_lt (posted log q) (advanced a.qsize (consumed start log q) slot)) ≡ false =
+      and_false (not (is_early start log q)) _ (le-ltb (posted log q) (advanced a.qsize (consumed start log q) slot) (omega (arith, further, fits, a.posted_is))) in
+      kept_if (cq_after start log q).excused _ (ap (λ (o : Option ℕ). head_rules o (is_early start log q) (posted log q) (consumed start log q) slot) a.qsize_is ∙ rw (is_slot, posted_so) refl)
+
   -- a post into the next slot, with the phase tag of its pass, where one more slot is free
   pub slot_kept : (slot : ℕ) (phase : Bool) → many + 1 < taken + slots → slot ≡ many % slots → phase ≡ phase_after many slots
       → slot_rules start.tells (cq_after start log q) (qsize_of start log q) (Some slot) (Some phase) ≡ Kept

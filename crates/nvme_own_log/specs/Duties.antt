@@ -2,10 +2,11 @@
 -- Doorbell, Full Queue, Command Identifier)
 use Rattle.std.specs.Prelude.{◌≡◌, false, ℕ, true, is_some, Some}
 use Rattle.nvme_audit.specs.declared.event.Event.{Event}
-use Rattle.nvme_audit.specs.declared.event.Event.TheVariants.{Tail, Fetch}
+use Rattle.nvme_audit.specs.declared.event.Event.TheVariants.{Tail, Head, Fetch}
 use Rattle.nvme_audit.specs.declared.facts.Start.{Start}
 use Rattle.nvme_audit.specs.Lives.{Past, asked, turns_sq}
-use Rattle.nvme_audit.specs.Queues.{ring_of, turns_cq}
+use Rattle.nvme_audit.specs.Queues.{ring_of, qsize_of, turns_cq}
+use Rattle.nvme_audit.specs.Early.{is_early}
 use Rattle.nvme_entry.specs.declared.admin.AdminCommand.{AdminCommand}
 use Rattle.nvme_own_log.specs.Shown.{EachShown}
 
@@ -42,3 +43,11 @@ TurnsCqAlone past e = Unit {0}
 -- a host turns a completion queue by one command at a time
 abbrev pub TurnsCqsAlone : Past → Type 0
 TurnsCqsAlone log = EachShown TurnsCqAlone log
+
+-- a host writes the head doorbell of completion queues that it was told are there, and to which no completion came before that
+abbrev pub IsKnownHead : Start → Past → Event → Type 0
+IsKnownHead start past (Head cq slot) = (is_some (qsize_of start past cq) ≡ true) × (is_early start past cq ≡ false)
+IsKnownHead start past e = Unit {0}
+
+abbrev pub KnowsHeads : Start → Past → Type 0
+KnowsHeads start log = EachShown (IsKnownHead start) log

@@ -6,14 +6,15 @@ use Rattle.nvme_log.specs.Laws.{StartsWithAdmin}
 use Rattle.nvme_ctrl_log.specs.Making.{placing_in}
 use Rattle.nvme_ctrl_log.specs.Account.{IsAccount}
 use Rattle.nvme_audit.specs.declared.event.Event.{Event}
-use Rattle.nvme_audit.specs.declared.event.Event.TheVariants.{Fetch, Post}
+use Rattle.nvme_audit.specs.declared.event.Event.TheVariants.{Tail, Head, Fetch, Post}
 use Rattle.nvme_audit.specs.declared.facts.Start.{Start}
 use Rattle.nvme_audit.specs.declared.verdict.Verdict.TheVariants.{Kept}
 use Rattle.nvme_audit.specs.Lives.{Past}
 use Rattle.nvme_audit.specs.Facts.{sq_after, cq_after, outstanding}
+use Rattle.nvme_audit.specs.Host.{tail_verdict, head_verdict}
 use Rattle.nvme_audit.specs.Rules.{fetch_verdict, post_verdict}
 use Rattle.nvme_own_log.specs.Shown.{start_of, shown, EachShown}
-use Rattle.nvme_own_log.specs.Duties.{NamesAreFree, KeepsDuties, TurnsCqsAlone}
+use Rattle.nvme_own_log.specs.Duties.{NamesAreFree, KeepsDuties, TurnsCqsAlone, KnowsHeads}
 
 -- a fetch from the admin queue, and a completion of one of its commands, keep all rules of rings and of names
 abbrev pub IsKeptByAdmin : Start → Past → Event → Type 0
@@ -48,3 +49,14 @@ IsPostKept start past e = Unit {0}
 abbrev pub CompletionsAreLawful : Type 0
 CompletionsAreLawful = (rules : FrontRules) (notes : Notes) → StartsWithAdmin rules → placing_in rules ≡ None → IsAccount rules notes → KeepsDuties (start_of rules) (shown rules notes)
     → TurnsCqsAlone (shown rules notes) → EachShown (IsPostKept (start_of rules)) (shown rules notes)
+
+-- a doorbell keeps the rules of the host: a tail is a slot, and there are fewer commands than slots; a head is a slot, no further on than the completions
+abbrev pub IsDoorbellKept : Start → Past → Event → Type 0
+IsDoorbellKept start past (Tail sq slot) = tail_verdict (sq_after start past sq) slot ≡ Kept
+IsDoorbellKept start past (Head cq slot) = head_verdict (cq_after start past cq) slot ≡ Kept
+IsDoorbellKept start past e = Unit {0}
+
+-- so it is of those that an account shows, where completions are lawful so, and the host writes heads of completion queues that it was told of
+abbrev pub DoorbellsAreLawful : Type 0
+DoorbellsAreLawful = (rules : FrontRules) (notes : Notes) → StartsWithAdmin rules → placing_in rules ≡ None → IsAccount rules notes → KeepsDuties (start_of rules) (shown rules notes)
+    → TurnsCqsAlone (shown rules notes) → KnowsHeads (start_of rules) (shown rules notes) → EachShown (IsDoorbellKept (start_of rules)) (shown rules notes)

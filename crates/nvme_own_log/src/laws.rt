@@ -12,7 +12,7 @@ ghost use Rattle.nvme_own_log.specs.Shown.{completion_of, shown, start_of};
 ghost use Rattle.nvme_own_log.specs.Duties.{KeepsDuties};
 ghost use Rattle.nvme_own_log.specs.Examples.{deletion_shown, passes_shown};
 ghost use Rattle.nvme_own_log.specs.TurnExamples.{answer, read_answered, read_told, two_rings};
-ghost use Rattle.nvme_own_log.specs.Laws.{AdminQueuesAreLawful, CompletionsAreLawful, FetchesAreLawful};
+ghost use Rattle.nvme_own_log.specs.Laws.{AdminQueuesAreLawful, CompletionsAreLawful, DoorbellsAreLawful, FetchesAreLawful};
 
 /// Worked: what two logs of a controller show, and that the judge finds no fault with them.
 pub fn worked_logs_are_shown()
@@ -44,6 +44,14 @@ pub fn fetches_are_lawful()
 /// premises of `FetchesAreLawful`, where the host turns a completion queue too by one command at a time (`TurnsCqsAlone`).
 pub fn completions_are_lawful()
     ensures { CompletionsAreLawful }
+{}
+
+/// The judge blames the host for no doorbell that an account shows: a tail is a slot, no further on than where the ring is full,
+/// and a head is a slot, no further on than the completions. It is so under the premises of `CompletionsAreLawful`, where the
+/// host writes heads only of completion queues that it was told are there, and to which no completion came before that
+/// (`KnowsHeads`).
+pub fn doorbells_are_lawful()
+    ensures { DoorbellsAreLawful }
 {}
 
 /// Worked: why the host turns a completion queue by one command at a time. An account in which a Create of a completion

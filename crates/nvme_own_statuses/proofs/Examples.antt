@@ -18,13 +18,13 @@ use Rattle.nvme_audit.specs.declared.verdict.Verdict.TheVariants.{Broken}
 use Rattle.nvme_audit.specs.declared.verdict.Rule.TheVariants as rule
 use Rattle.nvme_audit.specs.declared.event.Event.TheVariants as shows
 use Rattle.nvme_own_log.specs.Shown.{completion_of, shown, start_of}
-use Rattle.nvme_own_log.specs.Duties.{KeepsDuties, TurnsCqsAlone}
+use Rattle.nvme_own_log.specs.Duties.{KeepsDuties, TurnsCqsAlone, KnowsHeads}
 use Rattle.nvme_own_statuses.specs.Statuses.{IsAnswerKept, DeviceKeeps, DeviceTakesOwn}
 use Rattle.nvme_own_statuses.specs.Examples.{answer, delete_cq, read_done, refused, refused_told}
 
 each_refused : EachNote (IsLawful one_deletion) refused_told
 unfolding effects_of queue_table status_of dw0_of verdict_of some_below
-each_refused = (record { index_counts = tt; served_while_open = tt; observed = tt; effects_at_once = refl; deletes = (refl, λ s. refl); posts_own = (refl, refl, record { entry = delete_cq; is_there = refl; region = refl; sqid = refl; cid = refl; status = refl; dw0 = refl; sqhd = refl; phase = refl }); fetches_submitted = tt; posts_on_free_slot = omega arith; posts_what_is_through = refl; posts_in_order = refl }, (record { first = refl; executed = record { entry = delete_cq; is_there = refl; picked = refl; whole = refl; finished = λ r. refl; status = refl; dw0 = refl } }, (record { index_counts = tt; served_while_open = refl; observed = refl; effects_at_once = refl; deletes = refl; posts_own = tt; fetches_submitted = tt; posts_on_free_slot = tt; posts_what_is_through = tt; posts_in_order = tt }, (record { index_counts = refl; served_while_open = (refl, refl); observed = tt; effects_at_once = refl; deletes = (refl, refl); posts_own = tt; fetches_submitted = omega arith; posts_on_free_slot = tt; posts_what_is_through = tt; posts_in_order = tt }, (record { is_open = refl; is_slot = omega arith; fits = omega arith }, (record { index_counts = tt; served_while_open = tt; observed = tt; effects_at_once = refl; deletes = (refl, λ s. refl); posts_own = (refl, refl, record { entry = read 0; is_there = refl; region = refl; sqid = refl; cid = refl; status = refl; dw0 = refl; sqhd = refl; phase = refl }); fetches_submitted = tt; posts_on_free_slot = omega arith; posts_what_is_through = refl; posts_in_order = refl }, (record { first = refl; executed = record { tag = 7; stands = refl } }, (record { next = refl; free = refl }, (record { index_counts = tt; served_while_open = refl; observed = refl; effects_at_once = refl; deletes = refl; posts_own = tt; fetches_submitted = tt; posts_on_free_slot = tt; posts_what_is_through = tt; posts_in_order = tt }, (record { index_counts = refl; served_while_open = (refl, refl); observed = tt; effects_at_once = refl; deletes = (refl, refl); posts_own = tt; fetches_submitted = omega arith; posts_on_free_slot = tt; posts_what_is_through = tt; posts_in_order = tt }, (record { is_open = refl; is_slot = omega arith; fits = omega arith }, (record { index_counts = tt; served_while_open = tt; observed = tt; effects_at_once = refl; deletes = (refl, λ s. refl); posts_own = (refl, refl, record { entry = create_sq; is_there = refl; region = refl; sqid = refl; cid = refl; status = refl; dw0 = refl; sqhd = refl; phase = refl }); fetches_submitted = tt; posts_on_free_slot = omega arith; posts_what_is_through = refl; posts_in_order = refl }, (record { first = refl; executed = record { entry = create_sq; is_there = refl; picked = refl; whole = refl; finished = λ r. refl; status = refl; dw0 = refl } }, (record { index_counts = tt; served_while_open = tt; observed = tt; effects_at_once = ([], refl); deletes = tt; posts_own = tt; fetches_submitted = tt; posts_on_free_slot = tt; posts_what_is_through = tt; posts_in_order = tt }, (record { index_counts = tt; served_while_open = refl; observed = refl; effects_at_once = refl; deletes = refl; posts_own = tt; fetches_submitted = tt; posts_on_free_slot = tt; posts_what_is_through = tt; posts_in_order = tt }, (record { index_counts = refl; served_while_open = (refl, refl); observed = tt; effects_at_once = refl; deletes = (refl, refl); posts_own = tt; fetches_submitted = omega arith; posts_on_free_slot = tt; posts_what_is_through = tt; posts_in_order = tt }, (record { is_open = refl; is_slot = omega arith; fits = omega arith }, (record { index_counts = tt; served_while_open = tt; observed = tt; effects_at_once = refl; deletes = (refl, λ s. refl); posts_own = (refl, refl, record { entry = create_cq; is_there = refl; region = refl; sqid = refl; cid = refl; status = refl; dw0 = refl; sqhd = refl; phase = refl }); fetches_submitted = tt; posts_on_free_slot = omega arith; posts_what_is_through = refl; posts_in_order = refl }, (record { first = refl; executed = record { entry = create_cq; is_there = refl; picked = refl; whole = refl; finished = λ r. refl; status = refl; dw0 = refl } }, (record { index_counts = tt; served_while_open = tt; observed = tt; effects_at_once = ([], refl); deletes = tt; posts_own = tt; fetches_submitted = tt; posts_on_free_slot = tt; posts_what_is_through = tt; posts_in_order = tt }, (record { index_counts = tt; served_while_open = refl; observed = refl; effects_at_once = refl; deletes = refl; posts_own = tt; fetches_submitted = tt; posts_on_free_slot = tt; posts_what_is_through = tt; posts_in_order = tt }, (record { index_counts = refl; served_while_open = (refl, refl); observed = tt; effects_at_once = refl; deletes = (refl, refl); posts_own = tt; fetches_submitted = omega arith; posts_on_free_slot = tt; posts_what_is_through = tt; posts_in_order = tt }, (record { is_open = refl; is_slot = omega arith; fits = omega arith }, tt)))))))))))))))))))))))
+each_refused = (record { index_counts = tt; served_while_open = tt; observed = tt; effects_at_once = refl; deletes = (refl, λ s. refl); posts_own = (refl, refl, record { entry = delete_cq; is_there = refl; region = refl; sqid = refl; cid = refl; status = refl; dw0 = refl; sqhd = refl; phase = refl }); fetches_submitted = tt; posts_on_free_slot = omega arith; posts_what_is_through = refl; posts_in_order = refl }, (record { first = refl; executed = record { entry = delete_cq; is_there = refl; picked = refl; whole = refl; finished = λ r. refl; status = refl; dw0 = refl } }, (record { index_counts = tt; served_while_open = refl; observed = refl; effects_at_once = refl; deletes = refl; posts_own = tt; fetches_submitted = tt; posts_on_free_slot = tt; posts_what_is_through = tt; posts_in_order = tt }, (record { index_counts = refl; served_while_open = (refl, refl); observed = tt; effects_at_once = refl; deletes = (refl, refl); posts_own = tt; fetches_submitted = omega arith; posts_on_free_slot = tt; posts_what_is_through = tt; posts_in_order = tt }, (record { is_open = refl; is_slot = omega arith; fits = omega arith }, (record { is_open = refl; is_slot = omega arith; posted = omega arith }, (record { index_counts = tt; served_while_open = tt; observed = tt; effects_at_once = refl; deletes = (refl, λ s. refl); posts_own = (refl, refl, record { entry = read 0; is_there = refl; region = refl; sqid = refl; cid = refl; status = refl; dw0 = refl; sqhd = refl; phase = refl }); fetches_submitted = tt; posts_on_free_slot = omega arith; posts_what_is_through = refl; posts_in_order = refl }, (record { first = refl; executed = record { tag = 7; stands = refl } }, (record { next = refl; free = refl }, (record { index_counts = tt; served_while_open = refl; observed = refl; effects_at_once = refl; deletes = refl; posts_own = tt; fetches_submitted = tt; posts_on_free_slot = tt; posts_what_is_through = tt; posts_in_order = tt }, (record { index_counts = refl; served_while_open = (refl, refl); observed = tt; effects_at_once = refl; deletes = (refl, refl); posts_own = tt; fetches_submitted = omega arith; posts_on_free_slot = tt; posts_what_is_through = tt; posts_in_order = tt }, (record { is_open = refl; is_slot = omega arith; fits = omega arith }, (record { index_counts = tt; served_while_open = tt; observed = tt; effects_at_once = refl; deletes = (refl, λ s. refl); posts_own = (refl, refl, record { entry = create_sq; is_there = refl; region = refl; sqid = refl; cid = refl; status = refl; dw0 = refl; sqhd = refl; phase = refl }); fetches_submitted = tt; posts_on_free_slot = omega arith; posts_what_is_through = refl; posts_in_order = refl }, (record { first = refl; executed = record { entry = create_sq; is_there = refl; picked = refl; whole = refl; finished = λ r. refl; status = refl; dw0 = refl } }, (record { index_counts = tt; served_while_open = tt; observed = tt; effects_at_once = ([], refl); deletes = tt; posts_own = tt; fetches_submitted = tt; posts_on_free_slot = tt; posts_what_is_through = tt; posts_in_order = tt }, (record { index_counts = tt; served_while_open = refl; observed = refl; effects_at_once = refl; deletes = refl; posts_own = tt; fetches_submitted = tt; posts_on_free_slot = tt; posts_what_is_through = tt; posts_in_order = tt }, (record { index_counts = refl; served_while_open = (refl, refl); observed = tt; effects_at_once = refl; deletes = (refl, refl); posts_own = tt; fetches_submitted = omega arith; posts_on_free_slot = tt; posts_what_is_through = tt; posts_in_order = tt }, (record { is_open = refl; is_slot = omega arith; fits = omega arith }, (record { index_counts = tt; served_while_open = tt; observed = tt; effects_at_once = refl; deletes = (refl, λ s. refl); posts_own = (refl, refl, record { entry = create_cq; is_there = refl; region = refl; sqid = refl; cid = refl; status = refl; dw0 = refl; sqhd = refl; phase = refl }); fetches_submitted = tt; posts_on_free_slot = omega arith; posts_what_is_through = refl; posts_in_order = refl }, (record { first = refl; executed = record { entry = create_cq; is_there = refl; picked = refl; whole = refl; finished = λ r. refl; status = refl; dw0 = refl } }, (record { index_counts = tt; served_while_open = tt; observed = tt; effects_at_once = ([], refl); deletes = tt; posts_own = tt; fetches_submitted = tt; posts_on_free_slot = tt; posts_what_is_through = tt; posts_in_order = tt }, (record { index_counts = tt; served_while_open = refl; observed = refl; effects_at_once = refl; deletes = refl; posts_own = tt; fetches_submitted = tt; posts_on_free_slot = tt; posts_what_is_through = tt; posts_in_order = tt }, (record { index_counts = refl; served_while_open = (refl, refl); observed = tt; effects_at_once = refl; deletes = (refl, refl); posts_own = tt; fetches_submitted = omega arith; posts_on_free_slot = tt; posts_what_is_through = tt; posts_in_order = tt }, (record { is_open = refl; is_slot = omega arith; fits = omega arith }, tt))))))))))))))))))))))))
 
 pub refused_account : IsAccount one_deletion refused_told
 unfolding effects_of queue_table status_of dw0_of verdict_of some_below
@@ -49,19 +49,23 @@ none_out false b x y other is = none_left b y other is
 
 pub refused_duties : KeepsDuties (start_of one_deletion) (shown one_deletion refused_told)
 unfolding effects_of queue_table
-refused_duties = (tt, ((refl, λ z cid other is q turned turns. cc turned), (refl, (tt, ((refl, λ z cid other is q turned turns. cc z), (refl, (tt, ((refl, λ z cid other is q turned turns. none_left (0 == cid) _ other is), (refl, (tt, ((refl, λ z cid other is q turned turns. cc turned), (refl, tt))))))))))))
+refused_duties = (tt, ((refl, λ z cid other is q turned turns. cc turned), (refl, (tt, (tt, ((refl, λ z cid other is q turned turns. cc z), (refl, (tt, ((refl, λ z cid other is q turned turns. none_left (0 == cid) _ other is), (refl, (tt, ((refl, λ z cid other is q turned turns. cc turned), (refl, tt)))))))))))))
 
 pub refused_alone : TurnsCqsAlone (shown one_deletion refused_told)
 unfolding effects_of queue_table
-refused_alone = (tt, (λ z name other is q turned turns. none_out (1 == name) (0 == name) _ _ other is, (tt, (tt, (λ z name other is q turned turns. cc z, (tt, (tt, (λ z name other is q turned turns. cc turned, (tt, (tt, (λ z name other is q turned turns. cc is, (tt, tt))))))))))))
+refused_alone = (tt, (λ z name other is q turned turns. none_out (1 == name) (0 == name) _ _ other is, (tt, (tt, (tt, (λ z name other is q turned turns. cc z, (tt, (tt, (λ z name other is q turned turns. cc turned, (tt, (tt, (λ z name other is q turned turns. cc is, (tt, tt)))))))))))))
+
+pub refused_heads : KnowsHeads (start_of one_deletion) (shown one_deletion refused_told)
+unfolding effects_of queue_table
+refused_heads = (tt, (tt, (tt, ((refl, refl), (tt, (tt, (tt, (tt, (tt, (tt, (tt, (tt, (tt, tt)))))))))))))
 
 -- ---- the device
 pub refused_own : DeviceTakesOwn refused_told
-refused_own = (λ z passed entry sqid cid at is success says. absurd (cc passed), (tt, (tt, (tt, (tt, (λ z passed entry sqid cid at is success says. absurd (cc z), (tt, (tt, (tt, (tt, (tt, (λ z passed entry sqid cid at is success says. absurd (cc passed), (tt, (tt, (tt, (tt, (tt, (λ z passed entry sqid cid at is success says. absurd (cc passed), (tt, (tt, (tt, (tt, (tt, tt)))))))))))))))))))))))
+refused_own = (λ z passed entry sqid cid at is success says. absurd (cc passed), (tt, (tt, (tt, (tt, (tt, (λ z passed entry sqid cid at is success says. absurd (cc z), (tt, (tt, (tt, (tt, (tt, (λ z passed entry sqid cid at is success says. absurd (cc passed), (tt, (tt, (tt, (tt, (tt, (λ z passed entry sqid cid at is success says. absurd (cc passed), (tt, (tt, (tt, (tt, (tt, tt))))))))))))))))))))))))
 
 pub refused_kept : DeviceKeeps one_deletion (IsAnswerKept (start_of one_deletion)) refused_told
 unfolding effects_of queue_table
-refused_kept = (λ g q is. absurd (cc g), (tt, (tt, (tt, (tt, (λ g q is. subst (λ (k : ℕ). IsAnswerKept (start_of one_deletion) (shown one_deletion read_done) k (completion_of (answer 1 0 1 success))) (same_Some 1 q is) refl, (tt, (tt, (tt, (tt, (tt, (λ g q is. absurd (cc g), (tt, (tt, (tt, (tt, (tt, (λ g q is. absurd (cc g), (tt, (tt, (tt, (tt, (tt, tt)))))))))))))))))))))))
+refused_kept = (λ g q is. absurd (cc g), (tt, (tt, (tt, (tt, (tt, (λ g q is. subst (λ (k : ℕ). IsAnswerKept (start_of one_deletion) (shown one_deletion read_done) k (completion_of (answer 1 0 1 success))) (same_Some 1 q is) refl, (tt, (tt, (tt, (tt, (tt, (λ g q is. absurd (cc g), (tt, (tt, (tt, (tt, (tt, (λ g q is. absurd (cc g), (tt, (tt, (tt, (tt, (tt, tt))))))))))))))))))))))))
 
 -- ---- what the judge says
 pub success_breaks : audit.verdict (start_of one_deletion) (shown one_deletion refused) (shows.Post 0 (Some 2) (completion_of (answer 0 2 3 success))) ≡ Broken rule.StatusDelete

@@ -9,6 +9,7 @@ use Rattle.nvme_log.specs.declared.event.Event.TheVariants as event
 use Rattle.nvme_log.specs.Rules.{FrontRules}
 use Rattle.nvme_log.specs.Laws.{StartsWithAdmin}
 use Rattle.nvme_ctrl_log.specs.Notes.{Notes, Logged}
+use Rattle.nvme_ctrl_log.specs.Account.{IsAccount}
 use Rattle.nvme_ctrl_log.specs.Making.{placing_in}
 use Rattle.nvme_audit.specs.declared.event.Event.TheVariants.{Tail, Head, Fetch, Post}
 use Rattle.nvme_audit.specs.declared.facts.Start.{Start}
@@ -23,13 +24,15 @@ use Rattle.nvme_audit.specs.Rules.{if_kept}
 use Rattle.nvme_audit.specs.Turns.{sq_named, cq_named}
 use Rattle.nvme_audit.specs.Facts.{sq_after, cq_after, admin_after, outstanding}
 use Rattle.nvme_audit.specs.Answers.{mark_in, answered_in, status_rules}
-use Rattle.nvme_audit.specs.Lawful.{is_broken, IsLawfulLog}
+use Rattle.nvme_audit.specs.Lawful.{is_broken, IsLawfulLog, IsFaultlessLog}
 use Rattle.nvme_own_log.specs.Shown.{start_of, completion_of, shown, EachShown}
-use Rattle.nvme_own_log.specs.Laws.{IsFetchKept, IsPostKept}
+use Rattle.nvme_own_log.specs.Duties.{KeepsDuties}
+use Rattle.nvme_own_log.specs.Laws.{IsDoorbellKept, IsFetchKept, IsPostKept}
 use Rattle.nvme_own_log.proofs.Completions.{completions_are_lawful}
+use Rattle.nvme_own_log.proofs.Doorbells.{doorbells_are_lawful}
 use Rattle.nvme_own_log.proofs.Fetches.{fetches_are_lawful}
-use Rattle.nvme_own_statuses.specs.Statuses.{IsAnswerKept, is_set_features, is_delete_sq, is_create_sq, is_delete_cq, is_create_cq, is_given, EachPost, OfGiven, TakesOwn, DeviceTakesOwn}
-use Rattle.nvme_own_statuses.specs.Laws.{LogsAreLawful}
+use Rattle.nvme_own_statuses.specs.Statuses.{IsAnswerKept, is_set_features, is_delete_sq, is_create_sq, is_delete_cq, is_create_cq, is_given, EachPost, OfGiven, DeviceKeeps, TakesOwn, DeviceTakesOwn}
+use Rattle.nvme_own_statuses.specs.Laws.{LogsAreLawful, LogsAreFaultless}
 use Rattle.nvme_own_statuses.proofs.Standing.{Stands, each_post}
 use Rattle.nvme_own_statuses.proofs.Starts.{no_deletion}
 use Rattle.nvme_own_statuses.proofs.Statuses.{sqdel_asked, abort_asked, of_command, standing}
@@ -112,19 +115,41 @@ head_lawful cq slot = not_broken cq.excused (head_rules cq.qsize cq.early cq.pos
   by (Some qsize) = one (nat_lt qsize slot || (not cq.early && nat_lt cq.posted (advanced qsize cq.consumed slot))) _ refl
 
 -- ---- all events
-post_lawful : (v w : Verdict) → v ≡ Kept → w ≡ Kept → is_broken (if_kept v w) ≡ false
-post_lawful v w h k = ap is_broken (ap (λ (x : Verdict). if_kept x w) h ∙ k)
+both_kept : (v w : Verdict) → v ≡ Kept → w ≡ Kept → if_kept v w ≡ Kept
+both_kept v w h k = ap (λ (x : Verdict). if_kept x w) h ∙ k
 
 lawful_log : (start : Start) (log : lives.Past) → EachShown (IsFetchKept start) log → EachShown (IsPostKept start) log → EachPost (IsAnswerKept start) log → IsLawfulLog start log
 lawful_log start [] f p a = tt
 lawful_log start (Tail sq slot ∷ log) f p a = (not_broken (is_lost log) _ (tail_lawful (sq_after start log sq) slot), lawful_log start log f.1 p.1 a.1)
 lawful_log start (Head cq slot ∷ log) f p a = (not_broken (is_lost log) _ (head_lawful (cq_after start log cq) slot), lawful_log start log f.1 p.1 a.1)
 lawful_log start (Fetch sq slot cid command ∷ log) f p a = (not_broken (is_lost log) _ (ap is_broken f.0), lawful_log start log f.1 p.1 a.1)
-lawful_log start (Post cq slot completion ∷ log) f p a = (not_broken (is_lost log) _ (post_lawful _ _ p.0 a.0), lawful_log start log f.1 p.1 a.1)
+lawful_log start (Post cq slot completion ∷ log) f p a = (not_broken (is_lost log) _ (ap is_broken (both_kept _ _ p.0 a.0)), lawful_log start log f.1 p.1 a.1)
+
+-- neither the controller nor the host breaks one, where doorbells keep theirs too
+kept_unless_lost : (b : Bool) (v : Verdict) → v ≡ Kept → (if b then Kept else v) ≡ Kept
+kept_unless_lost true v h = refl
+kept_unless_lost false v h = h
+
+faultless_log : (start : Start) (log : lives.Past) → EachShown (IsDoorbellKept start) log → EachShown (IsFetchKept start) log → EachShown (IsPostKept start) log → EachPost (IsAnswerKept start) log → IsFaultlessLog start log
+faultless_log start [] d f p a = tt
+faultless_log start (Tail sq slot ∷ log) d f p a = (kept_unless_lost (is_lost log) _ d.0, faultless_log start log d.1 f.1 p.1 a.1)
+faultless_log start (Head cq slot ∷ log) d f p a = (kept_unless_lost (is_lost log) _ d.0, faultless_log start log d.1 f.1 p.1 a.1)
+faultless_log start (Fetch sq slot cid command ∷ log) d f p a = (kept_unless_lost (is_lost log) _ f.0, faultless_log start log d.1 f.1 p.1 a.1)
+faultless_log start (Post cq slot completion ∷ log) d f p a = (kept_unless_lost (is_lost log) _ (both_kept _ _ p.0 a.0), faultless_log start log d.1 f.1 p.1 a.1)
+
+answers_are_kept : (rules : FrontRules) (notes : Notes) → StartsWithAdmin rules → placing_in rules ≡ None → IsAccount rules notes → KeepsDuties (start_of rules) (shown rules notes) → 0 < rules.start.nsq → rules.start.nsq < MAX_REGIONS → 0 < rules.start.ncq
+    → DeviceTakesOwn notes → DeviceKeeps rules (IsAnswerKept (start_of rules)) notes → EachPost (IsAnswerKept (start_of rules)) (shown rules notes)
+answers_are_kept rules notes starts by_regions h duties sqs few cqs own device =
+    each_post rules (IsAnswerKept (start_of rules)) (λ past note. OfGiven rules (IsAnswerKept (start_of rules)) past note × TakesOwn past note)
+    (λ past c r i q cqe s d into. answer_kept rules starts by_regions sqs few cqs past c r i cqe s q (second_each (OfGiven rules (IsAnswerKept (start_of rules))) TakesOwn (Logged (event.Post c r i cqe) ∷ past) d) (λ g. d.0.0 g q into))
+    notes (standing rules notes h duties) (both_each (OfGiven rules (IsAnswerKept (start_of rules))) TakesOwn notes device own)
 
 pub logs_are_lawful : LogsAreLawful
 logs_are_lawful rules notes starts by_regions h duties turns sqs few cqs own device =
     lawful_log (start_of rules) (shown rules notes) (fetches_are_lawful rules notes starts by_regions h duties) (completions_are_lawful rules notes starts by_regions h duties turns)
-    (each_post rules (IsAnswerKept (start_of rules)) (λ past note. OfGiven rules (IsAnswerKept (start_of rules)) past note × TakesOwn past note)
-    (λ past c r i q cqe s d into. answer_kept rules starts by_regions sqs few cqs past c r i cqe s q (second_each (OfGiven rules (IsAnswerKept (start_of rules))) TakesOwn (Logged (event.Post c r i cqe) ∷ past) d) (λ g. d.0.0 g q into))
-    notes (standing rules notes h duties) (both_each (OfGiven rules (IsAnswerKept (start_of rules))) TakesOwn notes device own))
+    (answers_are_kept rules notes starts by_regions h duties sqs few cqs own device)
+
+pub logs_are_faultless : LogsAreFaultless
+logs_are_faultless rules notes starts by_regions h duties turns heads sqs few cqs own device =
+    faultless_log (start_of rules) (shown rules notes) (doorbells_are_lawful rules notes starts by_regions h duties turns heads) (fetches_are_lawful rules notes starts by_regions h duties)
+    (completions_are_lawful rules notes starts by_regions h duties turns) (answers_are_kept rules notes starts by_regions h duties sqs few cqs own device)

@@ -7,7 +7,7 @@ use Rattle.nvme_entry.specs.declared.completion.Cqe.{Cqe}
 use Rattle.nvme_arbiter.specs.declared.settings.Class.TheVariants.{Urgent}
 use Rattle.nvme_log.specs.declared.event.Event.TheVariants.{Fetch, OpenSq, OpenCq, Post}
 use Rattle.nvme_log.specs.Examples.{command, create_cq, create_sq, read, admin_seen, reads_seen, picked_of}
-use Rattle.nvme_ctrl_log.specs.Notes.{Notes, Logged, Tail, Taken, Answered}
+use Rattle.nvme_ctrl_log.specs.Notes.{Notes, Logged, Tail, Head, Taken, Answered}
 use Rattle.nvme_ctrl_log.specs.Examples.{succeeded}
 
 -- Delete I/O Completion Queue 1
@@ -34,7 +34,7 @@ read_done =
     ∷ []
 
 abbrev pub pair_made : Notes
-pair_made = Logged (Post 1 1 0 (answer 1 0 1 success)) ∷ read_done
+pair_made = Head 1 1 ∷ Logged (Post 1 1 0 (answer 1 0 1 success)) ∷ read_done
 
 -- the host deletes the completion queue, which the controller refuses
 abbrev pub refused : Notes

@@ -11,10 +11,10 @@ ghost use Rattle.nvme_audit.specs.declared.verdict.Rule.TheVariants.{StatusDelet
 ghost use Rattle.nvme_audit.specs.declared.verdict.Verdict.TheVariants.{Broken};
 ghost use Rattle.nvme_audit.specs.Lawful.{verdict};
 ghost use Rattle.nvme_own_log.specs.Shown.{completion_of, shown, start_of};
-ghost use Rattle.nvme_own_log.specs.Duties.{KeepsDuties, TurnsCqsAlone};
+ghost use Rattle.nvme_own_log.specs.Duties.{KeepsDuties, TurnsCqsAlone, KnowsHeads};
 ghost use Rattle.nvme_own_statuses.specs.Statuses.{IsAnswerKept, DeviceKeeps, DeviceTakesOwn};
 ghost use Rattle.nvme_own_statuses.specs.Examples.{answer, refused, refused_told};
-ghost use Rattle.nvme_own_statuses.specs.Laws.{SqdelsAreAsked, AbortsAreAsked, AbortedAreAsTold, AbortsAreTrue, StatusesAreOfCommands, FeaturesAreTrue, DeletesAreTrue, SqCreatesAreTrue, CqCreatesAreTrue, CqDeletesAreTrue, LogsAreLawful};
+ghost use Rattle.nvme_own_statuses.specs.Laws.{SqdelsAreAsked, AbortsAreAsked, AbortedAreAsTold, AbortsAreTrue, StatusesAreOfCommands, FeaturesAreTrue, DeletesAreTrue, SqCreatesAreTrue, CqCreatesAreTrue, CqDeletesAreTrue, LogsAreLawful, LogsAreFaultless};
 
 /// A completion says that its command was aborted with its queue only where a Delete of that was fetched. Of the statuses
 /// that the device gave the device keeps that (`DeviceKeeps`); so it is in the laws below.
@@ -88,7 +88,13 @@ pub fn logs_are_lawful()
     ensures { LogsAreLawful }
 {}
 
-/// Worked: a log that meets the premises of `logs_are_lawful`, in which the Delete of a completion queue is refused, since a
+/// Nor does the host break one, by the judge's rules of hosts: it accuses nobody at any event of the log. For that the host
+/// writes heads only of completion queues that it was told are there, and to which no completion came before that (`KnowsHeads`).
+pub fn logs_are_faultless()
+    ensures { LogsAreFaultless }
+{}
+
+/// Worked: a log that meets the premises of `logs_are_faultless`, in which the Delete of a completion queue is refused, since a
 /// submission queue is attached to it. The judge would blame a controller that let it succeed.
 pub fn worked_refusal()
     ensures starts { StartsWithAdmin one_deletion }
@@ -96,6 +102,7 @@ pub fn worked_refusal()
     ensures account { IsAccount one_deletion refused_told }
     ensures duties { KeepsDuties (start_of one_deletion) (shown one_deletion refused_told) }
     ensures turns { TurnsCqsAlone (shown one_deletion refused_told) }
+    ensures heads { KnowsHeads (start_of one_deletion) (shown one_deletion refused_told) }
     ensures own { DeviceTakesOwn refused_told }
     ensures device { DeviceKeeps one_deletion (IsAnswerKept (start_of one_deletion)) refused_told }
     ensures judged { verdict (start_of one_deletion) (shown one_deletion refused) (Post 0 (Some 2) (completion_of (answer 0 2 3 success))) ≡ Broken StatusDelete }
