@@ -45,7 +45,7 @@ use Rattle.nvme_own_statuses.proofs.TrueFeatures.{true_features}
 
 -- ---- the statuses of completions
 -- no part of what is asked is broken
-all_kept : (e u n t a f : Bool) (v w x y z : Verdict) → u ≡ false → n ≡ false → t ≡ false → a ≡ false → f ≡ false → z ≡ Kept
+pub all_kept : (e u n t a f : Bool) (v w x y z : Verdict) → u ≡ false → n ≡ false → t ≡ false → a ≡ false → f ≡ false → z ≡ Kept
     → (if e then Kept else (if u then v else (if n then w else (if t || a then x else (if f then y else z))))) ≡ Kept
 all_kept true u n t a f v w x y z hu hn ht ha hf hz = refl
 all_kept false u n t a f v w x y z hu hn ht ha hf hz = rw (hu, hn, ht, ha, hf) hz

@@ -31,3 +31,4 @@ mod SettledSqs
 mod TrueCqDeletes
 mod LawfulLogs
 mod Examples
+pub mod IoLogs

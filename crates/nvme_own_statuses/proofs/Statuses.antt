@@ -63,7 +63,7 @@ pub mark_is : (o : Option AdminCommand) (command : AdminCommand) (number mark : 
 mark_is None command number mark named owed e = cc e
 mark_is (Some found) command number mark named owed e = refl
 
-first_two : (a b c : Bool) → (a && b) ≡ false → (a && b && c) ≡ false
+pub first_two : (a b c : Bool) → (a && b) ≡ false → (a && b && c) ≡ false
 first_two true true c h = cc h
 first_two true false c h = refl
 first_two false b c h = refl

@@ -1,5 +1,5 @@
 -- What completions of Aborts say of other commands: each that one says was aborted ends so.
-use Rattle.std.proofs.Common.{◌≡◌, ℕ, ◌+◌, ◌<◌, ◌≤◌, ◌==◌, ◌&&◌, Bool, true, false, if◌then◌else◌, List, ◌∷◌, length, Option, Some, sym, ◌∙◌, subst, arith, ◌⊎◌, inl, inr, eqb-true}
+use Rattle.std.proofs.Common.{◌≡◌, ℕ, ◌+◌, ◌<◌, ◌≤◌, ◌==◌, ◌&&◌, Bool, true, false, if◌then◌else◌, List, [], ◌∷◌, length, Option, Some, sym, ◌∙◌, subst, arith, ◌⊎◌, inl, inr, refl, eqb-true}
 use Rattle.std.specs.Prelude.{slice_get}
 use Rattle.std.proofs.lemmas.Bool.{eq-eqb, and_parts}
 use Rattle.nvme_entry.specs.AdminCommand.{admin_command_of}
@@ -10,6 +10,8 @@ use Rattle.nvme_log.specs.Rules.{FrontRules, Past}
 use Rattle.nvme_log.specs.Places.{fetched, fate_of, is_waiting, is_aborted}
 use Rattle.nvme_log.specs.Aborts.{has_aborted, is_abort_requested}
 use Rattle.nvme_log.specs.Completions.{is_posted}
+use Rattle.nvme_ctrl_log.specs.Notes.{Notes, Passed}
+use Rattle.nvme_ctrl_log.specs.Tags.{is_passed, is_of_device}
 use Rattle.nvme_audit.specs.declared.event.Completion.{Completion}
 use Rattle.nvme_audit.specs.declared.event.Event.TheVariants.{Tail, Head, Post}
 use Rattle.nvme_audit.specs.Lives as lives
@@ -20,6 +22,21 @@ use Rattle.nvme_audit.specs.Marks.{mark_of, owes}
 use Rattle.nvme_own_statuses.proofs.Caused.{IsDue}
 use Rattle.nvme_own_statuses.proofs.Outs.{IsOut}
 use Rattle.nvme_own_log.proofs.Phases.{IsPending}
+
+-- an admin command was passed on
+abbrev pub has_passed : Notes → Bool
+has_passed [] = false
+has_passed (Passed i ∷ notes) = true
+has_passed (note ∷ notes) = has_passed notes
+
+pub passed_some : (notes : Notes) (i : ℕ) → is_passed notes i ≡ true → has_passed notes ≡ true
+passed_some [] i h = cc h
+passed_some (Passed index ∷ notes) i h = refl
+passed_some (note ∷ notes) i h = passed_some notes i h
+
+-- the device has the command of a place, and may say of others that it aborted them: admin commands were passed on
+abbrev pub had_by : Notes → (r i : ℕ) → Bool
+had_by notes r i = is_of_device notes r i && has_passed notes
 
 module _ (rules : FrontRules) where
   -- a command of the queue with this identifier was taken by an Abort command, and isn't posted

@@ -1,7 +1,7 @@
 -- What completions of Aborts say of other commands, note by note.
 use Rattle.std.proofs.Common.{◌≡◌, ℕ, ◌%◌, ◌<◌, ◌≤◌, ◌==◌, ◌&&◌, ◌||◌, Bool, true, false, not, if◌then◌else◌, [], ◌∷◌, ◌++◌, length, Option, Some, None, is_some, refl, sym, ap, ◌∙◌, subst, arith, ◌⊎◌, inl, inr, eqb-true}
 use Rattle.std.specs.Prelude.{slice_get}
-use Rattle.std.proofs.lemmas.Bool.{cases_Bool, cases_eq, eq-eqb, ne_eqb, or_cases, or_parts, and_parts, false_from_ne_true}
+use Rattle.std.proofs.lemmas.Bool.{cases_Bool, cases_eq, eq-eqb, ne_eqb, or_cases, or_parts, and_parts, and_from, false_from_ne_true}
 use Rattle.std.proofs.lemmas.Option.{none-some, same_Some}
 use Rattle.std.proofs.lemmas.List.{length_push}
 use Rattle.nvme_entry.specs.Status.{abort_requested, aborted_by_deletion}
@@ -47,7 +47,7 @@ use Rattle.nvme_own_log.proofs.OwnRegions.{admin_qid, admin_region, opens_io}
 use Rattle.nvme_own_log.proofs.Phases.{IsPending, opened_fresh}
 use Rattle.nvme_own_statuses.proofs.Standing.{Stands, stands_before, io_at}
 use Rattle.nvme_own_statuses.proofs.StatusBy.{StatusBy, by_device, by_abort, by_checks, status_by}
-use Rattle.nvme_own_statuses.proofs.Tells.{IsTaken, IsHeld, TellsAt, tells_tail, tells_head, tells_more, tells_later, names_is, stirred_grows, stirred_more}
+use Rattle.nvme_own_statuses.proofs.Tells.{has_passed, had_by, passed_some, IsTaken, IsHeld, TellsAt, tells_tail, tells_head, tells_more, tells_later, names_is, stirred_grows, stirred_more}
 use Rattle.nvme_own_statuses.proofs.TellsSteps.{leaves_effect, leaves_closed, leaves_open, leaves_pick, leaves_abort}
 use Rattle.nvme_own_log.proofs.Agreeing.{get_push}
 
@@ -208,7 +208,7 @@ module _ (rules : FrontRules) (starts : StartsWithAdmin rules) (by_regions : pla
     }
 
   -- ---- a completion
-  module _ (b t j : ℕ) (cqe : Cqe) (notes : Notes) (s : Stands rules (Logged (event.Post b t j cqe) ∷ notes)) (device : TakesOwn notes (Logged (event.Post b t j cqe))) (c : TellsAt rules (shown rules notes) (logged notes) (is_of_device notes)) where
+  module _ (b t j : ℕ) (cqe : Cqe) (notes : Notes) (s : Stands rules (Logged (event.Post b t j cqe) ∷ notes)) (device : TakesOwn notes (Logged (event.Post b t j cqe))) (c : TellsAt rules (shown rules notes) (logged notes) (had_by notes)) where
     abbrev before : Past
     before = logged notes
 
@@ -268,12 +268,12 @@ module _ (rules : FrontRules) (starts : StartsWithAdmin rules) (by_regions : pla
         ]
 
     -- a command that it names ends so
-    told_place : (r i q : ℕ) (x : Sqe) → IsOut rules before r i q x → t ≡ 0 → admin_command_of posted.entry ≡ Abort q x.cid → IsTold q x.cid → (is_abort_requested before r i ≡ true) ⊎ IsHeld rules before (is_of_device notes) r i
+    told_place : (r i q : ℕ) (x : Sqe) → IsOut rules before r i q x → t ≡ 0 → admin_command_of posted.entry ≡ Abort q x.cid → IsTold q x.cid → (is_abort_requested before r i ≡ true) ⊎ IsHeld rules before (had_by notes) r i
     told_place r i q x o z command told = by given where
       parts : ((is_success cqe.status && says_aborted (Some cqe.dw0)) ≡ true) × ((stirred told_log q == mark_of told_log 0 cqe.cid) ≡ true)
       parts = and_parts (is_success cqe.status && says_aborted (Some cqe.dw0)) (stirred told_log q == mark_of told_log 0 cqe.cid) told
 
-      by : StatusBy rules notes t j posted.entry cqe → (is_abort_requested before r i ≡ true) ⊎ IsHeld rules before (is_of_device notes) r i
+      by : StatusBy rules notes t j posted.entry cqe → (is_abort_requested before r i ≡ true) ⊎ IsHeld rules before (had_by notes) r i
       by (by_abort a is) = absurd (admin-unaborted rules before (effects_of rules notes stands.each) j (subst (λ (k : ℕ). is_aborted before k j ≡ true) z a))
       by (by_checks first none is dw0) =
           let taken : IsTaken rules before q x.cid = told_own q x.cid first none command is dw0 told in
@@ -286,7 +286,7 @@ module _ (rules : FrontRules) (starts : StartsWithAdmin rules) (by_regions : pla
           let had : is_had notes r i ≡ true = device z passed posted.entry q x.cid (subst (λ (k : ℕ). entry_at before k j ≡ Some posted.entry) z posted.is_there) command inner.0 inner.1 r i x o.own o.is_there refl o.unposted in
           let both = and_parts (is_given notes r i) (not (is_waiting (fate_of before r i))) had in
           let given_too = and_parts (is_of_device notes r i) (not (is_aborted before r i)) both.0 in
-          inr (record { of_device = given_too.0; waits_not = not_so (is_waiting (fate_of before r i)) both.1; unaborted = not_so (is_aborted before r i) given_too.1; none_due = none_due rules before r i done_before }) where
+          inr (record { of_device = and_from (is_of_device notes r i) (has_passed notes) given_too.0 (passed_some notes j passed); waits_not = not_so (is_waiting (fate_of before r i)) both.1; unaborted = not_so (is_aborted before r i) given_too.1; none_due = none_due rules before r i done_before }) where
             not_so : (y : Bool) → not y ≡ true → y ≡ false
             not_so true h = cc h
             not_so false h = refl
@@ -314,7 +314,7 @@ module _ (rules : FrontRules) (starts : StartsWithAdmin rules) (by_regions : pla
     pending_before k a p = (p.0, (or_parts (t == 0 && j == k) (is_posted before 0 k) p.1).1)
 
     -- into a queue that is there
-    tells_into : (p : ℕ) → TellsAt rules (then_log (Some p)) (event.Post b t j cqe ∷ before) (is_of_device notes)
+    tells_into : (p : ℕ) → TellsAt rules (then_log (Some p)) (event.Post b t j cqe ∷ before) (had_by notes)
     tells_into p = record {
       there = c.there;
       low = λ k q cid a pending is. (let low = c.low k q cid a (pending_before k a pending) is in omega (arith, low, grows q));
@@ -354,8 +354,8 @@ module _ (rules : FrontRules) (starts : StartsWithAdmin rules) (by_regions : pla
       grows : (q : ℕ) → stirred told_log q ≤ stirred (then_log (Some p)) q
       grows q = stirred_grows told_log p slot (completion_of cqe) q
 
-      later : (r i : ℕ) → (is_abort_requested before r i ≡ true) ⊎ IsHeld rules before (is_of_device notes) r i
-          → (is_abort_requested (event.Post b t j cqe ∷ before) r i ≡ true) ⊎ IsHeld rules (event.Post b t j cqe ∷ before) (is_of_device notes) r i
+      later : (r i : ℕ) → (is_abort_requested before r i ≡ true) ⊎ IsHeld rules before (had_by notes) r i
+          → (is_abort_requested (event.Post b t j cqe ∷ before) r i ≡ true) ⊎ IsHeld rules (event.Post b t j cqe ∷ before) (had_by notes) r i
       later r i (inl ok) = inl ok
       later r i (inr h) = inr (record { of_device = h.of_device; waits_not = h.waits_not; unaborted = h.unaborted; none_due = λ d. none_due rules before r i done_before (record { rest = d.rest; all = d.all; among = d.among }) })
 
@@ -368,51 +368,52 @@ module _ (rules : FrontRules) (starts : StartsWithAdmin rules) (by_regions : pla
             subst (λ (k : AdminCommand). told_of (stirred told_log (sq_named k)) (mark_of told_log 0 cqe.cid) (completion_of cqe) ≡ true) is
             (subst (λ (o : Option AdminCommand). told_of (stirred told_log (sq_named (answered told_log (completion_of cqe)))) (mark_if o (mark_of told_log 0 cqe.cid)) (completion_of cqe) ≡ true) some told)
 
-    pub tells_post : TellsAt rules (shown rules (Logged (event.Post b t j cqe) ∷ notes)) (event.Post b t j cqe ∷ before) (is_of_device notes)
+    pub tells_post : TellsAt rules (shown rules (Logged (event.Post b t j cqe) ∷ notes)) (event.Post b t j cqe ∷ before) (had_by notes)
     tells_post =
         let into = posts_there before t b posted.region in
-        subst (λ (o : Option ℕ). TellsAt rules (then_log o) (event.Post b t j cqe ∷ before) (is_of_device notes)) (sym into.1) (tells_into into.0)
+        subst (λ (o : Option ℕ). TellsAt rules (then_log o) (event.Post b t j cqe ∷ before) (had_by notes)) (sym into.1) (tells_into into.0)
 
   -- ---- all notes
-  pub tells_at : (notes : Notes) → Stands rules notes → DeviceTakesOwn notes → TellsAt rules (shown rules notes) (logged notes) (is_of_device notes)
+  pub tells_at : (notes : Notes) → Stands rules notes → DeviceTakesOwn notes → TellsAt rules (shown rules notes) (logged notes) (had_by notes)
   tells_at [] s d = record { there = λ k h. cc h; low = λ k q cid a p is. absurd (none-some a p.0); told = λ k q cid a p is h. cc h; owed = λ r i q x o w. cc w }
   tells_at (Tail r slot ∷ notes) s d = by (qid_of_region (logged notes) r) (tells_at notes (stands_before rules (Tail r slot) notes s) d.1) where
-    by : (o : Option ℕ) → TellsAt rules (shown rules notes) (logged notes) (is_of_device notes) → TellsAt rules (tail_of o slot (shown rules notes)) (logged notes) (is_of_device notes)
+    by : (o : Option ℕ) → TellsAt rules (shown rules notes) (logged notes) (had_by notes) → TellsAt rules (tail_of o slot (shown rules notes)) (logged notes) (had_by notes)
     by None t = t
-    by (Some q) t = tells_tail rules (shown rules notes) (logged notes) (is_of_device notes) q slot t
+    by (Some q) t = tells_tail rules (shown rules notes) (logged notes) (had_by notes) q slot t
   tells_at (Head c slot ∷ notes) s d = by (cqid_of_region (logged notes) c) (tells_at notes (stands_before rules (Head c slot) notes s) d.1) where
-    by : (o : Option ℕ) → TellsAt rules (shown rules notes) (logged notes) (is_of_device notes) → TellsAt rules (head_of o slot (shown rules notes)) (logged notes) (is_of_device notes)
+    by : (o : Option ℕ) → TellsAt rules (shown rules notes) (logged notes) (had_by notes) → TellsAt rules (head_of o slot (shown rules notes)) (logged notes) (had_by notes)
     by None t = t
-    by (Some q) t = tells_head rules (shown rules notes) (logged notes) (is_of_device notes) q slot t
+    by (Some q) t = tells_head rules (shown rules notes) (logged notes) (had_by notes) q slot t
   tells_at (Passed i ∷ notes) s d =
-      tells_more rules (shown rules notes) (logged notes) (is_of_device notes) (is_of_device (Passed i ∷ notes))
-      (λ r k h. more (not (r == 0)) (i == k) (is_passed notes k) h) (tells_at notes (stands_before rules (Passed i) notes s) d.1) where
-        more : (x y z : Bool) → (x || z) ≡ true → (x || (y || z)) ≡ true
-        more true y z h = refl
-        more false true z h = refl
-        more false false z h = h
-  tells_at (Logged (event.Fetch r i entry) ∷ notes) s d = tells_fetch r i entry notes s (is_of_device notes) (tells_at notes (stands_before rules (Logged (event.Fetch r i entry)) notes s) d.1)
+      tells_more rules (shown rules notes) (logged notes) (had_by notes) (had_by (Passed i ∷ notes))
+      (λ r k h. more (not (r == 0)) (i == k) (is_passed notes k) (has_passed notes) h) (tells_at notes (stands_before rules (Passed i) notes s) d.1) where
+        more : (x y z p : Bool) → ((x || z) && p) ≡ true → ((x || (y || z)) && true) ≡ true
+        more true y z p h = refl
+        more false true z p h = refl
+        more false false true p h = refl
+        more false false false p h = cc h
+  tells_at (Logged (event.Fetch r i entry) ∷ notes) s d = tells_fetch r i entry notes s (had_by notes) (tells_at notes (stands_before rules (Logged (event.Fetch r i entry)) notes s) d.1)
   tells_at (Logged (event.Post c r i cqe) ∷ notes) s d = tells_post c r i cqe notes s d.0 (tells_at notes (stands_before rules (Logged (event.Post c r i cqe)) notes s) d.1)
   tells_at (Logged (event.Pick seen pick) ∷ notes) s d =
-      tells_later rules (shown rules notes) (logged notes) (event.Pick seen pick ∷ logged notes) (is_of_device notes) (leaves_pick rules (logged notes) seen pick) (tells_at notes (stands_before rules (Logged (event.Pick seen pick)) notes s) d.1)
+      tells_later rules (shown rules notes) (logged notes) (event.Pick seen pick ∷ logged notes) (had_by notes) (leaves_pick rules (logged notes) seen pick) (tells_at notes (stands_before rules (Logged (event.Pick seen pick)) notes s) d.1)
   tells_at (Logged (event.OpenSq q r c k) ∷ notes) s d =
       let before = stands_before rules (Logged (event.OpenSq q r c k)) notes s in
       let at = io_at rules starts by_regions notes before in
       let x = at.queue q (opens_io rules (logged notes) q r c k s.each.0.effects_at_once) in
       let fresh : qid_of_region (logged notes) r ≡ None = (opened_fresh rules (logged notes) q r c k x.stage s.each.0.effects_at_once x.phase).0 in
-      tells_later rules (shown rules notes) (logged notes) (event.OpenSq q r c k ∷ logged notes) (is_of_device notes) (leaves_open rules (logged notes) q r c k (at.untouched r fresh).1) (tells_at notes before d.1)
+      tells_later rules (shown rules notes) (logged notes) (event.OpenSq q r c k ∷ logged notes) (had_by notes) (leaves_open rules (logged notes) q r c k (at.untouched r fresh).1) (tells_at notes before d.1)
   tells_at (Logged (event.Abort r i) ∷ notes) s d =
       let before = stands_before rules (Logged (event.Abort r i)) notes s in
-      tells_later rules (shown rules notes) (logged notes) (event.Abort r i ∷ logged notes) (is_of_device notes)
+      tells_later rules (shown rules notes) (logged notes) (event.Abort r i ∷ logged notes) (had_by notes)
       (leaves_abort rules notes before.each (effects_of rules notes before.each) r i s.each.0.effects_at_once) (tells_at notes before d.1)
   tells_at (Logged (event.ClosedSq q r) ∷ notes) s d =
-      tells_later rules (shown rules notes) (logged notes) (event.ClosedSq q r ∷ logged notes) (is_of_device notes) (leaves_closed rules (logged notes) q r s.each.0.effects_at_once) (tells_at notes (stands_before rules (Logged (event.ClosedSq q r)) notes s) d.1)
+      tells_later rules (shown rules notes) (logged notes) (event.ClosedSq q r ∷ logged notes) (had_by notes) (leaves_closed rules (logged notes) q r s.each.0.effects_at_once) (tells_at notes (stands_before rules (Logged (event.ClosedSq q r)) notes s) d.1)
   tells_at (Logged (event.SetArbitration x) ∷ notes) s d =
-      tells_later rules (shown rules notes) (logged notes) (event.SetArbitration x ∷ logged notes) (is_of_device notes) (leaves_effect rules (logged notes) (event.SetArbitration x) tt) (tells_at notes (stands_before rules (Logged (event.SetArbitration x)) notes s) d.1)
+      tells_later rules (shown rules notes) (logged notes) (event.SetArbitration x ∷ logged notes) (had_by notes) (leaves_effect rules (logged notes) (event.SetArbitration x) tt) (tells_at notes (stands_before rules (Logged (event.SetArbitration x)) notes s) d.1)
   tells_at (Logged (event.OpenCq q r) ∷ notes) s d =
-      tells_later rules (shown rules notes) (logged notes) (event.OpenCq q r ∷ logged notes) (is_of_device notes) (leaves_effect rules (logged notes) (event.OpenCq q r) tt) (tells_at notes (stands_before rules (Logged (event.OpenCq q r)) notes s) d.1)
+      tells_later rules (shown rules notes) (logged notes) (event.OpenCq q r ∷ logged notes) (had_by notes) (leaves_effect rules (logged notes) (event.OpenCq q r) tt) (tells_at notes (stands_before rules (Logged (event.OpenCq q r)) notes s) d.1)
   tells_at (Logged (event.Closing q r) ∷ notes) s d =
-      tells_later rules (shown rules notes) (logged notes) (event.Closing q r ∷ logged notes) (is_of_device notes) (leaves_effect rules (logged notes) (event.Closing q r) tt) (tells_at notes (stands_before rules (Logged (event.Closing q r)) notes s) d.1)
+      tells_later rules (shown rules notes) (logged notes) (event.Closing q r ∷ logged notes) (had_by notes) (leaves_effect rules (logged notes) (event.Closing q r) tt) (tells_at notes (stands_before rules (Logged (event.Closing q r)) notes s) d.1)
   tells_at (Logged (event.ClosedCq q r) ∷ notes) s d =
-      tells_later rules (shown rules notes) (logged notes) (event.ClosedCq q r ∷ logged notes) (is_of_device notes) (leaves_effect rules (logged notes) (event.ClosedCq q r) tt) (tells_at notes (stands_before rules (Logged (event.ClosedCq q r)) notes s) d.1)
+      tells_later rules (shown rules notes) (logged notes) (event.ClosedCq q r ∷ logged notes) (had_by notes) (leaves_effect rules (logged notes) (event.ClosedCq q r) tt) (tells_at notes (stands_before rules (Logged (event.ClosedCq q r)) notes s) d.1)
   tells_at (note ∷ notes) s d = tells_at notes (stands_before rules note notes s) d.1

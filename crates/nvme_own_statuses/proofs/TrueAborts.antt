@@ -37,7 +37,7 @@ use Rattle.nvme_own_log.proofs.OwnRegions.{admin_qid}
 use Rattle.nvme_own_statuses.proofs.Standing.{Stands, stands_before, each_post}
 use Rattle.nvme_own_statuses.proofs.StatusBy.{StatusBy, by_device, by_abort, by_checks, status_by}
 use Rattle.nvme_own_statuses.proofs.Statuses.{answers_own, answers_none, mark_is, standing}
-use Rattle.nvme_own_statuses.proofs.Tells.{IsTaken, IsHeld, TellsAt}
+use Rattle.nvme_own_statuses.proofs.Tells.{has_passed, had_by, IsTaken, IsHeld, TellsAt}
 use Rattle.nvme_own_statuses.proofs.TellsNotes.{told_own, tells_at}
 
 -- ---- what the judge reads
@@ -85,37 +85,49 @@ module _ (rules : FrontRules) (starts : StartsWithAdmin rules) (by_regions : pla
     given_by : StatusBy rules notes r i posted.entry cqe
     given_by = status_by rules notes now.each c r i cqe posted.entry posted.is_there s.each.0.posts_own
 
-    tells : TellsAt rules log past (is_of_device notes)
+    tells : TellsAt rules log past (had_by notes)
     tells = tells_at rules starts by_regions notes now d.1
 
     unaborted : r ≡ 0 → is_aborted past r i ≡ true → ⊥
     unaborted z a = admin-unaborted rules past (effects_of rules notes now.each) i (subst (λ (k : ℕ). is_aborted past k i ≡ true) z a)
 
     -- what is owed
-    owed_is : owes log cqe.sqid cqe.cid ≡ true → (is_abort_requested past r i ≡ true → aborts.is_aborted cqe.status ≡ true) → (IsHeld rules past (is_of_device notes) r i → aborts.is_aborted cqe.status ≡ true) → aborts.is_aborted cqe.status ≡ true
+    owed_is : owes log cqe.sqid cqe.cid ≡ true → (is_abort_requested past r i ≡ true → aborts.is_aborted cqe.status ≡ true) → (IsHeld rules past (had_by notes) r i → aborts.is_aborted cqe.status ≡ true) → aborts.is_aborted cqe.status ≡ true
     owed_is w one other = elim (tells.owed r i cqe.sqid posted.entry (posted_out rules starts by_regions notes now c r i cqe posted) (ap (owes log cqe.sqid) (sym posted.cid) ∙ w)) [
       | inl ok ↦ one ok
       | inr h ↦ other h
     ]
 
+    told_so : (owes log cqe.sqid cqe.cid ≡ true → aborts.is_aborted cqe.status ≡ true) → is_not_as_told (outstanding log cqe.sqid cqe.cid) cqe.status ≡ false
+    told_so h =
+        told_is (asked log cqe.sqid cqe.cid) (number_of log cqe.sqid cqe.cid) (mark_of log cqe.sqid cqe.cid) (was_named log cqe.sqid cqe.cid) (owes log cqe.sqid cqe.cid) cqe.status
+        (elim (cases_Bool (owes log cqe.sqid cqe.cid)) [
+          | inl ok ↦ rw (ok, h ok) refl
+          | inr none ↦ rw none refl
+        ])
+
     pub as_told : (is_given notes r i ≡ true → is_not_as_told (outstanding log cqe.sqid cqe.cid) cqe.status ≡ false) → is_not_as_told (outstanding log cqe.sqid cqe.cid) cqe.status ≡ false
     as_told device = by given_by where
-      so : (owes log cqe.sqid cqe.cid ≡ true → aborts.is_aborted cqe.status ≡ true) → is_not_as_told (outstanding log cqe.sqid cqe.cid) cqe.status ≡ false
-      so h =
-          told_is (asked log cqe.sqid cqe.cid) (number_of log cqe.sqid cqe.cid) (mark_of log cqe.sqid cqe.cid) (was_named log cqe.sqid cqe.cid) (owes log cqe.sqid cqe.cid) cqe.status
-          (elim (cases_Bool (owes log cqe.sqid cqe.cid)) [
-            | inl ok ↦ rw (ok, h ok) refl
-            | inr none ↦ rw none refl
-          ])
-
       by : StatusBy rules notes r i posted.entry cqe → is_not_as_told (outstanding log cqe.sqid cqe.cid) cqe.status ≡ false
       by (by_device g) = device g
-      by (by_abort a is) = so (λ w. owed_is w
+      by (by_abort a is) = told_so (λ w. owed_is w
           (λ yes. ap aborts.is_aborted is ∙ ap (λ (b : Bool). aborts.is_aborted (if b then abort_requested else aborted_by_deletion)) yes)
           (λ h. absurd (let none : is_aborted past r i ≡ false = h.unaborted in cc (none, a))))
-      by (by_checks z none is dw0) = so (λ w. owed_is w
+      by (by_checks z none is dw0) = told_so (λ w. owed_is w
           (λ yes. absurd (unaborted z (requested_aborted past r i yes)))
-          (λ h. absurd (let passed : is_passed notes i ≡ true = subst (λ (b : Bool). (not b || is_passed notes i) ≡ true) (eq-eqb r 0 z) h.of_device in cc (passed, none))))
+          (λ h. absurd (
+          let own : is_of_device notes r i ≡ true = (and_parts (is_of_device notes r i) (has_passed notes) h.of_device).0 in
+          let passed : is_passed notes i ≡ true = subst (λ (b : Bool). (not b || is_passed notes i) ≡ true) (eq-eqb r 0 z) own in
+          cc (passed, none))))
+
+    -- where no admin command was passed on, no Abort says of a command that the device answered that it was aborted
+    pub told_by_none : has_passed notes ≡ false → is_given notes r i ≡ true → is_not_as_told (outstanding log cqe.sqid cqe.cid) cqe.status ≡ false
+    told_by_none none given = told_so (λ w. owed_is w
+        (λ yes. absurd (
+        let aborted : not (is_aborted past r i) ≡ false = rw (requested_aborted past r i yes) refl in
+        let whole = (and_parts (is_of_device notes r i) (not (is_aborted past r i)) given).1 in
+        cc (aborted, whole)))
+        (λ h. absurd (let some = (and_parts (is_of_device notes r i) (has_passed notes) h.of_device).1 in cc (some, none))))
 
     abbrev answers : AdminCommand
     answers = answered_in (outstanding log cqe.sqid cqe.cid) (completion_of cqe)

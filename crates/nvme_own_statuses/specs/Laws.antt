@@ -6,10 +6,11 @@ use Rattle.nvme_log.specs.Laws.{StartsWithAdmin}
 use Rattle.nvme_ctrl_log.specs.Notes.{Notes}
 use Rattle.nvme_ctrl_log.specs.Making.{placing_in}
 use Rattle.nvme_ctrl_log.specs.Account.{IsAccount}
+use Rattle.nvme_ctrl_log.specs.Laws.{NonePassed}
 use Rattle.nvme_audit.specs.Lawful.{IsLawfulLog, IsFaultlessLog}
 use Rattle.nvme_own_log.specs.Shown.{start_of, shown}
 use Rattle.nvme_own_log.specs.Duties.{KeepsDuties, TurnsCqsAlone, KnowsHeads}
-use Rattle.nvme_own_statuses.specs.Statuses.{IsSqdelAsked, IsAbortAsked, IsAsTold, IsTrueAbort, IsOfCommand, IsTrueOf, IsAnswerKept, is_set_features, is_delete_sq, is_create_sq, is_delete_cq, is_create_cq, EachPost, DeviceKeeps, DeviceTakesOwn}
+use Rattle.nvme_own_statuses.specs.Statuses.{IsSqdelAsked, IsAbortAsked, IsAsTold, IsTrueAbort, IsOfCommand, IsTrueOf, IsAnswerKept, IsUnaborted, is_set_features, is_delete_sq, is_create_sq, is_delete_cq, is_create_cq, EachPost, DeviceKeeps, DeviceTakesOwn}
 
 -- ---- statuses, where the device keeps the same
 -- a completion says that its command was aborted with its queue only where a Delete of that was fetched
@@ -78,3 +79,9 @@ abbrev pub LogsAreFaultless : Type 0
 LogsAreFaultless = (rules : FrontRules) (notes : Notes) → StartsWithAdmin rules → placing_in rules ≡ None → IsAccount rules notes → KeepsDuties (start_of rules) (shown rules notes)
     → TurnsCqsAlone (shown rules notes) → KnowsHeads (start_of rules) (shown rules notes) → 0 < rules.start.nsq → rules.start.nsq < MAX_REGIONS → 0 < rules.start.ncq
     → DeviceTakesOwn notes → DeviceKeeps rules (IsAnswerKept (start_of rules)) notes → IsFaultlessLog (start_of rules) (shown rules notes)
+
+-- nor where no admin command was passed on, and the device says by no status that a command was aborted: then its statuses break no rule
+abbrev pub IoLogsAreLawful : Type 0
+IoLogsAreLawful = (rules : FrontRules) (notes : Notes) → StartsWithAdmin rules → placing_in rules ≡ None → IsAccount rules notes → KeepsDuties (start_of rules) (shown rules notes)
+    → TurnsCqsAlone (shown rules notes) → 0 < rules.start.nsq → rules.start.nsq < MAX_REGIONS → 0 < rules.start.ncq
+    → NonePassed notes → DeviceKeeps rules IsUnaborted notes → IsLawfulLog (start_of rules) (shown rules notes)

@@ -1,6 +1,7 @@
 -- What the judge asks of the status of a completion, part by part, and of the device that answers commands.
 -- (Base Specification, Command Aborted due to SQ Deletion, Command Abort Requested, Abort, Command Specific Status Values)
-use Rattle.std.specs.Prelude.{◌≡◌, ℕ, ◌&&◌, true, false, not, Bool, Some}
+use Rattle.std.specs.Prelude.{◌≡◌, ℕ, ◌==◌, ◌&&◌, true, false, not, Bool, Some}
+use Rattle.nvme_entry.specs.Status.{StatusCode}
 use Rattle.nvme_entry.specs.AdminCommand.{admin_command_of}
 use Rattle.nvme_entry.specs.declared.submission.Sqe.{Sqe}
 use Rattle.nvme_entry.specs.declared.admin.AdminCommand.{AdminCommand}
@@ -18,6 +19,7 @@ use Rattle.nvme_audit.specs.declared.event.Completion.{Completion}
 use Rattle.nvme_audit.specs.declared.facts.Start.{Start}
 use Rattle.nvme_audit.specs.declared.verdict.Verdict.TheVariants.{Kept}
 use Rattle.nvme_audit.specs.Lives.{Past, is_success}
+use Rattle.nvme_audit.specs.Aborts as aborts
 use Rattle.nvme_audit.specs.Aborts.{says_aborted}
 use Rattle.nvme_audit.specs.Turns.{sq_named, cq_named, cid_named}
 use Rattle.nvme_audit.specs.Facts.{sq_after, cq_after, admin_after, outstanding}
@@ -124,6 +126,15 @@ OfGiven rules P notes note = Unit {0}
 -- the device keeps what is asked of completions
 abbrev pub DeviceKeeps : FrontRules → (Past → ℕ → Completion → Type 0) → Notes → Type 0
 DeviceKeeps rules P notes = EachNote (OfGiven rules P) notes
+
+-- a status says neither that an Abort command aborted its command, nor that the deletion of its queue did (Command Abort Requested, Command Aborted due to
+-- SQ Deletion)
+pub record SaysNoAbort (status : StatusCode) : Type 0 where
+  pub unrequested : aborts.is_aborted status ≡ false
+  pub undeleted : (status.sct == 0 && status.sc == 0x08) ≡ false
+
+abbrev pub IsUnaborted : Past → ℕ → Completion → Type 0
+IsUnaborted past cq completion = SaysNoAbort completion.status
 
 -- the device has the command of a place: it was picked for it, or passed on, and no abort took it
 abbrev pub is_had : Notes → (r i : ℕ) → Bool

@@ -14,7 +14,7 @@ ghost use Rattle.nvme_own_log.specs.Shown.{completion_of, shown, start_of};
 ghost use Rattle.nvme_own_log.specs.Duties.{KeepsDuties, TurnsCqsAlone, KnowsHeads};
 ghost use Rattle.nvme_own_statuses.specs.Statuses.{IsAnswerKept, DeviceKeeps, DeviceTakesOwn};
 ghost use Rattle.nvme_own_statuses.specs.Examples.{answer, refused, refused_told};
-ghost use Rattle.nvme_own_statuses.specs.Laws.{SqdelsAreAsked, AbortsAreAsked, AbortedAreAsTold, AbortsAreTrue, StatusesAreOfCommands, FeaturesAreTrue, DeletesAreTrue, SqCreatesAreTrue, CqCreatesAreTrue, CqDeletesAreTrue, LogsAreLawful, LogsAreFaultless};
+ghost use Rattle.nvme_own_statuses.specs.Laws.{SqdelsAreAsked, AbortsAreAsked, AbortedAreAsTold, AbortsAreTrue, StatusesAreOfCommands, FeaturesAreTrue, DeletesAreTrue, SqCreatesAreTrue, CqCreatesAreTrue, CqDeletesAreTrue, LogsAreLawful, LogsAreFaultless, IoLogsAreLawful};
 
 /// A completion says that its command was aborted with its queue only where a Delete of that was fetched. Of the statuses
 /// that the device gave the device keeps that (`DeviceKeeps`); so it is in the laws below.
@@ -106,4 +106,10 @@ pub fn worked_refusal()
     ensures own { DeviceTakesOwn refused_told }
     ensures device { DeviceKeeps one_deletion (IsAnswerKept (start_of one_deletion)) refused_told }
     ensures judged { verdict (start_of one_deletion) (shown one_deletion refused) (Post 0 (Some 2) (completion_of (answer 0 2 3 success))) ≡ Broken StatusDelete }
+{}
+
+/// It breaks none either where no admin command was passed on, and the device says by no status that a command was aborted:
+/// the other statuses that it gives I/O commands break no rule.
+pub fn io_logs_are_lawful()
+    ensures { IoLogsAreLawful }
 {}
