@@ -108,8 +108,8 @@ pub fn worked_refusal()
     ensures judged { verdict (start_of one_deletion) (shown one_deletion refused) (Post 0 (Some 2) (completion_of (answer 0 2 3 success))) ≡ Broken StatusDelete }
 {}
 
-/// It breaks none either where no admin command was passed on, and the device says by no status that a command was aborted:
-/// the other statuses that it gives I/O commands break no rule.
+/// The controller breaks none either where no admin command was passed on, and the device says by no status that a command was
+/// aborted: the other statuses that it gives I/O commands break no rule.
 pub fn io_logs_are_lawful()
     ensures { IoLogsAreLawful }
 {}
