@@ -1,5 +1,5 @@
 -- What an audit of a whole log answers, which goes on after breaches of the controller. (profile)
-use Rattle.std.specs.Prelude.{◌≡◌, ◌⊎◌, ℕ, Bool, if◌then◌else◌, List, [], ◌∷◌, ◌++◌, reverse, length, map, take, Option, Some, None, Ok, Err}
+use Rattle.std.specs.Prelude.{◌≡◌, ◌⊎◌, ℕ, ◌+◌, Bool, nat_lt, if◌then◌else◌, List, [], ◌∷◌, ◌++◌, reverse, length, map, take, Option, Some, None, Ok, Err}
 use Rattle.nvme_lines.specs.Lines.{lines_of, told_lines}
 use Rattle.nvme_audit.specs.declared.event.Event.{Event}
 use Rattle.nvme_audit.specs.declared.facts.Start.{Start}
@@ -15,6 +15,10 @@ use Rattle.nvme_audit_text.specs.declared.fault.LogError.TheVariants as error
 use Rattle.nvme_audit_text.specs.declared.views.View.{View}
 use Rattle.nvme_audit_text.specs.declared.head.Head.{Head}
 use Rattle.nvme_audit_text.specs.declared.audit.Finding.{Finding}
+use Rattle.nvme_audit_text.specs.declared.audit.Broken.{Broken}
+use Rattle.nvme_audit_text.specs.declared.audit.Broken.TheVariants as broken
+use Rattle.nvme_audit_text.specs.declared.picks.PickFinding.{PickFinding}
+use Rattle.nvme_audit_text.specs.declared.whole.Place.{Place}
 use Rattle.nvme_audit_text.specs.declared.whole.Told.{Told}
 use Rattle.nvme_audit_text.specs.declared.whole.WholeAudit.{WholeAudit}
 use Rattle.nvme_audit_text.specs.Format.{head_of_line, event_of_line}
@@ -76,6 +80,19 @@ pub record IsWholeAudit (view : View) (text : List ℕ) (audit : WholeAudit) : T
   pub picks : IsSaidBefore view text [] head said
   pub unlawful_are : AreToldPicks most_broken said.found audit.unlawful
   pub picks_are : audit.picks ≡ said.judged
+
+-- ---- the breaches of the controller by their lines
+-- of the next of each sort the one of the earlier line
+abbrev pub earlier : Option Finding → Option PickFinding → Option Broken
+earlier None None = None
+earlier None (Some unlawful) = Some (broken.OfArbitration unlawful)
+earlier (Some finding) None = Some (broken.OfQueues finding)
+earlier (Some finding) (Some unlawful) = if nat_lt unlawful.line finding.line then Some (broken.OfArbitration unlawful) else Some (broken.OfQueues finding)
+
+-- and the place behind it
+abbrev pub behind : Broken → Place → Place
+behind (broken.OfQueues finding) at = record at { broken = at.broken + 1 }
+behind (broken.OfArbitration unlawful) at = record at { unlawful = at.unlawful + 1 }
 
 -- ---- faults
 -- a later line tells nothing

@@ -390,11 +390,11 @@ impl fmt::Display for Audit {
 fn put_all_broken<W: fmt::Write>(audit: &WholeAudit, f: &mut fmt::Formatter<W>) -> fmt::Result {
     let (mut before, mut at) = ("", Place::first());
     for _ in 0..audit.told() {
-        let Some((broken, next)) = audit.broken_at(at) else {
+        let Some(broken) = audit.broken_at(at) else {
             return Ok(());
         };
         write!(f, "{before}{broken}")?;
-        (before, at) = ("\n", next);
+        (before, at) = ("\n", at.behind(&broken));
     }
     Ok(())
 }

@@ -1,5 +1,5 @@
 // Judges a whole log, which is read as a stream, and goes on after breaches of the controller.
-ghost use Rattle.std.specs.Prelude.{◌≡◌, ℕ, List, Option, Ok, Some, [], ◌∷◌, ◌++◌, IfOk, IfErr, IfSome, OnOk};
+ghost use Rattle.std.specs.Prelude.{◌≡◌, ◌+◌, ◌-◌, ◌^◌, ◌<◌, slice_get, ℕ, List, Option, Ok, Some, [], ◌∷◌, ◌++◌, IfOk, IfErr, IfSome, OnOk};
 ghost use Rattle.nvme_lines.specs.Lines.{TakesTold};
 ghost use Rattle.nvme_audit.specs.declared.facts.Start.{Start};
 ghost use Rattle.nvme_audit.specs.Lives.{Past};
@@ -9,7 +9,7 @@ ghost use Rattle.nvme_audit.specs.Standing.{GoesOnAt};
 ghost use Rattle.nvme_audit_text.specs.declared.audit.Finding.{Finding};
 ghost use Rattle.nvme_audit_text.specs.Format.{head_of_line};
 ghost use Rattle.nvme_audit_text.specs.Audits.{added, is_host, most_told};
-ghost use Rattle.nvme_audit_text.specs.WholeAudits.{told_if, told_at, most_broken, AreTold, asked_whole, IsWholeAudit, IsWholeFault};
+ghost use Rattle.nvme_audit_text.specs.WholeAudits.{earlier, behind, told_if, told_at, most_broken, AreTold, asked_whole, IsWholeAudit, IsWholeFault};
 ghost use Rattle.nvme_audit_text.specs.inside.Steps.{IsOther, GoesOn};
 
 use crate::audit::{
@@ -57,67 +57,86 @@ pub struct WholeAudit {
     pub picks: u64,
 }
 
-/// A place among the breaches of the controller that are told, by their lines.
+/// A place among the breaches of the controller that are told, by their lines: how many of each sort stand before it.
 #[derive(Clone, Copy)]
 pub struct Place {
-    broken: usize,
-    unlawful: usize,
+    pub broken: usize,
+    pub unlawful: usize,
 }
 
 impl Place {
     /// That of the first one.
-    pub const fn first() -> Place {
+    pub const fn first() -> Place
+        ensures { result ≡ record { broken = 0; unlawful = 0 } }
+    {
         Place {
             broken: 0,
             unlawful: 0,
         }
     }
 
-    // The earlier one of two breaches, and the place behind it.
-    fn earlier(
-        self,
-        finding: Option<Finding>,
-        unlawful: Option<PickFinding>,
-    ) -> Option<(Broken, Place)> {
-        let Some(unlawful) = unlawful else {
-            let finding = finding?;
-            return Some((Broken::OfQueues(finding), self.behind_broken()));
-        };
-        if let Some(finding) = finding
-            && finding.line <= unlawful.line
-        {
-            return Some((Broken::OfQueues(finding), self.behind_broken()));
-        }
-        Some((Broken::OfArbitration(unlawful), self.behind_unlawful()))
-    }
-
-    // Behind a breach of queues.
-    fn behind_broken(self) -> Place {
-        Place {
-            broken: self.broken.saturating_add(1),
-            ..self
-        }
-    }
-
-    // Behind one of arbitration.
-    fn behind_unlawful(self) -> Place {
-        Place {
-            unlawful: self.unlawful.saturating_add(1),
-            ..self
+    /// The place behind a breach that stands here.
+    pub fn behind(self, broken: &Broken) -> Place
+        ensures { self.broken + 1 < 2 ^ 64 → self.unlawful + 1 < 2 ^ 64 → result ≡ behind broken.now self }
+    {
+        match broken {
+            Broken::OfQueues(_) => Place {
+                broken: self.broken.saturating_add(1),
+                ..self
+            },
+            Broken::OfArbitration(_) => Place {
+                unlawful: self.unlawful.saturating_add(1),
+                ..self
+            },
         }
     }
 }
 
+// The breach of queues at an index.
+fn finding_at(found: &[Finding], index: usize) -> Option<Finding>
+    ensures { result ≡ slice_get found.now index }
+{
+    found.get(index).copied()
+}
+
+// The breach of arbitration at an index.
+fn unlawful_at(found: &[PickFinding], index: usize) -> Option<PickFinding>
+    ensures { result ≡ slice_get found.now index }
+{
+    found.get(index).copied()
+}
+
+// The breach of the earlier line.
+fn earlier(finding: Option<Finding>, unlawful: Option<PickFinding>) -> Option<Broken>
+    ensures { result ≡ earlier finding unlawful }
+{
+    let Some(unlawful) = unlawful else {
+        return Some(Broken::OfQueues(finding?));
+    };
+    if let Some(finding) = finding
+        && finding.line <= unlawful.line
+    {
+        return Some(Broken::OfQueues(finding));
+    }
+    Some(Broken::OfArbitration(unlawful))
+}
+
 impl WholeAudit {
-    /// The breach of the controller at a place, and the next place. `None` behind the last one.
-    pub fn broken_at(&self, at: Place) -> Option<(Broken, Place)> {
-        let finding = self.broken.first.get(at.broken).copied();
-        let unlawful = self.unlawful.first.get(at.unlawful).copied();
-        at.earlier(finding, unlawful)
+    ghost use Rattle.std.specs.Prelude.{vec_len};
+
+    /// The breach of the controller at a place, by their lines. `None` behind the last one.
+    pub fn broken_at(&self, at: Place) -> Option<Broken>
+        ensures { result ≡ earlier (slice_get self.now.broken.first.items at.broken) (slice_get self.now.unlawful.first.items at.unlawful) }
+    {
+        let finding = finding_at(self.broken.first.as_slice(), at.broken);
+        let unlawful = unlawful_at(self.unlawful.first.as_slice(), at.unlawful);
+        earlier(finding, unlawful)
     }
 
     /// How many breaches of the controller are told.
-    pub fn told(&self) -> usize {
+    pub fn told(&self) -> usize
+        ensures { vec_len self.now.broken.first + vec_len self.now.unlawful.first < 2 ^ 64 → result ≡ vec_len self.now.broken.first + vec_len self.now.unlawful.first }
+    {
         let told = self.broken.first.len();
         told.saturating_add(self.unlawful.first.len())
     }

@@ -293,11 +293,11 @@ fn put_breaches<W: Write>(whole: &Option<WholeAudit>, output: &mut W) -> io::Res
     if let Some(whole) = whole {
         let mut at = Place::first();
         for _ in 0..whole.told() {
-            let Some((broken, next)) = whole.broken_at(at) else {
+            let Some(broken) = whole.broken_at(at) else {
                 break;
             };
             before = put_breach(&broken, before, output)?;
-            at = next;
+            at = at.behind(&broken);
         }
     }
     output.write_all(b"]")
@@ -404,12 +404,12 @@ fn end_failures<W: Write>(kind: &str, more: u64, end: &str, output: &mut W) -> i
 fn put_broken_failures<W: Write>(whole: &WholeAudit, output: &mut W) -> io::Result<()> {
     let (mut end, mut at) = ("", Place::first());
     for _ in 0..whole.told() {
-        let Some((broken, next)) = whole.broken_at(at) else {
+        let Some(broken) = whole.broken_at(at) else {
             break;
         };
         output.write_all(end.as_bytes())?;
         put_failure("broken", &broken, output)?;
-        (end, at) = ("</failure>", next);
+        (end, at) = ("</failure>", at.behind(&broken));
     }
     end_failures("broken", whole.untold(), end, output)
 }
