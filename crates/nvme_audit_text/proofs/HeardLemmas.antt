@@ -1,8 +1,8 @@
 -- Where no line tells anything of arbitration.
-use Rattle.std.proofs.Common.{◌≡◌, ℕ, Bool, true, false, List, [], ◌∷◌, Option, Some, None, Ok, refl, ap, subst, sym, ◌∙◌}
+use Rattle.std.proofs.Common.{◌≡◌, ℕ, Bool, true, false, List, [], ◌∷◌, Option, None, Ok, refl, ap, ◌∙◌}
 use Rattle.std.specs.Prelude.{Result, Err, is_none, ok_or, if◌then◌else◌}
 use Rattle.serde_json.specs.Data.{Data}
-use Rattle.nvme_arbiter.specs.History.{ArbitrationEvent, History}
+use Rattle.nvme_arbiter.specs.History.{ArbitrationEvent}
 use Rattle.nvme_audit.specs.declared.event.Event.{Event}
 use Rattle.nvme_audit_text.specs.declared.fault.Kind.{Kind}
 use Rattle.nvme_audit_text.specs.declared.fault.Kind.TheVariants as kind

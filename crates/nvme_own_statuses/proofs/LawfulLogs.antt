@@ -125,11 +125,11 @@ lawful_log start (Head cq slot ∷ log) f p a = (not_broken (is_lost log) _ (hea
 lawful_log start (Fetch sq slot cid command ∷ log) f p a = (not_broken (is_lost log) _ (ap is_broken f.0), lawful_log start log f.1 p.1 a.1)
 lawful_log start (Post cq slot completion ∷ log) f p a = (not_broken (is_lost log) _ (ap is_broken (both_kept _ _ p.0 a.0)), lawful_log start log f.1 p.1 a.1)
 
--- neither the controller nor the host breaks one, where doorbells keep theirs too
 kept_unless_lost : (b : Bool) (v : Verdict) → v ≡ Kept → (if b then Kept else v) ≡ Kept
 kept_unless_lost true v h = refl
 kept_unless_lost false v h = h
 
+-- neither the controller nor the host breaks a rule, where doorbells keep theirs too
 faultless_log : (start : Start) (log : lives.Past) → EachShown (IsDoorbellKept start) log → EachShown (IsFetchKept start) log → EachShown (IsPostKept start) log → EachPost (IsAnswerKept start) log → IsFaultlessLog start log
 faultless_log start [] d f p a = tt
 faultless_log start (Tail sq slot ∷ log) d f p a = (kept_unless_lost (is_lost log) _ d.0, faultless_log start log d.1 f.1 p.1 a.1)
@@ -137,6 +137,7 @@ faultless_log start (Head cq slot ∷ log) d f p a = (kept_unless_lost (is_lost 
 faultless_log start (Fetch sq slot cid command ∷ log) d f p a = (kept_unless_lost (is_lost log) _ f.0, faultless_log start log d.1 f.1 p.1 a.1)
 faultless_log start (Post cq slot completion ∷ log) d f p a = (kept_unless_lost (is_lost log) _ (both_kept _ _ p.0 a.0), faultless_log start log d.1 f.1 p.1 a.1)
 
+-- each status breaks no rule
 answers_are_kept : (rules : FrontRules) (notes : Notes) → StartsWithAdmin rules → placing_in rules ≡ None → IsAccount rules notes → KeepsDuties (start_of rules) (shown rules notes) → 0 < rules.start.nsq → rules.start.nsq < MAX_REGIONS → 0 < rules.start.ncq
     → DeviceTakesOwn notes → DeviceKeeps rules (IsAnswerKept (start_of rules)) notes → EachPost (IsAnswerKept (start_of rules)) (shown rules notes)
 answers_are_kept rules notes starts by_regions h duties sqs few cqs own device =

@@ -184,9 +184,6 @@ module _ (rules : FrontRules) (starts : StartsWithAdmin rules) (by_regions : pla
 
     same_pick : (seen : List Seen) (pick : Pick) (notes : Notes) → Stands rules (Logged (event.Pick seen pick) ∷ notes) → AreSame (shown rules notes) (logged notes) → AreSame (shown rules notes) (event.Pick seen pick ∷ logged notes)
     same_pick seen pick notes s same k a p m lt settled = elim (cases_eq pick.qid 0) [ inl z ↦ admin z | inr io ↦ other io ] where
-      past : Past
-      past = logged notes
-
       is_sound : IsSound rules (event.Pick seen pick ∷ logged notes)
       is_sound = sound rules starts by_regions (Logged (event.Pick seen pick) ∷ notes) s.each s.lawful
 
