@@ -345,8 +345,9 @@ def checks(sources):
 def numbers(sources):
     """The numbers of a row, and the columns of the log."""
     path, inner = "crates/nvme_numbers/src", "crates/nvme_model/src"
-    written = re.findall(r'\\"(\w+)\\":\{(\w+)\}', sources.text(f"{path}/answer/object.rt"))
-    key_of = {field: key for key, field in written}
+    columns_text = sources.text(f"{path}/columns.rt")
+    measure_of = {measure: field for measure, field in re.findall(r"Measure::(\w+) => .*\bspread\.(\w+)", columns_text)}
+    key_of = {measure_of[measure]: key for key, measure in re.findall(r'of_measure\("(\w+)", Measure::(\w+)', columns_text)}
     rows = [[code(it), says] for it, says in members(sources, f"{path}/row.rt", "Row").items() if it not in ("spread", "fed")]
     spread = [[code(key_of[it]), says] for it, says in members(sources, f"{path}/row.rt", "Spread").items()]
     fed_of = {"time": "fed_ps"}
