@@ -138,11 +138,7 @@ pub fn put_members<W: Write>(
 }
 
 // Writes a JSON object.
-fn put_braced<W: Write>(
-    first: &Field,
-    parts: &[&[Field]],
-    writer: &mut W,
-) -> Result<(), WriteFault>
+fn put_braced<W: Write>(first: &Field, parts: &[&[Field]], writer: &mut W) -> Result<(), WriteFault>
     ensures { Writes (W.contents writer.old) (W.contents writer.new) result
         (json_object (named_of first.now ∷ flat_map (λ part. map named_of part.now) parts.now)) }
 {
