@@ -1,5 +1,5 @@
 // Why there is no sweep.
-ghost use Rattle.std.specs.Prelude.{◌≡◌};
+ghost use Rattle.std.specs.Prelude.{◌≡◌, ◌∷◌, ◌++◌, [], OnOk};
 ghost use Rattle.nvme_points.specs.declared.fault.SweepFault.TheVariants.{NoMemory};
 
 use nvme_arbiter::Class;
@@ -60,7 +60,9 @@ impl From<AllocError> for SweepFault<'_> {
 }
 
 /// Adds an item to a list.
-pub fn add<T: Drop>(list: &mut Vec<T>, item: T) -> Result<(), AllocError> {
+pub fn add<T: Drop>(list: &mut Vec<T>, item: T) -> Result<(), AllocError>
+    ensures { OnOk result (list.new.items ≡ list.old.items ++ item ∷ []) }
+{
     list.push(item)?;
     Ok(())
 }

@@ -1,5 +1,5 @@
 // Runs a simulation at each point.
-ghost use Rattle.std.specs.Prelude.{◌≡◌, ◌<◌, IfOk, IfSome, None};
+ghost use Rattle.std.specs.Prelude.{◌≡◌, ◌<◌, IfOk, IfSome, None, max};
 ghost use Rattle.std.specs.Result.{IsErrAnd};
 ghost use Rattle.nvme_points.specs.Overridden.{TellsOverridden, overridden};
 ghost use Rattle.toml.specs.View.{table_view};
@@ -102,9 +102,9 @@ impl<'a> Sweep<'a> {
         Ok(points_of(&lengths_of(alloc, &self.axes)?).unwrap_or(0))
     }
 
-    /// How many runs each point has, at least one.
+    /// How many runs each point has: one for each seed, and at least one.
     pub fn runs_of_each(&self) -> usize
-        ensures { 0 < result }
+        ensures { result ≡ max self.now.seeds 1 }
     {
         (self.seeds as usize).max(1)
     }
