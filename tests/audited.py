@@ -15,7 +15,7 @@ ABORT = 8
 ORDER = set("fetch-closed fetch-beyond-tail fetch-slot post-closed slot phase cq-full cq-wrong life sqhd".split())
 # Those of arbitration, each of which asks something of each pick that is judged.
 PICK_RULES = [f"pick-{rule}" for rule in ("candidates", "burst", "priority", "credit", "turn")]
-SUCCESS, ABORTED, ABORTED_BY_DELETION, BAD_CQ, BAD_IDENTIFIER, BAD_DELETION = 0, 0x07, 0x08, 0x100, 0x101, 0x10C
+SUCCESS, INVALID_FIELD, ABORTED, ABORTED_BY_DELETION, BAD_CQ, BAD_IDENTIFIER, BAD_DELETION = 0, 2, 7, 8, 0x100, 0x101, 0x10C
 
 
 def completion_of(line):
