@@ -15,7 +15,8 @@
  *      go on, flush, and set CSTS.SHST.
  *   3. nvmearb_ctrl_own_opcode and nvmearb_ctrl_own_feature for the device's own admin commands, such as Identify.
  *   4. nvmearb_ctrl_sq_tail or nvmearb_ctrl_cq_head at each doorbell write.
- *   5. While nvmearb_ctrl_next_fetch tells a queue and a slot: read the entry there, and nvmearb_ctrl_fetched.
+ *   5. While nvmearb_ctrl_next_fetch tells a queue and a slot: read the entry there, and nvmearb_ctrl_fetched, or
+ *      nvmearb_ctrl_fetched_at where several reads are under way.
  *   6. While nvmearb_ctrl_take gives a command, execute it. Then nvmearb_ctrl_pick, and take again, until nothing is
  *      picked. Keep where a created queue lies (nvmearb_asked).
  *   7. nvmearb_ctrl_complete or nvmearb_ctrl_complete_with for each command that ends, in any order, at any time.
@@ -100,6 +101,7 @@ uint32_t nvmearb_size(uint32_t state);
 #define NVMEARB_ESIZE 6u  /* a region has 2 to 4096 slots */
 #define NVMEARB_BUSY 7u   /* picked commands are to be taken first */
 #define NVMEARB_NOROOM 8u /* the device has room for no command */
+#define NVMEARB_ESLOT 9u  /* the entry of another slot is to be fetched next */
 
 /* Returns the name of a result and what it says, for a message. The comments of a call say more. */
 static inline const char *nvmearb_text(uint32_t result)
@@ -114,6 +116,7 @@ static inline const char *nvmearb_text(uint32_t result)
         "NVMEARB_ESIZE: a region has 2 to 4096 slots",
         "NVMEARB_BUSY: picked commands are to be taken first",
         "NVMEARB_NOROOM: the device has room for no command",
+        "NVMEARB_ESLOT: the entry of another slot is to be fetched next",
     };
     return result < sizeof texts / sizeof texts[0] ? texts[result] : "no result of nvmearb.h";
 }
@@ -196,6 +199,13 @@ typedef struct nvmearb_status {
 #define NVMEARB_SC_WRITE_FAULT 0x80u
 #define NVMEARB_SC_UNRECOVERED_READ_ERROR 0x81u
 
+/*
+ * The status flags of a completion: bits 31 and 30 of Dword 3. Without Do Not Retry Linux submits a failing Read six
+ * times. docs/KEYS.md tells which of the controller's own statuses have it. None has More.
+ */
+#define NVMEARB_DNR 1u  /* Do Not Retry */
+#define NVMEARB_MORE 2u /* the Error Information log page has more of the command */
+
 /* A completion queue entry. CRD, More and Do Not Retry have no field: nvmearb_cqe_encode writes 0. */
 typedef struct nvmearb_cqe {
     uint32_t dw0;
@@ -248,6 +258,12 @@ void nvmearb_sqe_encode(const nvmearb_sqe *fields, uint8_t bytes[NVMEARB_SQE_BYT
  */
 uint32_t nvmearb_cqe_decode(const uint8_t bytes[NVMEARB_CQE_BYTES], nvmearb_cqe *fields);
 uint32_t nvmearb_cqe_encode(const nvmearb_cqe *fields, uint8_t bytes[NVMEARB_CQE_BYTES]);
+
+/*
+ * Decodes a completion queue entry that may have flags, as what the controller posts, and writes them: NVMEARB_DNR,
+ * NVMEARB_MORE, both or none. NVMEARB_EARG if Dword 1 or CRD, bits 29:28 of Dword 3, isn't 0.
+ */
+uint32_t nvmearb_cqe_decode_with(const uint8_t bytes[NVMEARB_CQE_BYTES], nvmearb_cqe *fields, uint8_t *flags);
 
 /*
  * Writes the status of an I/O command, of which Flush, Write and Read are supported: that of the first check that it
@@ -599,16 +615,8 @@ typedef struct nvmearb_command {
  */
 #define NVMEARB_SLOT_OF(tag) ((tag) & 0xffffu)
 
-/*
- * The status flags of a completion: bits 31 and 30 of Dword 3. Without Do Not Retry Linux submits a failing Read six
- * times. docs/KEYS.md tells which of the controller's own statuses have it. None has More.
- */
-#define NVMEARB_DNR 1u  /* Do Not Retry */
-#define NVMEARB_MORE 2u /* the Error Information log page has more of the command */
-
-/* A completion for its ring. */
+/* A completion for its ring. nvmearb_cqe_decode_with takes its bytes. */
 typedef struct nvmearb_post {
-    /* Byte 15 has Do Not Retry in bit 7, More in bit 6: nvmearb_cqe_decode takes no entry with a flag. */
     uint8_t bytes[NVMEARB_CQE_BYTES];
     uint32_t cookie; /* that of its command */
     /* that of its command; of one never taken, the last of its slot: it is used up, and others may have it too */
@@ -724,6 +732,14 @@ uint32_t nvmearb_ctrl_fetched(nvmearb_ctrl *ctrl, nvmearb_slot *slots, size_t co
                               const uint8_t bytes[NVMEARB_SQE_BYTES], uint32_t cookie);
 
 /*
+ * As nvmearb_ctrl_fetched, of the entry that was read in this slot: with several reads under way, or a slot that was
+ * told before other calls, no entry is taken for another. NVMEARB_NONE as there; NVMEARB_ESLOT if nvmearb_ctrl_fetch
+ * tells another slot.
+ */
+uint32_t nvmearb_ctrl_fetched_at(nvmearb_ctrl *ctrl, nvmearb_slot *slots, size_t count, uint16_t qid, uint16_t slot,
+                                 const uint8_t bytes[NVMEARB_SQE_BYTES], uint32_t cookie);
+
+/*
  * `entries` are those from the slot on that nvmearb_ctrl_fetch tells, slot 0 after the last, each with its cookie:
  * `bytes` is NVMEARB_SQE_BYTES times `cookie_count`. They end before the last accepted tail: from there on the host may
  * still write. What wasn't fetched is told again, once it may be.
@@ -731,6 +747,11 @@ uint32_t nvmearb_ctrl_fetched(nvmearb_ctrl *ctrl, nvmearb_slot *slots, size_t co
 uint32_t nvmearb_ctrl_fetched_n(nvmearb_ctrl *ctrl, nvmearb_slot *slots, size_t count, uint16_t qid,
                                 const uint8_t *entries, size_t bytes, const uint32_t *cookies, size_t cookie_count,
                                 size_t *n);
+
+/* The same of entries that were read from this slot on. NVMEARB_NONE as there; NVMEARB_ESLOT as above. */
+uint32_t nvmearb_ctrl_fetched_n_at(nvmearb_ctrl *ctrl, nvmearb_slot *slots, size_t count, uint16_t qid, uint16_t slot,
+                                   const uint8_t *entries, size_t bytes, const uint32_t *cookies, size_t cookie_count,
+                                   size_t *n);
 
 /*
  * Writes the next pick of what waits now, with room for all of it, whether or not nvmearb_ctrl_pick can make it yet.

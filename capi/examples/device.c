@@ -190,10 +190,9 @@ static uint16_t submit(struct pair *pair, nvmearb_sqe entry)
 static int collect(struct pair *pair, uint16_t cid)
 {
     nvmearb_cqe done;
-    uint8_t bytes[NVMEARB_CQE_BYTES];
-    memcpy(bytes, memory + cq_address[pair->qid] + pair->head * NVMEARB_CQE_BYTES, sizeof bytes);
-    bytes[15] &= 0x0f; /* without its flags */
-    if (nvmearb_cqe_decode(bytes, &done) != NVMEARB_OK || done.phase != pair->phase || done.cid != cid ||
+    uint8_t flags;
+    const uint8_t *bytes = memory + cq_address[pair->qid] + pair->head * NVMEARB_CQE_BYTES;
+    if (nvmearb_cqe_decode_with(bytes, &done, &flags) != NVMEARB_OK || done.phase != pair->phase || done.cid != cid ||
         done.sqhd != pair->tail)
         return -1;
     pair->head = (pair->head + 1) % RING;

@@ -226,15 +226,14 @@ static void turned(const nvmearb_sqe *it)
 static int take(uint16_t cqid)
 {
     struct cq *cq = &cqs[cqid];
-    uint8_t bytes[NVMEARB_CQE_BYTES];
+    uint8_t bytes[NVMEARB_CQE_BYTES], flags;
     nvmearb_cqe it;
     memcpy(bytes, hosts_memory + cq_address(cqid) + sizeof bytes * cq->head, sizeof bytes);
-    bytes[15] &= 0x0f; /* without its flags */
     if (cq->slots == 0 || (bytes[14] & 1) != cq->phase)
         return 0;
     cq->head = (uint16_t)((cq->head + 1) % cq->slots);
     cq->phase ^= cq->head == 0;
-    if (nvmearb_cqe_decode(bytes, &it) != NVMEARB_OK || it.sqid > HOSTS_QUEUES || it.cid >= CIDS ||
+    if (nvmearb_cqe_decode_with(bytes, &it, &flags) != NVMEARB_OK || it.sqid > HOSTS_QUEUES || it.cid >= CIDS ||
         !sqs[it.sqid].is_out[it.cid]) {
         strays++;
         return 1;

@@ -85,6 +85,7 @@ CALL(ctrl_cq_head, &ctrl, qid, n)
 CALL(ctrl_fetch, &ctrl, qid, &number)
 CALL(ctrl_next_fetch, &ctrl, &qid, &number)
 CALL(ctrl_fetched, &ctrl, slots, pool, qid, bytes, 1)
+CALL(ctrl_fetched_at, &ctrl, slots, pool, qid, number, bytes, 1)
 CALL(ctrl_peek, &ctrl, slots, pool, &pick)
 CALL(ctrl_pick, &ctrl, slots, pool, NVMEARB_NO_LIMIT, &step)
 CALL(ctrl_take, &ctrl, slots, pool, &command)
@@ -101,6 +102,7 @@ CALL(ctrl_waiting, &ctrl, qid, &number)
 CALL(ctrl_waits, &ctrl, slots, pool, qid, n, &entry, &cookie)
 CALL(ctrl_seen, &ctrl, qid, seen)
 CALL(ctrl_fetched_n, &ctrl, slots, pool, qid, entries[0], n * sizeof *entries, cookies, n, &done)
+CALL(ctrl_fetched_n_at, &ctrl, slots, pool, qid, number, entries[0], n * sizeof *entries, cookies, n, &done)
 CALL(ctrl_take_n, &ctrl, slots, pool, commands, n, &done)
 CALL(ctrl_post_n, &ctrl, slots, pool, qid, posts, n, &done)
 CALL(ctrl_verify, &ctrl, slots, pool)
@@ -333,6 +335,9 @@ static void count_way(void)
     COUNT(ctrl_fetch, "", "");
     COUNT(ctrl_next_fetch, "the only queue", "queues before it whose work has to wait");
     COUNT(ctrl_fetched, "", "");
+    ring(qid);
+    number = tails[qid] - 1;
+    COUNT(ctrl_fetched_at, "", "");
     NONE(ctrl_next_fetch, "no queue", "queues before it whose work has to wait");
     COUNT(ctrl_waiting, "", "");
     COUNT(ctrl_seen, "", "");
@@ -376,6 +381,9 @@ static void count_arrays(uint16_t items)
     }
     COUNT(ctrl_post_n, with("of %u", n), "completions");
     check(done != items);
+    number = n;
+    check(nvmearb_ctrl_sq_tail(&ctrl, qid, 2 * n));
+    COUNT(ctrl_fetched_n_at, with("of %u", n), "entries");
 }
 
 /* With an entry in each I/O queue, none of which may be fetched yet. */

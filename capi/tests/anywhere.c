@@ -34,7 +34,7 @@ static int through(uint8_t opcode, uint64_t prp1, uint32_t cdw10, uint32_t cdw11
                    nvmearb_asked *asked)
 {
     uint16_t slot = next, told, gone;
-    uint8_t bytes[NVMEARB_SQE_BYTES];
+    uint8_t bytes[NVMEARB_SQE_BYTES], flags;
     nvmearb_step step;
     nvmearb_post post;
     nvmearb_cqe cqe;
@@ -49,8 +49,7 @@ static int through(uint8_t opcode, uint64_t prp1, uint32_t cdw10, uint32_t cdw11
         return 0;
     if (nvmearb_ctrl_post(&ctrl, slots, SLOTS, 0, &post) != NVMEARB_OK || post.slot != slot)
         return 0;
-    post.bytes[15] &= 0x3f;
-    if (nvmearb_cqe_decode(post.bytes, &cqe) != NVMEARB_OK || cqe.status.sct != status.sct || cqe.status.sc != status.sc ||
+    if (nvmearb_cqe_decode_with(post.bytes, &cqe, &flags) != NVMEARB_OK || cqe.status.sct != status.sct || cqe.status.sc != status.sc ||
         cqe.phase != phase || nvmearb_ctrl_cq_head(&ctrl, 0, next) != NVMEARB_OK)
         return 0;
     phase ^= next == 0;

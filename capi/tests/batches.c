@@ -91,6 +91,21 @@ static void draw_entry(uint16_t qid, uint8_t *bytes)
     nvmearb_sqe_encode(&it, bytes);
 }
 
+/* They are handed in, with the slot that the first was read in or without. With another slot they aren't taken. */
+static uint32_t hands_in(uint16_t qid, size_t room, size_t *n)
+{
+    size_t bytes = room * NVMEARB_SQE_BYTES, none = 0xeeee;
+    uint16_t slot = 0xffff, other;
+    uint32_t is_due = nvmearb_ctrl_fetch(&ctrl, qid, &slot), told;
+    if (upto(2))
+        return nvmearb_ctrl_fetched_n(&ctrl, slots, count, qid, entries[0], bytes, cookies, room, n);
+    other = slot ^ (uint16_t)(1 + upto(0xffff));
+    told = nvmearb_ctrl_fetched_n_at(&ctrl, slots, count, qid, other, entries[0], bytes, cookies, room, &none);
+    if (is_due == NVMEARB_OK ? told != NVMEARB_ESLOT || none != 0xeeee : told != NVMEARB_NONE || none != 0)
+        return NVMEARB_ESTATE;
+    return nvmearb_ctrl_fetched_n_at(&ctrl, slots, count, qid, slot, entries[0], bytes, cookies, room, n);
+}
+
 static int fetches_some(uint16_t qid)
 {
     size_t room = upto(LARGEST + 1), n = 0xeeee, done = 0;
@@ -100,7 +115,7 @@ static int fetches_some(uint16_t qid)
         cookies[k] = (uint32_t)drawn(&seed);
     }
     copy_all();
-    told = nvmearb_ctrl_fetched_n(&ctrl, slots, count, qid, entries[0], room * NVMEARB_SQE_BYTES, cookies, room, &n);
+    told = hands_in(qid, room, &n);
     for (; done < room; done++)
         if (nvmearb_ctrl_fetched(&copy.ctrl, copy.slots, count, qid, entries[done], cookies[done]) != NVMEARB_OK)
             break;
@@ -313,6 +328,7 @@ static int is_refused(size_t of_slots, uint32_t want)
     memset(commands, UNWRITTEN, sizeof commands), memset(posts, UNWRITTEN, sizeof posts);
     copy_all();
     return nvmearb_ctrl_fetched_n(&ctrl, slots, of_slots, 1, entries[0], bytes, cookies, 2, &n) == want &&
+           nvmearb_ctrl_fetched_n_at(&ctrl, slots, of_slots, 1, 9, entries[0], bytes, cookies, 2, &n) == want &&
            nvmearb_ctrl_take_n(&ctrl, slots, of_slots, commands, 2, &n) == want &&
            nvmearb_ctrl_post_n(&ctrl, slots, of_slots, 1, posts, 2, &n) == want && n == 0xeeee && is_as_copy() &&
            is_unwritten(commands, sizeof *commands, 0) && is_unwritten(posts, sizeof *posts, 0);
@@ -324,6 +340,7 @@ static int is_refused_for(size_t bytes, size_t room)
     size_t n = 0xeeee;
     copy_all();
     return nvmearb_ctrl_fetched_n(&ctrl, slots, count, 1, entries[0], bytes, cookies, room, &n) == NVMEARB_EARG &&
+           nvmearb_ctrl_fetched_n_at(&ctrl, slots, count, 1, 9, entries[0], bytes, cookies, room, &n) == NVMEARB_EARG &&
            n == 0xeeee && is_as_copy();
 }
 

@@ -305,8 +305,8 @@ static int fits_array(const struct call *it, unsigned which, struct tally *tally
         uint32_t tag = which == TAKE_N ? it->commands[k].tag : it->posts[k].tag;
         if (which == TAKE_N && NVMEARB_SLOT_OF(tag) < SLOTS)
             tally->tags[NVMEARB_SLOT_OF(tag)] += 0x10000;
-        is_well = is_well && (which == FETCHED_N || is_last(tag, tally));
-        tally->held += (which == FETCHED_N) - (which == POST_N);
+        is_well = is_well && (which <= FETCHED_N || is_last(tag, tally));
+        tally->held += (which <= FETCHED_N) - (which == POST_N);
         tally->out += which == TAKE_N;
     }
     return is_well;
@@ -327,14 +327,14 @@ static unsigned random_call(uint64_t *state, struct tally *tally)
     memcpy(slots_before, slots, sizeof slots);
     told = made(&it, which);
     changes = memcmp(&ctrl_before, &ctrl, sizeof ctrl) != 0 || memcmp(slots_before, slots, sizeof slots) != 0;
-    wrong += told > NVMEARB_NOROOM || told == NVMEARB_ESTATE;
+    wrong += told > NVMEARB_ESLOT || told == NVMEARB_ESTATE;
     wrong += which >= WITHOUT_SLOTS && it.count != SLOTS && told != NVMEARB_EARG;
     if (told != NVMEARB_OK) {
         return wrong + changes + (memcmp(&it, &before, sizeof it) != 0);
     }
     tally->done[which]++;
-    wrong += which >= FETCHED_N && which <= POST_N && !fits_array(&it, which, tally);
-    tally->held += (which == FETCHED) - (which == POST);
+    wrong += which >= FETCHED_N_AT && which <= POST_N && !fits_array(&it, which, tally);
+    tally->held += (which == FETCHED || which == FETCHED_AT) - (which == POST);
     tally->out += (which == TAKE) - (which == COMPLETE || which == COMPLETE_WITH);
     tally->passed += which == PICK && it.step.kind == NVMEARB_PASSED;
     if (which == TAKE && NVMEARB_SLOT_OF(it.command.tag) < SLOTS)

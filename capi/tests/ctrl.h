@@ -114,11 +114,12 @@ static inline int posted_with(uint16_t cqid, uint16_t slot, uint16_t sqhd, uint1
 {
     nvmearb_post post;
     nvmearb_cqe cqe;
+    uint8_t flags;
     if (nvmearb_ctrl_post(&ctrl, slots, SLOTS, cqid, &post) != NVMEARB_OK || post.bytes[15] >> 4 != top)
         return 0;
-    post.bytes[15] &= 0x0f;
-    return post.slot == slot && post.cookie == 1000u + cid && nvmearb_cqe_decode(post.bytes, &cqe) == NVMEARB_OK &&
-           cqe.sqhd == sqhd && cqe.sqid == cqid && cqe.cid == cid && cqe.phase == phase &&
+    return post.slot == slot && post.cookie == 1000u + cid &&
+           nvmearb_cqe_decode_with(post.bytes, &cqe, &flags) == NVMEARB_OK &&
+           flags == (top & 8 ? NVMEARB_DNR : 0) + (top & 4 ? NVMEARB_MORE : 0) && cqe.sqhd == sqhd && cqe.sqid == cqid && cqe.cid == cid && cqe.phase == phase &&
            cqe.status.sct == status.sct && cqe.status.sc == status.sc && cqe.dw0 == dw0;
 }
 

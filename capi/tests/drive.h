@@ -88,10 +88,10 @@ static inline int is_answered(uint16_t cqid, uint16_t cid, nvmearb_status status
 {
     nvmearb_post post;
     nvmearb_cqe cqe;
+    uint8_t flags;
     if (nvmearb_ctrl_post(&ctrl, slots, count, cqid, &post) != NVMEARB_OK)
         return 0;
-    post.bytes[15] &= 0x7f; /* without Do Not Retry */
-    return nvmearb_cqe_decode(post.bytes, &cqe) == NVMEARB_OK && cqe.cid == cid && cqe.dw0 == dw0 &&
+    return nvmearb_cqe_decode_with(post.bytes, &cqe, &flags) == NVMEARB_OK && flags <= NVMEARB_DNR && cqe.cid == cid && cqe.dw0 == dw0 &&
            cqe.status.sct == status.sct && cqe.status.sc == status.sc &&
            nvmearb_ctrl_cq_head(&ctrl, cqid, (uint16_t)((post.slot + 1) % queues[cqid].cq_slots)) == NVMEARB_OK;
 }

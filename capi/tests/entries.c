@@ -75,10 +75,27 @@ static void completion_fields_by_place(void)
     CHECK(again.phase == 1 && again.status.sct == 5 && again.status.sc == 0xa5);
 }
 
+/* Do Not Retry is bit 31 of Dword 3, and More bit 30. The fields are those without them. */
+static void completions_with_flags(void)
+{
+    static const uint8_t want[] = {0, NVMEARB_MORE, NVMEARB_DNR, NVMEARB_MORE | NVMEARB_DNR};
+    const nvmearb_cqe done = {0x01020304, 0x0708, 0x0506, 0x1234, 1, {7, 0xff}};
+    uint8_t bytes[NVMEARB_CQE_BYTES], flags = 0xee;
+    nvmearb_cqe again;
+    CHECK(nvmearb_cqe_encode(&done, bytes) == NVMEARB_OK && bytes[15] == 0x0f);
+    for (unsigned k = 0; k < 4; k++) {
+        bytes[15] = (uint8_t)(0x0f | k << 6);
+        CHECK(nvmearb_cqe_decode_with(bytes, &again, &flags) == NVMEARB_OK && flags == want[k]);
+        CHECK(again.dw0 == done.dw0 && again.sqhd == done.sqhd && again.sqid == done.sqid && again.cid == done.cid);
+        CHECK(again.phase == 1 && again.status.sct == 7 && again.status.sc == 0xff);
+    }
+}
+
 static void refused_completions(void)
 {
     uint8_t bytes[NVMEARB_CQE_BYTES] = {0, 0, 0, 0, 0, 0, 0, 0, 1, 0, 1, 0, 7, 0, 1, 0x80};
     uint8_t kept[NVMEARB_CQE_BYTES];
+    uint8_t flags = 0xee;
     nvmearb_cqe entry, before;
     memset(&entry, 0xee, sizeof entry);
     memcpy(&before, &entry, sizeof entry);
@@ -87,7 +104,14 @@ static void refused_completions(void)
     bytes[4] = 1;
     CHECK(nvmearb_cqe_decode(bytes, &entry) == NVMEARB_EARG); /* Dword 1 isn't 0 */
     CHECK(memcmp(&entry, &before, sizeof entry) == 0);
+    CHECK(nvmearb_cqe_decode_with(bytes, &entry, &flags) == NVMEARB_EARG);
     bytes[4] = 0;
+    bytes[15] = 0xd0;
+    CHECK(nvmearb_cqe_decode_with(bytes, &entry, &flags) == NVMEARB_EARG); /* bit 28, of CRD, is set */
+    bytes[15] = 0x20;
+    CHECK(nvmearb_cqe_decode_with(bytes, &entry, &flags) == NVMEARB_EARG); /* bit 29 is */
+    CHECK(memcmp(&entry, &before, sizeof entry) == 0 && flags == 0xee);
+    bytes[15] = 0;
     CHECK(nvmearb_cqe_decode(bytes, &entry) == NVMEARB_OK);
     memcpy(kept, bytes, sizeof bytes);
     entry.phase = 2;
@@ -262,7 +286,7 @@ static void random_calls(void)
     unsigned wrong = 0;
     for (int round = 0; round < 1000000; round++) {
         uint8_t sq[NVMEARB_SQE_BYTES], sq_again[NVMEARB_SQE_BYTES];
-        uint8_t cq[NVMEARB_CQE_BYTES], cq_again[NVMEARB_CQE_BYTES];
+        uint8_t cq[NVMEARB_CQE_BYTES], cq_again[NVMEARB_CQE_BYTES], flags;
         nvmearb_sqe entry;
         nvmearb_cqe done, random;
         nvmearb_status status, told, fit;
@@ -284,6 +308,8 @@ static void random_calls(void)
             cq[15] &= 0x0f;
         }
         reserved = (cq[4] | cq[5] | cq[6] | cq[7]) != 0 || cq[15] >> 4 != 0;
+        wrong += nvmearb_cqe_decode_with(cq, &done, &flags) !=
+                 (cq[4] | cq[5] | cq[6] | cq[7] | (cq[15] & 0x30) ? NVMEARB_EARG : NVMEARB_OK);
         wrong += nvmearb_cqe_decode(cq, &done) != (reserved ? NVMEARB_EARG : NVMEARB_OK);
         if (!reserved) {
             wrong += nvmearb_cqe_encode(&done, cq_again) != NVMEARB_OK;
@@ -325,6 +351,7 @@ int main(void)
     version();
     submission_fields_by_place();
     completion_fields_by_place();
+    completions_with_flags();
     refused_completions();
     outcomes();
     checks();

@@ -38,7 +38,7 @@ struct call {
 enum { ADD_SQ, ADD_CQ, OWN_OPCODE, OWN_FEATURE, SET_DEPTH, HOLD, SET_CLASS, SQ_TAIL, CQ_HEAD };
 enum { FETCH = CQ_HEAD + 1, NEXT_FETCH, SQ_OF, CQ_OF, WAITING, SEEN, WITHOUT_SLOTS };
 enum { FETCHED = WITHOUT_SLOTS, PEEK, PICK, TAKE, COMPLETE, COMPLETE_WITH, POST, FINISH };
-enum { FETCHED_N = FINISH + 1, TAKE_N, POST_N, COMMAND, NAMED, WAITS, NEXT_TO_POST, CALLS };
+enum { FETCHED_AT = FINISH + 1, FETCHED_N_AT, FETCHED_N, TAKE_N, POST_N, COMMAND, NAMED, WAITS, NEXT_TO_POST, CALLS };
 
 static inline uint32_t made(struct call *it, unsigned which)
 {
@@ -89,6 +89,11 @@ static inline uint32_t made(struct call *it, unsigned which)
         return nvmearb_ctrl_post(it->ctrl, it->slots, it->count, it->a, &it->post);
     case FINISH:
         return nvmearb_ctrl_finish(it->ctrl, it->slots, it->count, &it->number);
+    case FETCHED_AT:
+        return nvmearb_ctrl_fetched_at(it->ctrl, it->slots, it->count, it->a, it->b, it->bytes, it->dw0);
+    case FETCHED_N_AT:
+        return nvmearb_ctrl_fetched_n_at(it->ctrl, it->slots, it->count, it->a, it->b, it->entries[0], it->entries_bytes,
+                                         it->cookies, it->room, &it->n);
     case FETCHED_N:
         return nvmearb_ctrl_fetched_n(it->ctrl, it->slots, it->count, it->a, it->entries[0], it->entries_bytes,
                                       it->cookies, it->room, &it->n);
@@ -128,7 +133,7 @@ static inline unsigned draw_call(uint64_t *state, struct call *it)
                                          PICK,    PICK,    TAKE,     TAKE,      TAKE,          POST,        POST,
                                          FINISH,  COMMAND, COMPLETE, COMPLETE,  COMPLETE_WITH, NAMED,       HOLD,
                                          HOLD,    SEEN,    WAITS,    SET_DEPTH, NEXT_FETCH,    NEXT_TO_POST,
-                                         TAKE_N,  POST_N,  FETCHED_N};
+                                         TAKE_N,  POST_N,  FETCHED_N, FETCHED_AT,   FETCHED_N_AT};
     uint64_t word = drawn(state);
     unsigned which = word & 1 ? often[(word >> 4) % CALLS] : (unsigned)(word >> 4) % CALLS;
     it->a = word >> 60 ? (uint16_t)(word >> 16) % 3 : (uint16_t)(word >> 16);

@@ -183,6 +183,7 @@ static void forget(struct call *it)
     case POST:
         memset(&it->post, 0, sizeof it->post);
         break;
+    case FETCHED_N_AT:
     case FETCHED_N:
         it->n = 0;
         break;
@@ -221,7 +222,7 @@ static int is_of_its_kind(const struct call *it)
     int is_carried_out = which == PICK && step->kind == NVMEARB_CARRIED_OUT;
     if (which == NEXT_FETCH || which == NEXT_TO_POST)
         return it->a < NVMEARB_MAX_QUEUES;
-    if (which == FETCHED_N || which == TAKE_N || which == POST_N)
+    if (which >= FETCHED_N_AT && which <= POST_N)
         return it->n > 0 && it->n <= it->room;
     if (which == SEEN)
         return it->seen.qid == it->a && it->seen.priority <= NVMEARB_LOW && it->seen.count <= NVMEARB_MAX_COUNT;
@@ -265,7 +266,7 @@ static int is_well(const struct object *it, unsigned done[CALLS])
     made_calls++;
     uint32_t told = made(it->call, which);
     done[which] += told == NVMEARB_OK;
-    if ((told == NVMEARB_ESTATE) != is_refused || told > NVMEARB_NOROOM)
+    if ((told == NVMEARB_ESTATE) != is_refused || told > NVMEARB_ESLOT)
         return 0;
     if (is_other && !is_refused && told != NVMEARB_EARG)
         return 0;

@@ -31,7 +31,7 @@ static struct {
 
 static struct {
     uint64_t ok, none, busy, full, refused, passed, passed_aborts, named, deep, held, classed, deletions, together, aborts;
-    uint64_t flagged, created, made, again, cut, stale, turns;
+    uint64_t flagged, created, made, again, cut, stale, turns, others;
     uint64_t anywhere, lies_anywhere, most, bad_sizes, bad_offsets, bad_vectors; /* where queues may lie anywhere */
 } tally;
 
@@ -42,6 +42,7 @@ static int is_right(uint32_t told, uint32_t want)
     tally.none += told == NVMEARB_NONE;
     tally.busy += told == NVMEARB_BUSY;
     tally.full += told == NVMEARB_NOROOM;
+    tally.others += told == NVMEARB_ESLOT;
     tally.refused += told == NVMEARB_EARG || told == NVMEARB_EUSED || told == NVMEARB_EMANY || told == NVMEARB_ESIZE;
     return told == want;
 }
@@ -252,6 +253,33 @@ static uint16_t free_number(void)
     return number;
 }
 
+/* The entry of a slot is handed in: by the call that is given the slot, of one or of an array of one, or by that without. */
+static uint32_t hands_in(uint16_t qid, uint16_t slot, const uint8_t *bytes, uint32_t cookie)
+{
+    uint32_t way = upto(3), told;
+    size_t n = 0xeeee;
+    if (way < 2)
+        return way ? nvmearb_ctrl_fetched(CTRL, POOL, qid, bytes, cookie)
+                   : nvmearb_ctrl_fetched_at(CTRL, POOL, qid, slot, bytes, cookie);
+    told = nvmearb_ctrl_fetched_n_at(CTRL, POOL, qid, slot, bytes, NVMEARB_SQE_BYTES, &cookie, 1, &n);
+    return n == (told == NVMEARB_OK ? 1 : 0) ? told : NVMEARB_ESTATE;
+}
+
+/* That of another slot isn't taken. */
+static int refuses_other(uint16_t qid, uint16_t slot, uint32_t want)
+{
+    uint8_t bytes[NVMEARB_SQE_BYTES];
+    uint16_t other = slot ^ (uint16_t)(1 + upto(0xffff));
+    uint32_t cookie = 7;
+    size_t n = want == NVMEARB_NONE ? 0 : 0xeeee, count = n;
+    nvmearb_ctrl before = room.ctrl;
+    draw_into(&seed, bytes, sizeof bytes);
+    want = want == NVMEARB_OK ? NVMEARB_ESLOT : want;
+    return is_right(nvmearb_ctrl_fetched_at(CTRL, POOL, qid, other, bytes, cookie), want) &&
+           is_right(nvmearb_ctrl_fetched_n_at(CTRL, POOL, qid, other, bytes, sizeof bytes, &cookie, 1, &n), want) &&
+           n == count && !memcmp(&before, CTRL, sizeof before);
+}
+
 static int fetches(void)
 {
     uint16_t qid = draw_qid(), slot = 0xffff, number;
@@ -262,6 +290,8 @@ static int fetches(void)
         return 0;
     if (want == NVMEARB_OK && slot != sq->fetched % sq->slots)
         return 0;
+    if (upto(4) == 0 && !refuses_other(qid, slot, want))
+        return 0;
     draw_entry(qid, bytes);
     number = free_number();
     if (want == NVMEARB_OK) {
@@ -271,7 +301,7 @@ static int fetches(void)
         push(&sq->waiting, number);
         sq->fetched++, sq->unposted++, account.held++;
     }
-    want = is_right(nvmearb_ctrl_fetched(CTRL, POOL, qid, bytes, cookie), want);
+    want = is_right(hands_in(qid, slot, bytes, cookie), want);
     draw_into(&seed, bytes, sizeof bytes); /* (the controller has a copy) */
     return (int)want;
 }
@@ -776,6 +806,6 @@ int main(int count, char **words)
     CHECK(tally.busy && tally.full && tally.created && tally.deletions && tally.together && tally.aborts);
     CHECK(tally.most > NVMEARB_MAX_REGIONS && tally.bad_sizes && tally.bad_offsets && tally.bad_vectors);
     CHECK(tally.passed && tally.flagged && tally.passed_aborts && tally.named && tally.held && tally.classed);
-    CHECK(tally.cut && tally.deep && tally.again && tally.stale && tally.turns);
+    CHECK(tally.cut && tally.deep && tally.again && tally.stale && tally.turns && tally.others);
     return told();
 }

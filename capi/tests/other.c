@@ -41,7 +41,8 @@ static void texts(void)
     CHECK(!strcmp(nvmearb_text(NVMEARB_OK), "NVMEARB_OK: done"));
     CHECK(!strcmp(nvmearb_text(NVMEARB_EARG), "NVMEARB_EARG: an argument isn't valid"));
     CHECK(!strcmp(nvmearb_text(NVMEARB_NOROOM), "NVMEARB_NOROOM: the device has room for no command"));
-    CHECK(!strcmp(nvmearb_text(NVMEARB_NOROOM + 1), "no result of nvmearb.h"));
+    CHECK(!strcmp(nvmearb_text(NVMEARB_ESLOT), "NVMEARB_ESLOT: the entry of another slot is to be fetched next"));
+    CHECK(!strcmp(nvmearb_text(NVMEARB_ESLOT + 1), "no result of nvmearb.h"));
     CHECK(!strcmp(nvmearb_text(UINT32_MAX), "no result of nvmearb.h"));
 }
 

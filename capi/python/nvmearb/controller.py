@@ -174,10 +174,14 @@ class Controller:
             self._fetch_turn = found[0]
             yield found
 
-    def fetched(self, qid: int, entry: bytes, cookie: int = 0) -> None:
-        """The entry in the slot that `fetch` told was read: its command waits to be picked."""
+    def fetched(self, qid: int, entry: bytes, cookie: int = 0, slot: Optional[int] = None) -> None:
+        """The entry in the slot that `fetch` told was read: its command waits to be picked. With `slot`, where the entry was
+        read, it is refused if `fetch` tells another."""
         data = (c_uint8 * 64)(*sized(entry, 64))
-        checked(self._call("fetched", u16(qid=qid), data, u32(cookie=cookie)))
+        if slot is None:
+            checked(self._call("fetched", u16(qid=qid), data, u32(cookie=cookie)))
+        else:
+            checked(self._call("fetched_at", u16(qid=qid), u16(slot=slot), data, u32(cookie=cookie)))
 
     def peek(self) -> Optional[Pick]:
         """The pick that arbitration makes next with any room, whether or not it can be made already."""

@@ -71,10 +71,10 @@ class Cqe:
     @staticmethod
     def from_bytes(entry: bytes) -> Cqe:
         """The fields of 16 bytes. Refused if a bit is set that has no field."""
-        plain, fields = bytearray(sized(entry, 16)), CqeFields()
-        more, do_not_retry = bool(plain[15] & 0x40), bool(plain[15] & 0x80)
-        plain[15] &= 0x3F
-        checked(library().nvmearb_cqe_decode((ctypes.c_uint8 * 16)(*plain), ctypes.byref(fields)))
+        fields, flags = CqeFields(), ctypes.c_uint8()
+        data = (ctypes.c_uint8 * 16)(*sized(entry, 16))
+        checked(library().nvmearb_cqe_decode_with(data, ctypes.byref(fields), ctypes.byref(flags)))
+        do_not_retry, more = bool(flags.value & 1), bool(flags.value & 2)
         status = Status(fields.status.sct, fields.status.sc)
         return Cqe(fields.cid, status, fields.dw0, fields.sqhd, fields.sqid, fields.phase, do_not_retry, more)
 

@@ -20,6 +20,7 @@ NAMES = {
     4: "NVMEARB_EUSED: another region has this address",
     5: "NVMEARB_EMANY: no region of this kind can be added",
     6: "NVMEARB_ESIZE: a region has 2 to 4096 slots",
+    9: "NVMEARB_ESLOT: the entry of another slot is to be fetched next",
 }
 
 

@@ -202,9 +202,8 @@ impl Pair {
         self.tail = (self.tail + 1) % RING;
         device.ring(2 * self.qid, self.tail.into()).expect("the ring has room");
         let at = place(cq, self.head, CQE_BYTES).expect("the ring is in memory");
-        let mut bytes: [u8; CQE_BYTES] = device.memory[at].try_into().expect("a slot");
-        bytes[15] &= 0x0f; // without its flags
-        let done = Cqe::from_bytes(&bytes).expect("a completion");
+        let bytes: [u8; CQE_BYTES] = device.memory[at].try_into().expect("a slot");
+        let (done, _flags) = Cqe::from_flagged(&bytes).expect("a completion");
         assert_eq!((done.phase, done.cid, done.sqhd), (self.phase, entry.cid, self.tail));
         self.head = (self.head + 1) % RING;
         self.phase ^= self.head == 0;

@@ -116,6 +116,10 @@ impl StatusFlags {
     /// Do Not Retry alone.
     pub const DO_NOT_RETRY: StatusFlags = StatusFlags { more: false, do_not_retry: true };
 
+    pub(crate) fn of(number: u8) -> StatusFlags {
+        StatusFlags { more: number & sys::NVMEARB_MORE != 0, do_not_retry: number & sys::NVMEARB_DNR != 0 }
+    }
+
     fn number(self) -> u8 {
         u8::from(self.do_not_retry) * sys::NVMEARB_DNR + u8::from(self.more) * sys::NVMEARB_MORE
     }
@@ -125,8 +129,7 @@ impl StatusFlags {
 /// after the others.
 #[derive(Clone, Copy, Debug, PartialEq, Eq, Hash)]
 pub struct Post {
-    /// The completion queue entry. Byte 15 has Do Not Retry in bit 7 and More in bit 6, and
-    /// [`Cqe::from_bytes`](crate::Cqe::from_bytes) takes no entry with a flag.
+    /// The completion queue entry. [`Cqe::from_flagged`](crate::Cqe::from_flagged) takes it, as it may have flags.
     pub bytes: [u8; CQE_BYTES],
     /// The cookie of its command.
     pub cookie: u32,
@@ -162,8 +165,8 @@ impl Post {
 /// 2. [`Controller::own_opcode`] and [`Controller::own_feature`] for the admin commands that the device answers itself,
 ///    such as Identify.
 /// 3. At each doorbell write [`Controller::sq_tail`] or [`Controller::cq_head`].
-/// 4. While `to_fetch().next()` tells a queue and a slot: read the entry there, and [`Controller::fetched`]. Queues take
-///    turns ([`Controller::to_fetch`]). [`Controller::next_fetch`] asks for the queue behind another, and
+/// 4. While `to_fetch().next()` tells a queue and a slot: read the entry there, and [`Controller::fetched`], or
+///    [`Controller::fetched_at`] where several reads are under way. Queues take turns ([`Controller::to_fetch`]). [`Controller::next_fetch`] asks for the queue behind another, and
 ///    [`Controller::fetch`] a single one.
 /// 5. While [`Controller::take`] gives a command, execute it. Where it has none, [`Controller::pick`], and begin again,
 ///    until that picks nothing either. At a step that created a queue keep its [`Asked`](crate::Asked) by the
@@ -437,6 +440,16 @@ impl<S: Slots> Controller<S> {
         checked(unsafe { sys::nvmearb_ctrl_fetched(ctrl, slots, count, qid, bytes, cookie) })
     }
 
+    /// As [`Controller::fetched`], of the entry that was read in this slot of the ring: with several reads under way, or a
+    /// slot that was told before other calls, no entry is taken for another.
+    ///
+    /// The first of these: [`Error::Missing`]: `fetch` tells no slot. [`Error::Slot`]: it tells another.
+    pub fn fetched_at(&mut self, qid: u16, slot: u16, bytes: &[u8; SQE_BYTES], cookie: u32) -> Result<(), Error> {
+        let (ctrl, slots, count) = self.parts();
+        // SAFETY: references, and the slots are those of the state.
+        checked(unsafe { sys::nvmearb_ctrl_fetched_at(ctrl, slots, count, qid, slot, bytes, cookie) })
+    }
+
     /// As [`Controller::fetched`], of one entry after the other, each with its cookie, until `fetch` tells no slot. Answers
     /// how many were fetched. The entries are those in the slots of the ring from the one that `fetch` tells on, slot 0
     /// after the last, and before the last tail that [`Controller::sq_tail`] accepted.
@@ -448,6 +461,26 @@ impl<S: Slots> Controller<S> {
         let (kept, len) = (cookies.as_ptr(), cookies.len());
         // SAFETY: references, slices, and the slots are those of the state.
         let n = found(|n| unsafe { sys::nvmearb_ctrl_fetched_n(ctrl, slots, count, qid, first, bytes, kept, len, n) });
+        n.map(Option::unwrap_or_default)
+    }
+
+    /// As [`Controller::fetched_n`], of entries that were read from this slot of the ring on.
+    ///
+    /// [`Error::Argument`]: there aren't as many cookies as entries. [`Error::Slot`]: `fetch` tells another slot.
+    pub fn fetched_n_at(
+        &mut self,
+        qid: u16,
+        slot: u16,
+        entries: &[[u8; SQE_BYTES]],
+        cookies: &[u32],
+    ) -> Result<usize, Error> {
+        let (ctrl, slots, count) = self.parts();
+        let (first, bytes) = (entries.as_ptr().cast(), entries.len() * SQE_BYTES);
+        let (kept, len) = (cookies.as_ptr(), cookies.len());
+        // SAFETY: references, slices, and the slots are those of the state.
+        let n = found(|n| unsafe {
+            sys::nvmearb_ctrl_fetched_n_at(ctrl, slots, count, qid, slot, first, bytes, kept, len, n)
+        });
         n.map(Option::unwrap_or_default)
     }
 

@@ -1,7 +1,7 @@
 // SPDX-License-Identifier: MIT
 //! Entries of queues, statuses, and the outcome of an I/O command.
 use crate::error::{sure, written};
-use crate::{sys, Error, CQE_BYTES, SQE_BYTES};
+use crate::{sys, Error, StatusFlags, CQE_BYTES, SQE_BYTES};
 use core::fmt;
 
 /// The opcodes of I/O commands that the library knows.
@@ -273,6 +273,11 @@ pub struct Cqe {
 }
 
 impl Cqe {
+    fn of(fields: &sys::nvmearb_cqe) -> Cqe {
+        let sys::nvmearb_cqe { dw0, sqhd, sqid, cid, phase, status } = *fields;
+        Cqe { dw0, sqhd, sqid, cid, phase: phase != 0, status: Status::of(&status) }
+    }
+
     /// Decodes a completion queue entry.
     ///
     /// [`Error::Argument`]: Dword 1 isn't 0, or one of bits 31:28 of Dword 3 is set, which have no
@@ -280,8 +285,17 @@ impl Cqe {
     pub fn from_bytes(bytes: &[u8; CQE_BYTES]) -> Result<Cqe, Error> {
         // SAFETY: references.
         let fields = written(|fields| unsafe { sys::nvmearb_cqe_decode(bytes, fields) })?;
-        let sys::nvmearb_cqe { dw0, sqhd, sqid, cid, phase, status } = fields;
-        Ok(Cqe { dw0, sqhd, sqid, cid, phase: phase != 0, status: Status::of(&status) })
+        Ok(Cqe::of(&fields))
+    }
+
+    /// Decodes a completion queue entry that may have flags, as what a controller posts.
+    ///
+    /// [`Error::Argument`]: Dword 1, or CRD in bits 29:28 of Dword 3, isn't 0.
+    pub fn from_flagged(bytes: &[u8; CQE_BYTES]) -> Result<(Cqe, StatusFlags), Error> {
+        let mut flags = 0;
+        // SAFETY: references.
+        let fields = written(|fields| unsafe { sys::nvmearb_cqe_decode_with(bytes, fields, &mut flags) })?;
+        Ok((Cqe::of(&fields), StatusFlags::of(flags)))
     }
 
     /// Encodes a completion queue entry. It undoes [`Cqe::from_bytes`].

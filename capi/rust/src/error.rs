@@ -19,6 +19,8 @@ pub enum Error {
     Size,
     /// Something outside of Rust's rules wrote into the state. (`NVMEARB_ESTATE`)
     State,
+    /// The entry of another slot is to be fetched next. (`NVMEARB_ESLOT`)
+    Slot,
 }
 
 impl fmt::Display for Error {
@@ -30,6 +32,7 @@ impl fmt::Display for Error {
             Error::TooMany => "no region of this kind can be added",
             Error::Size => "a region has 2 to 4096 slots",
             Error::State => "something else wrote into the state",
+            Error::Slot => "the entry of another slot is to be fetched next",
         })
     }
 }
@@ -69,6 +72,7 @@ pub(crate) fn checked(code: u32) -> Result<(), Error> {
         sys::NVMEARB_EMANY => Error::TooMany,
         sys::NVMEARB_ESIZE => Error::Size,
         sys::NVMEARB_ESTATE => Error::State,
+        sys::NVMEARB_ESLOT => Error::Slot,
         _ => panic!("libnvmearb answered {code}, which can't be"),
     })
 }

@@ -30,6 +30,7 @@ pub const NVMEARB_EMANY: u32 = 5;
 pub const NVMEARB_ESIZE: u32 = 6;
 pub const NVMEARB_BUSY: u32 = 7;
 pub const NVMEARB_NOROOM: u32 = 8;
+pub const NVMEARB_ESLOT: u32 = 9;
 
 pub const NVMEARB_SQE_BYTES: usize = 64;
 pub const NVMEARB_CQE_BYTES: usize = 16;
@@ -425,6 +426,7 @@ extern "C" {
     pub fn nvmearb_sqe_decode(bytes: *const SqeBytes, fields: *mut nvmearb_sqe);
     pub fn nvmearb_sqe_encode(fields: *const nvmearb_sqe, bytes: *mut SqeBytes);
     pub fn nvmearb_cqe_decode(bytes: *const CqeBytes, fields: *mut nvmearb_cqe) -> u32;
+    pub fn nvmearb_cqe_decode_with(bytes: *const CqeBytes, fields: *mut nvmearb_cqe, flags: *mut u8) -> u32;
     pub fn nvmearb_cqe_encode(fields: *const nvmearb_cqe, bytes: *mut CqeBytes) -> u32;
     pub fn nvmearb_outcome(entry: *const nvmearb_sqe, sizes: *const u64, count: usize, status: *mut nvmearb_status) -> u32;
     pub fn nvmearb_check(entry: *const nvmearb_sqe, sizes: *const u64, count: usize, status: *mut nvmearb_status);
@@ -473,7 +475,9 @@ extern "C" {
     pub fn nvmearb_ctrl_fetch(ctrl: *const nvmearb_ctrl, qid: u16, slot: *mut u16) -> u32;
     pub fn nvmearb_ctrl_next_fetch(ctrl: *const nvmearb_ctrl, qid: *mut u16, slot: *mut u16) -> u32;
     pub fn nvmearb_ctrl_fetched(ctrl: *mut nvmearb_ctrl, slots: *mut nvmearb_slot, count: usize, qid: u16, bytes: *const SqeBytes, cookie: u32) -> u32;
+    pub fn nvmearb_ctrl_fetched_at(ctrl: *mut nvmearb_ctrl, slots: *mut nvmearb_slot, count: usize, qid: u16, slot: u16, bytes: *const SqeBytes, cookie: u32) -> u32;
     pub fn nvmearb_ctrl_fetched_n(ctrl: *mut nvmearb_ctrl, slots: *mut nvmearb_slot, count: usize, qid: u16, entries: *const u8, bytes: usize, cookies: *const u32, cookie_count: usize, n: *mut usize) -> u32;
+    pub fn nvmearb_ctrl_fetched_n_at(ctrl: *mut nvmearb_ctrl, slots: *mut nvmearb_slot, count: usize, qid: u16, slot: u16, entries: *const u8, bytes: usize, cookies: *const u32, cookie_count: usize, n: *mut usize) -> u32;
     pub fn nvmearb_ctrl_peek(ctrl: *const nvmearb_ctrl, slots: *const nvmearb_slot, count: usize, pick: *mut nvmearb_pick) -> u32;
     pub fn nvmearb_ctrl_pick(ctrl: *mut nvmearb_ctrl, slots: *mut nvmearb_slot, count: usize, room: u16, step: *mut nvmearb_step) -> u32;
     pub fn nvmearb_ctrl_take(ctrl: *mut nvmearb_ctrl, slots: *mut nvmearb_slot, count: usize, command: *mut nvmearb_command) -> u32;

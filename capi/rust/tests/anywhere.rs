@@ -43,11 +43,9 @@ impl Host {
             self.ctrl.finish().expect("none of its commands is held");
         }
         let post = self.ctrl.post(0).expect("its completion is ready");
-        let flags = post.flags();
-        let mut bytes = post.bytes;
-        bytes[15] &= 0x3f;
+        let (entry, flags) = Cqe::from_flagged(&post.bytes).unwrap();
         assert_eq!((post.slot, self.ctrl.cq_head(0, self.next)), (slot, Ok(())));
-        (answer, asked, Cqe::from_bytes(&bytes).unwrap().status, flags)
+        (answer, asked, entry.status, flags)
     }
 
     fn succeeds(&mut self, opcode: u8, prp1: u64, cdw10: u32, cdw11: u32) -> (Answer, Asked) {

@@ -82,11 +82,11 @@ fn posted(ctrl: &mut Controller, cqid: u16, want: (u16, u16, u16, bool, Status, 
 /// So with its flags, which are bits 31 and 30 of Dword 3.
 fn posted_with(ctrl: &mut Controller, cqid: u16, want: (u16, u16, u16, bool, Status, u32), flags: StatusFlags) {
     let post = ctrl.post(cqid).expect("a completion is ready");
-    let mut bytes = post.bytes;
-    assert_eq!((bytes[15] >> 7 & 1 == 1, bytes[15] >> 6 & 1 == 1), (flags.do_not_retry, flags.more));
+    let top = post.bytes[15];
+    assert_eq!((top >> 7 & 1 == 1, top >> 6 & 1 == 1), (flags.do_not_retry, flags.more));
     assert_eq!(post.flags(), flags);
-    bytes[15] &= 0x3f;
-    let cqe = Cqe::from_bytes(&bytes).unwrap();
+    let (cqe, decoded) = Cqe::from_flagged(&post.bytes).unwrap();
+    assert_eq!(decoded, flags);
     assert_eq!((post.slot, cqe.sqhd, cqe.cid, cqe.phase, cqe.status, cqe.dw0), want);
     assert_eq!((cqe.sqid, post.cookie), (cqid, 1000 + u32::from(cqe.cid)));
 }
@@ -513,6 +513,18 @@ fn more_than_256_commands_have_no_completion_posted() {
 }
 
 #[test]
+fn an_entry_of_another_slot_is_not_taken() {
+    let mut ctrl = with_long_rings();
+    assert_eq!((ctrl.sq_tail(1, 2), ctrl.fetch(1)), (Ok(()), Some(0)));
+    let (first, second) = (read(0).to_bytes(), read(1).to_bytes());
+    assert_eq!(ctrl.fetched_at(1, 1, &second, 1), Err(Error::Slot)); // the read of slot 1 ended first
+    assert_eq!((ctrl.waiting(1), ctrl.fetch(1)), (Some(0), Some(0)));
+    assert_eq!((ctrl.fetched_at(1, 0, &first, 0), ctrl.fetched_at(1, 0, &first, 0)), (Ok(()), Err(Error::Slot)));
+    assert_eq!((ctrl.fetched_at(1, 1, &second, 1), ctrl.fetched_at(1, 2, &first, 2)), (Ok(()), Err(Error::Missing)));
+    assert_eq!(ctrl.waits(1, 1).map(|(entry, cookie)| (entry.cid, cookie)), Some((1, 1)));
+}
+
+#[test]
 fn arrays_have_what_single_calls_give() {
     let mut ctrl = with_long_rings();
     let entries: Vec<_> = (0..101).map(|cid| read(cid).to_bytes()).collect();
@@ -521,7 +533,10 @@ fn arrays_have_what_single_calls_give() {
     assert_eq!((ctrl.sq_tail(1, 100), ctrl.take_n(&mut commands), ctrl.post_n(1, &mut posts)), (Ok(()), 0, 0));
     assert_eq!(ctrl.fetched_n(1, &entries, &cookies[1..]), Err(Error::Argument));
     assert_eq!((ctrl.fetched_n(1, &[], &[]), ctrl.fetched_n(2, &entries, &cookies)), (Ok(0), Ok(0)));
-    assert_eq!((ctrl.fetched_n(1, &entries, &cookies), ctrl.waiting(1), ctrl.fetch(1)), (Ok(100), Some(100), None));
+    assert_eq!(ctrl.fetched_n_at(1, 1, &entries, &cookies), Err(Error::Slot));
+    assert_eq!(ctrl.fetched_n_at(1, 1, &entries, &cookies[1..]), Err(Error::Argument));
+    assert_eq!((ctrl.fetched_n_at(1, 0, &entries, &cookies), ctrl.waiting(1), ctrl.fetch(1)), (Ok(100), Some(100), None));
+    assert_eq!(ctrl.fetched_n_at(1, 100, &entries, &cookies), Ok(0));
     picked(&mut ctrl, 100);
     assert_eq!((ctrl.take_n(&mut []), ctrl.take_n(&mut commands[..35]), ctrl.take_n(&mut commands[35..])), (0, 35, 65));
     for (k, command) in commands.iter().flatten().enumerate() {

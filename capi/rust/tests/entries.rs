@@ -1,7 +1,7 @@
 // SPDX-License-Identifier: MIT
 //! Entries, statuses, outcomes, admin fields and settings. Values are the specification's.
 use nvmearb::{admin_opcode, feature, io_opcode};
-use nvmearb::{Admin, Cqe, DoorbellError, Error, Priority, Settings, Sqe, Status, MAX_NAMESPACES};
+use nvmearb::{Admin, Cqe, DoorbellError, Error, Priority, Settings, Sqe, Status, StatusFlags, MAX_NAMESPACES};
 
 #[test]
 fn library_is_of_this_version() {
@@ -55,6 +55,22 @@ fn completions_with_bits_of_no_field_are_refused() {
     bytes[4] = 1; // Dword 1
     assert_eq!(Cqe::from_bytes(&bytes), Err(Error::Argument));
     assert_eq!(Cqe::from_bytes(&[0; 16]), Ok(Cqe::default()));
+}
+
+#[test]
+fn completions_with_flags_are_decoded() {
+    let mut bytes = [0; 16];
+    bytes[15] = 0x80;
+    assert_eq!(Cqe::from_flagged(&bytes), Ok((Cqe::default(), StatusFlags::DO_NOT_RETRY)));
+    bytes[15] = 0xcb;
+    let status = Status::new(5, 0x80).unwrap();
+    let both = StatusFlags { more: true, do_not_retry: true };
+    assert_eq!(Cqe::from_flagged(&bytes), Ok((Cqe { status, ..Cqe::default() }, both)));
+    bytes[15] = 0x10; // CRD
+    assert_eq!(Cqe::from_flagged(&bytes), Err(Error::Argument));
+    bytes = [0; 16];
+    bytes[7] = 1; // Dword 1
+    assert_eq!(Cqe::from_flagged(&bytes), Err(Error::Argument));
 }
 
 #[test]

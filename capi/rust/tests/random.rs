@@ -121,9 +121,7 @@ impl Driven {
         assert_eq!(post.is_some(), is_due);
         if let Some(post) = post {
             let entry = self.open.remove(&post.cookie).expect("its command has no other completion");
-            let mut bytes = post.bytes;
-            bytes[15] &= 0x3f; // without its flags
-            let cqe = Cqe::from_bytes(&bytes).unwrap();
+            let (cqe, _) = Cqe::from_flagged(&post.bytes).unwrap();
             assert_eq!(cqe.cid, entry.cid);
             self.posts[usize::from(cqe.sqid > 0)] += 1;
         }
@@ -232,7 +230,10 @@ fn entries_come_back() {
         assert_eq!(entry.admin() == Admin::Other, !matches!(entry.opcode, 0 | 1 | 4 | 5 | 8 | 9 | 10));
         let mut done: [u8; 16] = drawn.bytes();
         done[4..8].fill(0);
+        done[15] &= 0xcf;
+        let (cqe, flags) = Cqe::from_flagged(&done).unwrap();
+        assert_eq!((flags.do_not_retry, flags.more), (done[15] & 0x80 != 0, done[15] & 0x40 != 0));
         done[15] &= 0x0f;
-        assert_eq!(Cqe::from_bytes(&done).unwrap().to_bytes(), done);
+        assert_eq!((Cqe::from_bytes(&done), cqe.to_bytes()), (Ok(cqe), done));
     }
 }

@@ -1,12 +1,12 @@
 -- The bytes of a completion queue entry with its flags.
-use Rattle.std.proofs.Common.{◌≡◌, ℕ, zero, suc, ◌+◌, ◌*◌, ◌%◌, ◌<◌, ◌≤◌, Bool, true, false, if◌then◌else◌, List, length, slice_index, refl, sym, ap, ◌∙◌, arith}
+use Rattle.std.proofs.Common.{◌≡◌, ℕ, zero, suc, ◌+◌, ◌*◌, ◌/◌, ◌%◌, ◌<◌, ◌≤◌, ◌==◌, Bool, true, false, if◌then◌else◌, List, length, slice_index, refl, sym, ap, ◌∙◌, arith}
 use Rattle.std.specs.Prelude.{slice_set}
-use Rattle.std.proofs.lemmas.List.{get_or-set_same, get_or-set_other, length-set}
+use Rattle.std.proofs.lemmas.List.{get_or-set_same, get_or-set_other, length-set, set-set, set-get_or}
 use Rattle.nvme_entry.specs.Bits.{bits_of, bytes_at, dword}
 use Rattle.nvme_entry.specs.Completion.{IsCompletionEntry}
 use Rattle.nvme_entry.specs.declared.completion.Cqe.{Cqe}
 use Rattle.nvme_ctrl_log.specs.declared.status_flags.StatusFlags.{StatusFlags}
-use Rattle.nvme_capi.specs.Controllers.{IsFlaggedEntry}
+use Rattle.nvme_capi.specs.Controllers.{IsFlaggedEntry, flags_by, flags_number}
 
 -- a number in bytes that are left
 left : (n p : ℕ) (xs ys : List ℕ) → ((k : ℕ) → k < 15 → slice_index xs k ≡ slice_index ys k) → p + n ≤ 15 → bytes_at p n xs ≡ bytes_at p n ys
@@ -101,3 +101,52 @@ flagged_entry plain bytes v flags cqe f12 f13 f14 f15 set is h = record {
 
   sum : y ≡ x + 1073741824 * a + 2147483648 * b
   sum = omega (arith, few, same 12 (omega arith), same 13 (omega arith), same 14 (omega arith), last, is, as_bit 64 flags.more, as_bit 128 flags.do_not_retry, f12, f13, f14, f15)
+
+-- a bit is its mark in its place
+as_mark : (place n : ℕ) → n ≤ 1 → (if n == 1 then place else 0) ≡ place * n
+as_mark place zero few = omega arith
+as_mark place (suc zero) few = omega arith
+as_mark place (suc (suc n)) few = absurd (omega (arith, few))
+
+-- so it is with the entry that bytes hold without their flags
+module _ (bytes plain : List ℕ) (f12 : slice_index bytes 12 < 256) (f13 : slice_index bytes 13 < 256) (f14 : slice_index bytes 14 < 256) (f15 : slice_index bytes 15 < 256)
+    (whole : length plain ≡ 16) (is : plain ≡ slice_set bytes 15 (slice_index bytes 15 % 64)) where
+  abbrev v : ℕ
+  v = slice_index bytes 15
+
+  size : length bytes ≡ 16
+  size = sym (length-set bytes 15 (v % 64)) ∙ ap (λ (xs : List ℕ). length xs) (sym is) ∙ whole
+
+  same : (k : ℕ) → k < 15 → slice_index plain k ≡ slice_index bytes k
+  same k lt = ap (λ (xs : List ℕ). slice_index xs k) is ∙ get_or-set_other bytes 15 k (v % 64) 0 (λ e. omega (arith, e, lt))
+
+  last : slice_index plain 15 ≡ v % 64
+  last = ap (λ (xs : List ℕ). slice_index xs 15) is ∙ get_or-set_same bytes 15 (v % 64) 0 (omega (arith, size))
+
+  back : bytes ≡ slice_set plain 15 v
+  back = sym (ap (λ (xs : List ℕ). slice_set xs 15 v) is ∙ set-set bytes 15 (v % 64) v ∙ set-get_or bytes 15 0)
+
+  abbrev a : ℕ
+  a = bits_of 31 31 (dword 3 bytes)
+
+  abbrev b : ℕ
+  b = bits_of 30 30 (dword 3 bytes)
+
+  parts : v % 64 < 16 → v ≡ v % 64 % 16 + 64 * b + 128 * a
+  parts few = omega (arith, few, f12, f13, f14, f15)
+
+  more_at : flags_number bytes / 2 ≡ b
+  more_at = omega (arith, f12, f13, f14, f15)
+
+  retry_at : flags_number bytes % 2 ≡ a
+  retry_at = omega (arith, f12, f13, f14, f15)
+
+  pub unflagged_entry : (cqe : Cqe) → IsCompletionEntry plain cqe → IsFlaggedEntry bytes cqe (flags_by (flags_number bytes))
+  unflagged_entry cqe h =
+      let low : v % 64 < 16 = omega (arith, h.never_set, same 12 (omega arith), same 13 (omega arith), same 14 (omega arith), last, f12, f13, f14, f15) in
+      let few : slice_index plain 15 < 256 = omega (arith, last, low) in
+      let more : (if flags_number bytes / 2 == 1 then 64 else 0) ≡ 64 * b = as_mark 64 (flags_number bytes / 2) (omega (arith, more_at)) ∙ ap (λ (n : ℕ). 64 * n) more_at in
+      let do_not_retry : (if flags_number bytes % 2 == 1 then 128 else 0) ≡ 128 * a = as_mark 128 (flags_number bytes % 2) (omega arith) ∙ ap (λ (n : ℕ). 128 * n) retry_at in
+      flagged_entry plain bytes v (flags_by (flags_number bytes)) cqe
+      (omega (arith, same 12 (omega arith), f12)) (omega (arith, same 13 (omega arith), f13)) (omega (arith, same 14 (omega arith), f14)) few
+      back (omega (arith, last, parts low, more, do_not_retry)) h

@@ -1,7 +1,7 @@
 -- What isn't refused.
 use Rattle.std.proofs.Common.{◌≡◌, ◌⊎◌, ◌↔◌, ℕ, ◌<◌, Bool, true, false, inl, inr, sym, ◌∙◌, arith}
 use Rattle.std.specs.Prelude.{IsTrue, IsFalse}
-use Rattle.nvme_capi.specs.declared.results.TheConstants.{OK, NOTHING, USED, TOO_MANY, BAD_SIZE, BAD_ARGUMENT, BAD_STATE}
+use Rattle.nvme_capi.specs.declared.results.TheConstants.{OK, NOTHING, USED, TOO_MANY, BAD_SIZE, BAD_ARGUMENT, BAD_STATE, OTHER_SLOT}
 
 -- a refused region isn't added
 pub not_done : (r : ℕ) → (r ≡ USED) ⊎ ((r ≡ TOO_MANY) ⊎ (r ≡ BAD_SIZE)) → r ≡ OK → ⊥
@@ -21,6 +21,18 @@ no_refusal r ctrl slots P apart well none = (λ e. absurd (apart e), λ h. absur
 pub not_told : (r e : ℕ) → (r ≡ OK) ⊎ (r ≡ NOTHING) → NOTHING < e → r ≡ e → ⊥
 not_told r e (inl ok) above same = omega (arith, ok)
 not_told r e (inr none) above same = omega (arith, none)
+
+-- so is that of a fetch by its slot
+pub not_between : (r e : ℕ) → (r ≡ OK) ⊎ ((r ≡ NOTHING) ⊎ (r ≡ OTHER_SLOT)) → NOTHING < e → e < OTHER_SLOT → r ≡ e → ⊥
+not_between r e (inl ok) above below same = omega (arith, ok)
+not_between r e (inr (inl none)) above below same = omega (arith, none)
+not_between r e (inr (inr other)) above below same = omega (arith, other)
+
+-- and where neither of the others is told, it is done
+pub only_ok : (r : ℕ) → (r ≡ OK) ⊎ ((r ≡ NOTHING) ⊎ (r ≡ OTHER_SLOT)) → (r ≡ NOTHING → ⊥) → (r ≡ OTHER_SLOT → ⊥) → r ≡ OK
+only_ok r (inl ok) some this = ok
+only_ok r (inr (inl none)) some this = absurd (some none)
+only_ok r (inr (inr other)) some this = absurd (this other)
 
 pub not_ok : (r : ℕ) → r ≡ NOTHING → r ≡ OK → ⊥
 not_ok r nothing ok = omega (arith, nothing, ok)

@@ -15,7 +15,7 @@ use Rattle.nvme_ctrl.specs.Calls.{depth_of, HasFetched, HasTaken}
 use Rattle.nvme_ctrl_log.specs.Calls.{MayFetch}
 use Rattle.nvme_ctrl_log.specs.Posts.{NonePostable}
 use Rattle.nvme_ctrl.specs.Posts.{next_post_of}
-use Rattle.nvme_ctrl.specs.NextQueue.{HasPost}
+use Rattle.nvme_ctrl.specs.NextQueue.{HasFetch, HasPost}
 use Rattle.nvme_slots.specs.declared.slot.Slot.{Slot}
 use Rattle.nvme_ctrl.specs.declared.state.Controller.{Controller}
 use Rattle.nvme_capi.specs.Controllers.{IsCommandIn, HasPostedBytes, IsPostIn}
@@ -61,6 +61,15 @@ pub record PostsOne (cqid : ℕ) (a : WithSlots) (f : PostFields) (b : WithSlots
 -- no entry of a submission queue may be fetched
 abbrev pub NoneToFetch : ℕ → WithSlots → Type 0
 NoneToFetch qid a = (rules : FrontRules) (late : Bool) (notes : Notes) → Stands rules late notes a.ctrl a.slots → (slot : ℕ) → MayFetch rules notes (depth_of a.ctrl qid) (length a.slots) qid slot → ⊥
+
+-- the entry of this slot of its ring is to be fetched next
+abbrev pub IsToFetch : (qid slot : ℕ) → WithSlots → Type 0
+IsToFetch qid slot a = (rules : FrontRules) (late : Bool) (notes : Notes) → Stands rules late notes a.ctrl a.slots → MayFetch rules notes (depth_of a.ctrl qid) (length a.slots) qid slot
+
+-- an entry is to be fetched next, which isn't that of this slot
+pub record IsOtherToFetch (qid slot : ℕ) (a : WithSlots) : Type 0 where
+  pub some : (rules : FrontRules) (late : Bool) (notes : Notes) → Stands rules late notes a.ctrl a.slots → HasFetch rules notes a.ctrl a.slots qid
+  pub not_this : (rules : FrontRules) (late : Bool) (notes : Notes) → Stands rules late notes a.ctrl a.slots → MayFetch rules notes (depth_of a.ctrl qid) (length a.slots) qid slot → ⊥
 
 -- all picked commands are taken
 abbrev pub NoneToTake : WithSlots → Type 0

@@ -1,5 +1,5 @@
 -- What a controller of C is, and what its calls write, in the library's terms (profile).
-use Rattle.std.specs.Prelude.{◌≡◌, ℕ, ◌/◌, ◌%◌, ◌==◌, ◌&&◌, nat_lt, nat_le, Bool, true, false, if◌then◌else◌, List, [], length, Option, None, IsSomeAnd, is_some}
+use Rattle.std.specs.Prelude.{◌≡◌, ℕ, ◌+◌, ◌*◌, ◌/◌, ◌%◌, ◌==◌, ◌&&◌, nat_lt, nat_le, Bool, true, false, if◌then◌else◌, List, [], length, Option, None, IsSomeAnd, is_some}
 use Rattle.std.specs.Int.{is_power_of_two}
 use Rattle.nvme_entry.specs.Bits.{bits_of, dword}
 use Rattle.nvme_entry.specs.declared.completion.Cqe.{Cqe}
@@ -148,6 +148,10 @@ device_answer f dw0 = record { status = code_of f; dw0 = dw0 }
 -- the flags that a number says: bit 0 is Do Not Retry, bit 1 is More
 abbrev pub flags_by : ℕ → StatusFlags
 flags_by flags = record { more = flags / 2 == 1; do_not_retry = flags % 2 == 1 }
+
+-- the number of the flags in the bytes of a completion queue entry
+abbrev pub flags_number : List ℕ → ℕ
+flags_number bytes = bits_of 31 31 (dword 3 bytes) + 2 * bits_of 30 30 (dword 3 bytes)
 
 -- ---- completions
 -- 16 bytes hold a completion queue entry with its flags: More is bit 30 of Dword 3, and Do Not Retry bit 31

@@ -13,5 +13,5 @@ mod making;
 mod next_queue;
 mod rings;
 mod state;
-mod status_flags;
+pub mod status_flags;
 mod verify;

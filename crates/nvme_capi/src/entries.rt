@@ -1,10 +1,12 @@
 // Submission and completion entries and their bytes.
-ghost use Rattle.std.specs.Prelude.{◌≡◌, ◌≢◌, ◌<◌, ◌⊎◌, ◌↔◌};
+ghost use Rattle.std.specs.Prelude.{◌≡◌, ◌≢◌, ◌<◌, ◌≤◌, ◌⊎◌, ◌↔◌};
 ghost use Rattle.nvme_entry.specs.Bits.{bits_of, dword};
 ghost use Rattle.nvme_entry.specs.Submission.{IsSubmissionEntry};
 ghost use Rattle.nvme_entry.specs.Completion.{IsCompletionEntry};
+ghost use Rattle.nvme_capi.specs.Controllers.{flags_by, IsFlaggedEntry};
 ghost use Rattle.nvme_capi.specs.Fields.{completion_of, FitsCompletion};
 
+use crate::ctrl::status_flags::{flags_in, unflagged};
 use crate::fields::{CompletionFields, completion_of, fields_of_completion};
 use crate::results::{BAD_ARGUMENT, OK};
 use nvme_entry::{Cqe, Sqe};
@@ -54,6 +56,31 @@ pub extern "C" fn nvmearb_cqe_encode(fields: &CompletionFields, bytes: &mut [u8;
     match completion_of(fields) {
         Some(entry) => {
             *bytes = entry.to_bytes();
+            OK
+        }
+        None => BAD_ARGUMENT,
+    }
+}
+
+/// Reads the fields and the flags of a completion entry from its 16 bytes. Refused exactly where reserved bits, or those of
+/// CRD, are set.
+#[unsafe(no_mangle)]
+pub extern "C" fn nvmearb_cqe_decode_with(
+    bytes: &[u8; 16],
+    fields: &mut CompletionFields,
+    flags: &mut u8,
+) -> u32
+    ensures answer { (result ≡ OK) ⊎ (result ≡ BAD_ARGUMENT) }
+    ensures refused { (result ≡ BAD_ARGUMENT) ↔ ((dword 1 bytes.now ≢ 0) ⊎ (bits_of 29 28 (dword 3 bytes.now) ≢ 0)) }
+    ensures unchanged { result ≡ BAD_ARGUMENT → (fields.new ≡ fields.old) × (flags.new ≡ flags.old) }
+    ensures layout { result ≡ OK → IsFlaggedEntry bytes.now (completion_of fields.new) (flags_by flags.new) }
+    ensures fits { result ≡ OK → FitsCompletion fields.new }
+    ensures few { result ≡ OK → flags.new ≤ 3 }
+{
+    match Cqe::from_bytes(&unflagged(*bytes)) {
+        Some(entry) => {
+            *fields = fields_of_completion(&entry);
+            *flags = flags_in(bytes);
             OK
         }
         None => BAD_ARGUMENT,

@@ -26,3 +26,6 @@ pub const BUSY: u32 = 7;
 
 /// Nothing can be picked yet: the device has room for no command.
 pub const NOROOM: u32 = 8;
+
+/// The entry of another slot of the ring is to be fetched next. Nothing changed.
+pub const OTHER_SLOT: u32 = 9;

@@ -6,12 +6,12 @@ ghost use Rattle.nvme_ctrl.specs.Standing.{IsController};
 ghost use Rattle.nvme_slots.specs.Generations.{SameGenerations};
 ghost use Rattle.nvme_ctrl.specs.Calls.{depths_of};
 ghost use Rattle.nvme_capi.specs.Controllers.{is_ctrl, has_slots, IsKept, StaysMade};
-ghost use Rattle.nvme_capi.specs.Batches.{Each, FetchesOne, TakesOne, PostsOne, NoneToFetch, NoneToTake, NoneToPost, with_slots, entries_in};
+ghost use Rattle.nvme_capi.specs.Batches.{Each, FetchesOne, TakesOne, PostsOne, NoneToFetch, NoneToTake, NoneToPost, IsToFetch, IsOtherToFetch, with_slots, entries_in};
 
 use crate::ctrl::commands::{post_one, take_one};
-use crate::ctrl::rings::fetch_one;
+use crate::ctrl::rings::{fetch_one, next_is};
 use crate::ctrl::state::{CommandFields, CtrlState, PostFields, has_slots, is_ctrl};
-use crate::results::{BAD_ARGUMENT, BAD_STATE, NOTHING, OK};
+use crate::results::{BAD_ARGUMENT, BAD_STATE, NOTHING, OK, OTHER_SLOT};
 use nvme_ctrl::{Controller, Slot};
 
 // Writes how many calls did something.
@@ -103,6 +103,57 @@ pub extern "C" fn nvmearb_ctrl_fetched_n(
     let Some(entries) = entries_of(entries, cookies.len()) else {
         return BAD_ARGUMENT;
     };
+    put_count(fetch_all(&mut state.ctrl, slots, qid, entries, cookies), n)
+}
+
+/// The entries were read from this slot of the ring on, as `nvmearb_ctrl_fetched_n` fetches them. OTHER_SLOT, which changes
+/// nothing, where `nvmearb_ctrl_fetch` tells another slot.
+#[unsafe(no_mangle)]
+pub extern "C" fn nvmearb_ctrl_fetched_n_at(
+    state: &mut CtrlState,
+    slots: &mut [Slot],
+    qid: u16,
+    slot: u16,
+    entries: &[u8],
+    cookies: &[u32],
+    n: &mut usize,
+) -> u32
+    ensures kept { IsKept state.old slots.old → IsKept state.new slots.new }
+    ensures same { StaysMade state.old state.new }
+    ensures depths { depths_of state.new.ctrl ≡ depths_of state.old.ctrl }
+    ensures left { own_of state.new.ctrl ≡ own_of state.old.ctrl }
+    ensures generations { SameGenerations slots.old slots.new }
+    ensures bad_state { (result ≡ BAD_STATE) ↔ IsFalse (is_ctrl state.old) }
+    ensures bad_argument { (result ≡ BAD_ARGUMENT) ↔ (IsTrue (is_ctrl state.old) × (IsFalse (has_slots state.old slots.old) ⊎ (length entries.now ≢ 64 * length cookies.now))) }
+    ensures answer { (result ≡ OK) ⊎ ((result ≡ NOTHING) ⊎ ((result ≡ OTHER_SLOT) ⊎ ((result ≡ BAD_ARGUMENT) ⊎ (result ≡ BAD_STATE)))) }
+    ensures this { result ≡ OK → IsToFetch qid slot (with_slots state.old.ctrl slots.old) }
+    ensures other { result ≡ OTHER_SLOT → IsOtherToFetch qid slot (with_slots state.old.ctrl slots.old) }
+    ensures each { result ≡ OK → Each (FetchesOne qid) (take n.new (entries_in entries.now cookies.now)) (with_slots state.old.ctrl slots.old) (with_slots state.new.ctrl slots.new) }
+    ensures some { result ≡ OK → 0 < n.new }
+    ensures few { result ≡ OK → n.new ≤ length cookies.now }
+    ensures all { result ≡ OK → n.new < length cookies.now → NoneToFetch qid (with_slots state.new.ctrl slots.new) }
+    ensures nothing { result ≡ NOTHING → 0 < length cookies.now → NoneToFetch qid (with_slots state.old.ctrl slots.old) }
+    ensures none { result ≡ NOTHING → n.new ≡ 0 }
+    ensures unchanged { result ≢ OK → (state.new ≡ state.old) × (slots.new ≡ slots.old) }
+    ensures refused { (result ≡ BAD_ARGUMENT) ⊎ ((result ≡ BAD_STATE) ⊎ (result ≡ OTHER_SLOT)) → n.new ≡ n.old }
+{
+    if !is_ctrl(state) {
+        return BAD_STATE;
+    }
+    if !has_slots(state, slots) {
+        return BAD_ARGUMENT;
+    }
+    let Some(entries) = entries_of(entries, cookies.len()) else {
+        return BAD_ARGUMENT;
+    };
+    let next = next_is(&state.ctrl, qid, slot);
+    if next == OTHER_SLOT {
+        return OTHER_SLOT;
+    }
+    if next == NOTHING {
+        *n = 0;
+        return NOTHING;
+    }
     put_count(fetch_all(&mut state.ctrl, slots, qid, entries, cookies), n)
 }
 

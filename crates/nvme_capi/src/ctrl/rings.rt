@@ -11,11 +11,11 @@ ghost use Rattle.nvme_ctrl.specs.Standing.{Stands, IsController};
 ghost use Rattle.nvme_ctrl.specs.Calls.{depths_of, depth_of, TailRung, HeadRung, HasFetched};
 ghost use Rattle.nvme_ctrl_log.specs.Calls.{IsTailOf, IsHeadOf, MayFetch};
 ghost use Rattle.nvme_slots.specs.declared.slot.Slot.{Slot};
-ghost use Rattle.nvme_capi.specs.Batches.{FetchesOne, NoneToFetch, with_slots};
+ghost use Rattle.nvme_capi.specs.Batches.{FetchesOne, NoneToFetch, IsToFetch, IsOtherToFetch, with_slots};
 ghost use Rattle.nvme_capi.specs.Controllers.{is_ctrl, has_slots, IsKept, StaysMade};
 
 use crate::ctrl::state::{CtrlState, has_slots, is_ctrl};
-use crate::results::{BAD_ARGUMENT, BAD_STATE, NOTHING, OK};
+use crate::results::{BAD_ARGUMENT, BAD_STATE, NOTHING, OK, OTHER_SLOT};
 use nvme_ctrl::{Controller, Slot};
 use nvme_entry::{Sqe, submission_layout_is_exact};
 
@@ -153,4 +153,78 @@ pub extern "C" fn nvmearb_ctrl_fetched(
         return BAD_ARGUMENT;
     }
     fetch_one(&mut state.ctrl, slots, qid, bytes, cookie)
+}
+
+/// Whether the entry of a slot of the ring of a submission queue is to be fetched next. NOTHING where none is.
+pub fn next_is(ctrl: &Controller, qid: u16, slot: u16) -> u32
+    ensures answer { (result ≡ OK) ⊎ ((result ≡ NOTHING) ⊎ (result ≡ OTHER_SLOT)) }
+    ensures this { (slots : List Slot) → result ≡ OK → IsToFetch qid slot (with_slots ctrl.now slots) }
+    ensures other { (slots : List Slot) → result ≡ OTHER_SLOT → IsOtherToFetch qid slot (with_slots ctrl.now slots) }
+    ensures none { (slots : List Slot) → result ≡ NOTHING → NoneToFetch qid (with_slots ctrl.now slots) }
+{
+    match ctrl.fetch(qid) {
+        Some(it) => { if it == slot { OK } else { OTHER_SLOT } }
+        None => NOTHING,
+    }
+}
+
+// The entry of a slot was read, which is fetched where it is the next one. NOTHING where none is.
+fn fetch_at(
+    ctrl: &mut Controller,
+    slots: &mut [Slot],
+    qid: u16,
+    slot: u16,
+    bytes: &[u8; 64],
+    cookie: u32,
+) -> u32
+    ensures front { IsController ctrl.old slots.old → IsController ctrl.new slots.new }
+    ensures depths { depths_of ctrl.new ≡ depths_of ctrl.old }
+    ensures own { own_of ctrl.new ≡ own_of ctrl.old }
+    ensures answer { (result ≡ OK) ⊎ ((result ≡ NOTHING) ⊎ (result ≡ OTHER_SLOT)) }
+    ensures fetched { result ≡ OK → FetchesOne qid (with_slots ctrl.old slots.old) (bytes.now, cookie) (with_slots ctrl.new slots.new) }
+    ensures this { result ≡ OK → IsToFetch qid slot (with_slots ctrl.old slots.old) }
+    ensures other { result ≡ OTHER_SLOT → IsOtherToFetch qid slot (with_slots ctrl.old slots.old) }
+    ensures none { result ≡ NOTHING → NoneToFetch qid (with_slots ctrl.old slots.old) }
+    ensures generations { SameGenerations slots.old slots.new }
+    ensures unchanged { result ≢ OK → (ctrl.new ≡ ctrl.old) × (slots.new ≡ slots.old) }
+{
+    let next = next_is(ctrl, qid, slot);
+    if next != OK {
+        return next;
+    }
+    fetch_one(ctrl, slots, qid, bytes, cookie)
+}
+
+/// The entry in this slot of the ring was read. Its command waits then, and the cookie is kept with it. OTHER_SLOT, which
+/// changes nothing, where `nvmearb_ctrl_fetch` tells another slot.
+#[unsafe(no_mangle)]
+pub extern "C" fn nvmearb_ctrl_fetched_at(
+    state: &mut CtrlState,
+    slots: &mut [Slot],
+    qid: u16,
+    slot: u16,
+    bytes: &[u8; 64],
+    cookie: u32,
+) -> u32
+    ensures kept { IsKept state.old slots.old → IsKept state.new slots.new }
+    ensures same { StaysMade state.old state.new }
+    ensures bad_state { (result ≡ BAD_STATE) ↔ IsFalse (is_ctrl state.old) }
+    ensures bad_argument { (result ≡ BAD_ARGUMENT) ↔ (IsTrue (is_ctrl state.old) × IsFalse (has_slots state.old slots.old)) }
+    ensures answer { (result ≡ OK) ⊎ ((result ≡ NOTHING) ⊎ ((result ≡ OTHER_SLOT) ⊎ ((result ≡ BAD_ARGUMENT) ⊎ (result ≡ BAD_STATE)))) }
+    ensures nothing { result ≡ NOTHING → NoneToFetch qid (with_slots state.old.ctrl slots.old) }
+    ensures this { result ≡ OK → IsToFetch qid slot (with_slots state.old.ctrl slots.old) }
+    ensures other { result ≡ OTHER_SLOT → IsOtherToFetch qid slot (with_slots state.old.ctrl slots.old) }
+    ensures stands { result ≡ OK → FetchesOne qid (with_slots state.old.ctrl slots.old) (bytes.now, cookie) (with_slots state.new.ctrl slots.new) }
+    ensures depths { depths_of state.new.ctrl ≡ depths_of state.old.ctrl }
+    ensures generations { SameGenerations slots.old slots.new }
+    ensures left { own_of state.new.ctrl ≡ own_of state.old.ctrl }
+    ensures unchanged { result ≢ OK → (state.new ≡ state.old) × (slots.new ≡ slots.old) }
+{
+    if !is_ctrl(state) {
+        return BAD_STATE;
+    }
+    if !has_slots(state, slots) {
+        return BAD_ARGUMENT;
+    }
+    fetch_at(&mut state.ctrl, slots, qid, slot, bytes, cookie)
 }
