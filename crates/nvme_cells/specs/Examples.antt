@@ -1,6 +1,7 @@
 -- Worked examples of the definitions. (profile)
 use Rattle.std.specs.Prelude.{◌≡◌, [], ◌∷◌, codes}
 use Rattle.std.specs.List.{flat_map}
+use Rattle.nvme_cells.specs.Quotients.{jain_of, rounded}
 use Rattle.nvme_cells.specs.Rows.{csv_names, csv_values, json_object}
 use Rattle.nvme_cells.specs.Tables.{shown_text}
 use Rattle.nvme_cells.specs.Values.{Nothing, Text, Whole, Fraction, Percentage}
@@ -22,3 +23,10 @@ pub record RowExamples : Type 0 where
       ∷ record { place = Right 8; value = Fraction 1_500 Three } ∷ record { place = Right 10; value = Percentage 1_000_000 Four }
       ∷ record { place = Right 4; value = Nothing } ∷ record { place = Right 2; value = Whole 123 } ∷ [])
       ≡ codes "q1       1.500 100.0000%   -123"
+
+pub record QuotientExamples : Type 0 where
+  pub half_up : rounded 5 2 ≡ 3
+  pub down : rounded 4 3 ≡ 1
+  pub fair : jain_of (7 ∷ 7 ∷ []) ≡ 10_000
+  pub one_of_two : jain_of (7 ∷ 0 ∷ []) ≡ 5_000
+  pub two_to_one : jain_of (2 ∷ 1 ∷ 0 ∷ []) ≡ 6_000

@@ -1,5 +1,6 @@
 pub mod Examples
 pub mod inside
+pub mod Quotients
 pub mod Rows
 pub mod Strings
 pub mod Tables

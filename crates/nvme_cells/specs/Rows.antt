@@ -10,6 +10,9 @@ pub record Named : Type 0 where
   pub name : List ℕ
   pub value : Value
 
+abbrev pub named : (name : List ℕ) → Value → Named
+named name value = record { name = name; value = value }
+
 abbrev pub named_of : Field → Named
 named_of field = record { name = field.name.now; value = value_of field.cell }
 

@@ -1,6 +1,6 @@
 // Cells, and their texts.
 ghost use Rattle.std.specs.Prelude.{◌≡◌, ◌-◌, ◌++◌, length, decimal, replicate};
-ghost use Rattle.nvme_cells.specs.Values.{behind_text, digits_of, fraction_of, fraction_text, percentage_of, scale_of, value_of, value_text, whole_of};
+ghost use Rattle.nvme_cells.specs.Values.{behind_text, digits_of, flag_text, fraction_of, fraction_text, percentage_of, scale_of, value_of, value_text, whole_of};
 ghost use Rattle.nvme_output.specs.Written.{Writes};
 
 use nvme_output::{WriteFault, put};
@@ -9,6 +9,7 @@ use std::io::Write;
 /// How many digits stand behind the point.
 #[derive(Clone, Copy)]
 pub enum Places {
+    Two,
     Three,
     Four,
     Five,
@@ -21,6 +22,7 @@ impl Places {
         ensures { result ≡ digits_of self }
     {
         match self {
+            Places::Two => 2,
             Places::Three => 3,
             Places::Four => 4,
             Places::Five => 5,
@@ -33,6 +35,7 @@ impl Places {
         ensures { result ≡ scale_of self }
     {
         match self {
+            Places::Two => 100,
             Places::Three => 1_000,
             Places::Four => 10_000,
             Places::Five => 100_000,
@@ -48,6 +51,8 @@ pub enum Cell<'a> {
     Empty,
     /// A word.
     Word(&'a str),
+    /// Whether it is so.
+    Flag(bool),
     /// A whole number.
     Number(u128),
     /// So many units of the last of the digits behind the point.
@@ -152,6 +157,13 @@ fn put_percent<W: Write>(
     put(sign.as_bytes(), writer)
 }
 
+// The word of a flag.
+fn flag_word(flag: bool) -> &'static str
+    ensures { result.now ≡ flag_text flag }
+{
+    if flag { "true" } else { "false" }
+}
+
 /// Writes what a cell says. `WriteFault` as `nvme_output`.
 pub fn put_cell<W: Write>(cell: &Cell, marks: &Marks, writer: &mut W) -> Result<(), WriteFault>
     ensures { Writes (W.contents writer.old) (W.contents writer.new) result (value_text marks.now.none.now marks.now.percent.now (value_of cell.now)) }
@@ -159,6 +171,7 @@ pub fn put_cell<W: Write>(cell: &Cell, marks: &Marks, writer: &mut W) -> Result<
     match *cell {
         Cell::Empty => put(marks.none.as_bytes(), writer),
         Cell::Word(word) => put(word.as_bytes(), writer),
+        Cell::Flag(flag) => put(flag_word(flag).as_bytes(), writer),
         Cell::Number(n) => put_number(n, writer),
         Cell::Decimal(units, places) => put_fraction(units, places, writer),
         Cell::Percent(units, places) => put_percent(units, places, marks.percent, writer),
@@ -185,6 +198,7 @@ pub fn room_beside(cell: &Cell, marks: &Marks, width: usize) -> usize
     match *cell {
         Cell::Empty => width.saturating_sub(marks.none.len()),
         Cell::Word(word) => width.saturating_sub(word.len()),
+        Cell::Flag(flag) => width.saturating_sub(flag_word(flag).len()),
         Cell::Number(n) => width.saturating_sub(digits(n)),
         Cell::Decimal(units, places) => room_beside_fraction(units, places, width),
         Cell::Percent(units, places) => {

@@ -1,7 +1,8 @@
 // Rows as comma-separated values, and as members of a JSON object.
-ghost use Rattle.std.specs.Prelude.{◌++◌, ◌∷◌, codes, map};
+ghost use Rattle.std.specs.Prelude.{◌≡◌, ◌++◌, ◌∷◌, codes, map};
 ghost use Rattle.std.specs.List.{flat_map};
-ghost use Rattle.nvme_cells.specs.Rows.{commas, csv_names, csv_values, json_member, json_members, json_object, named_of};
+ghost use Rattle.nvme_cells.specs.Rows.{commas, csv_names, csv_values, json_member, json_members, json_object, named, named_of};
+ghost use Rattle.nvme_cells.specs.Values.{value_of};
 ghost use Rattle.nvme_cells.specs.inside.Forms.{form_behind, form_text};
 ghost use Rattle.nvme_output.specs.Written.{Writes};
 
@@ -21,6 +22,15 @@ const MARKS: Marks = Marks {
 pub struct Field<'a> {
     pub name: &'a str,
     pub cell: Cell<'a>,
+}
+
+impl<'a> Field<'a> {
+    /// A cell of this name.
+    pub fn of(name: &'a str, cell: Cell<'a>) -> Field<'a>
+        ensures { named_of result ≡ named name.now (value_of cell.entry) }
+    {
+        Field { name, cell }
+    }
 }
 
 // What of a field is written.

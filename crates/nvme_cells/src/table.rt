@@ -1,7 +1,7 @@
 // Rows as lines of a table for people.
-ghost use Rattle.std.specs.Prelude.{◌++◌, ◌-◌, length, map, replicate};
+ghost use Rattle.std.specs.Prelude.{◌≡◌, ◌++◌, ◌-◌, length, map, replicate};
 ghost use Rattle.std.specs.List.{flat_map};
-ghost use Rattle.nvme_cells.specs.Tables.{shown_of, shown_text, table_text};
+ghost use Rattle.nvme_cells.specs.Tables.{left, placed_row, plain, right, shown_of, shown_text, table_text, words};
 ghost use Rattle.nvme_cells.specs.Values.{value_of};
 ghost use Rattle.nvme_output.specs.Written.{Writes};
 
@@ -31,6 +31,45 @@ pub enum Place {
 pub struct Placed<'a> {
     pub cell: Cell<'a>,
     pub place: Place,
+}
+
+impl<'a> Placed<'a> {
+    /// A text as it is.
+    pub fn words(text: &'a str) -> Placed<'a>
+        ensures { shown_of result ≡ words text.now }
+    {
+        Placed::plain(Cell::Word(text))
+    }
+
+    /// A cell as wide as what it says.
+    pub fn plain(cell: Cell<'a>) -> Placed<'a>
+        ensures { shown_of result ≡ plain (value_of cell.entry) }
+    {
+        Placed {
+            cell,
+            place: Place::Plain,
+        }
+    }
+
+    /// A cell to the left of a column.
+    pub fn left(width: usize, cell: Cell<'a>) -> Placed<'a>
+        ensures { shown_of result ≡ left width (value_of cell.entry) }
+    {
+        Placed {
+            cell,
+            place: Place::Left(width),
+        }
+    }
+
+    /// A cell to the right of a column.
+    pub fn right(width: usize, cell: Cell<'a>) -> Placed<'a>
+        ensures { shown_of result ≡ right width (value_of cell.entry) }
+    {
+        Placed {
+            cell,
+            place: Place::Right(width),
+        }
+    }
 }
 
 // Writes a cell to the left of its column.
@@ -68,6 +107,16 @@ pub fn put_row<W: Write>(row: &[Placed], writer: &mut W) -> Result<(), WriteFaul
 {
     for placed in row {
         put_placed(placed, writer)?;
+    }
+    Ok(())
+}
+
+/// Writes rows of cells in their places, one behind the other. `WriteFault` where a write failed.
+pub fn put_rows<W: Write>(rows: &[&[Placed]], writer: &mut W) -> Result<(), WriteFault>
+    ensures { Writes (W.contents writer.old) (W.contents writer.new) result (flat_map (λ row. placed_row row.now) rows.now) }
+{
+    for row in rows {
+        put_row(row, writer)?;
     }
     Ok(())
 }

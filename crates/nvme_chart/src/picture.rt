@@ -16,6 +16,7 @@ mod curve;
 mod curves;
 mod frame;
 mod heights;
+mod names;
 mod plane;
 
 use crate::rows::{row_of, row_of_pick};
@@ -23,12 +24,13 @@ use backlog::{Backlog, NO_BACKLOG};
 use bars::put_bars_picture;
 use colours::{colour_of_class, colour_of_queue};
 use curves::put_curves_picture;
+use names::Name;
 use nvme_arbiter::{Class, Mechanism, Pick, Seen, Settings};
 use nvme_output::WriteFault;
 use nvme_stats::{LANES, Part, Selection, Series, Watch, class_of_lane, more, queue_of_lane, show};
-use nvme_trace::{Head, Trace, TraceError, TraceEvent, class_name};
+use nvme_trace::{Head, Trace, TraceError, TraceEvent};
 use std::alloc::Global;
-use std::io::{self, Read, Write};
+use std::io::{Read, Write};
 
 // The most windows of a picture while its trace is read: no fewer than the bars that it may have.
 const WINDOWS: usize = 512;
@@ -280,13 +282,12 @@ impl Picture {
         }
     }
 
-    // Writes the name of a row.
-    fn put_name<W: Write>(&self, row: usize, writer: &mut W) -> io::Result<()> {
+    // The name of a row. Under round robin an I/O queue has no class.
+    fn name_of(&self, row: usize) -> Name {
         let queue = queue_of_lane(row);
-        let (qid, class) = (queue.qid, class_name(queue.class));
         match self.mechanism {
-            Mechanism::RoundRobin if row > 0 => write!(writer, "q{qid}"),
-            _ => write!(writer, "q{qid} {class}"),
+            Mechanism::RoundRobin if row > 0 => Name::Queue(queue.qid),
+            _ => Name::QueueOfClass(queue.qid, queue.class),
         }
     }
 
@@ -297,10 +298,7 @@ impl Picture {
         } else {
             put_bars_picture(self, writer)
         };
-        match written {
-            Ok(()) => Ok(()),
-            Err(_) => Err(WriteFault),
-        }
+        written.or(Err(WriteFault))
     }
 }
 

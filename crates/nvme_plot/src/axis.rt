@@ -1,7 +1,7 @@
 // Axes and their ticks.
 use crate::pixels::{CHARACTER, HUNDREDTHS};
 use crate::rounds::{round_above, round_below, stride_of};
-use crate::scale::{Range, Scale};
+use crate::scale::Range;
 use crate::words::{Grouped, Time, unit_of};
 use std::alloc::{AllocError, Global};
 
@@ -87,41 +87,38 @@ fn time_ticks(alloc: Global, low: u64, high: u64) -> Result<Vec<Tick>, AllocErro
 
 // The share of a negative power of ten as a percentage.
 fn percentage(alloc: Global, power: u32) -> Result<String, AllocError> {
-    let mut text = String::new(alloc);
-    match power {
-        0 => text.push_str("100")?,
-        1 => text.push_str("10")?,
-        2 => text.push_str("1")?,
-        _ => {
-            text.push_str("0.")?;
-            for _ in 3..power {
-                text.push_str("0")?;
-            }
-            text.push_str("1")?;
-        }
+    if power <= 2 {
+        let percent = 100 / 10u32.saturating_pow(power).max(1);
+        return format!(in alloc; "{percent} %");
     }
-    text.push_str(" %")?;
+    let mut text = String::from_str(alloc, "0.")?;
+    for _ in 3..power {
+        text.push_str("0")?;
+    }
+    text.push_str("1 %")?;
     Ok(text)
 }
 
 // A range with some room before the least of its values and behind the greatest one.
 fn range_around(least: u64, greatest: u64) -> Range {
     if least > 0 && greatest / least >= FAR {
-        return Range {
-            scale: Scale::Logarithmic,
-            low: least.saturating_sub(least / 8),
-            high: greatest.saturating_add(greatest / 8),
-        };
+        let (low, high) = (least / 8, greatest / 8);
+        return Range::logarithmic(least.saturating_sub(low), greatest.saturating_add(high));
     }
     let room = (greatest.saturating_sub(least) / ROOM).max(1);
-    Range {
-        scale: Scale::Linear,
-        low: least.saturating_sub(room),
-        high: greatest.saturating_add(room),
-    }
+    Range::linear(least.saturating_sub(room), greatest.saturating_add(room))
 }
 
 impl Axis {
+    // An axis of this title.
+    fn new(alloc: Global, title: &str, range: Range, ticks: Vec<Tick>) -> Result<Axis, AllocError> {
+        Ok(Axis {
+            title: String::from_str(alloc, title)?,
+            range,
+            ticks,
+        })
+    }
+
     /// Of times in picoseconds on a logarithmic scale, between the round times around the shortest and the longest. The labels
     /// have units.
     pub fn of_times(
@@ -132,41 +129,27 @@ impl Axis {
     ) -> Result<Axis, AllocError> {
         let low = round_below(shortest);
         let high = round_above(longest.max(low.saturating_add(1)));
-        Ok(Axis {
-            title: String::from_str(alloc, title)?,
-            range: Range {
-                scale: Scale::Logarithmic,
-                low,
-                high,
-            },
-            ticks: time_ticks(alloc, low, high)?,
-        })
+        let ticks = time_ticks(alloc, low, high)?;
+        Axis::new(alloc, title, Range::logarithmic(low, high), ticks)
     }
 
     /// Of times in picoseconds on a linear scale from 0 to the multiple of a round time that isn't shorter than the longest. The
     /// title has the unit of the labels.
     pub fn from_zero(alloc: Global, title: &str, longest: u64) -> Result<Axis, AllocError> {
         let stride = stride_of(longest, STEPS).max(1);
-        let unit = unit_of(stride);
+        let (unit, name) = unit_of(stride);
         let rest = if longest % stride > 0 { 1u64 } else { 0 };
         let steps = (longest / stride).saturating_add(rest).max(1);
         let mut ticks = Vec::new(alloc);
         for step in 0..=steps {
             let at = stride.saturating_mul(step);
-            let number = Grouped(at / unit.picoseconds.max(1));
+            let number = Grouped(at / unit.max(1));
             let label = Some(format!(in alloc; "{number}")?);
             ticks.push(Tick { at, label })?;
         }
-        let name = unit.name;
-        Ok(Axis {
-            title: format!(in alloc; "{title} in {name}")?,
-            range: Range {
-                scale: Scale::Linear,
-                low: 0,
-                high: stride.saturating_mul(steps),
-            },
-            ticks,
-        })
+        let title = format!(in alloc; "{title} in {name}")?;
+        let range = Range::linear(0, stride.saturating_mul(steps));
+        Axis::new(alloc, title.as_str(), range, ticks)
     }
 
     /// Of shares on a logarithmic scale, in parts of `WHOLE`, down to one of so many, or to a tenth.
@@ -180,15 +163,7 @@ impl Axis {
                 ticks.push(Tick { at, label })?;
             }
         }
-        Ok(Axis {
-            title: String::from_str(alloc, title)?,
-            range: Range {
-                scale: Scale::Logarithmic,
-                low,
-                high: WHOLE,
-            },
-            ticks,
-        })
+        Axis::new(alloc, title, Range::logarithmic(low, WHOLE), ticks)
     }
 
     /// Of names at equal distances, on an axis of so many pixels. The name of index `n` stands at `2 n + 1`. Where they are
@@ -215,15 +190,8 @@ impl Axis {
             ticks.push(Tick { at, label })?;
             at = at.saturating_add(2);
         }
-        Ok(Axis {
-            title: String::from_str(alloc, title)?,
-            range: Range {
-                scale: Scale::Linear,
-                low: 0,
-                high: count.max(1).saturating_mul(2),
-            },
-            ticks,
-        })
+        let range = Range::linear(0, count.max(1).saturating_mul(2));
+        Axis::new(alloc, title, range, ticks)
     }
 
     /// Of values that are given from the least to the greatest, on an axis of so many pixels, each where it lies between these
@@ -253,10 +221,6 @@ impl Axis {
             let at = value.at;
             ticks.push(Tick { at, label })?;
         }
-        Ok(Axis {
-            title: String::from_str(alloc, title)?,
-            range,
-            ticks,
-        })
+        Axis::new(alloc, title, range, ticks)
     }
 }

@@ -1,41 +1,12 @@
 // Curves.
+use crate::colours::stroke_of;
 use crate::pixels::Pixels;
 use crate::place::Place;
-use crate::words::put_text;
+use crate::svg::{Escaped, put_tip};
 use std::io::{self, Write};
-
-/// How many curves differ by their colours and dashes.
-pub const LINES: usize = 8;
-
-// Colours of Okabe and Ito, which colour-blind readers tell apart. Grey is in place of their yellow, which is pale on white.
-const COLOURS: [&str; LINES] = [
-    "#0072b2", "#d55e00", "#009e73", "#000000", "#cc79a7", "#56b4e9", "#e69f00", "#7f7f7f",
-];
-
-// Dashes, by which curves differ without colours.
-const DASHES: [&str; LINES] = [
-    "none",
-    "9 4",
-    "2 3",
-    "9 3 2 3",
-    "16 4",
-    "5 2",
-    "9 3 2 3 2 3",
-    "1 4",
-];
 
 // From the middle of an error bar to each side, in hundredths of a pixel.
 const SIDE: u64 = 400;
-
-/// The colour of a curve of this style.
-pub fn colour(style: usize) -> &'static str {
-    COLOURS[style % LINES]
-}
-
-/// The dashes of a curve of this style.
-pub fn dashes(style: usize) -> &'static str {
-    DASHES[style % LINES]
-}
 
 /// A point of a curve.
 #[derive(Clone, Copy, Debug, PartialEq, Eq)]
@@ -77,26 +48,25 @@ pub struct Curve {
 
 // Writes the line of a curve.
 fn put_line<W: Write>(curve: &Curve, place: &Place, writer: &mut W) -> io::Result<()> {
-    let (stroke, dashes) = (colour(curve.style), dashes(curve.style));
+    let stroke = stroke_of(curve.style);
     write!(
         writer,
-        "<path fill=\"none\" stroke=\"{stroke}\" stroke-width=\"2\" stroke-dasharray=\"{dashes}\" stroke-linejoin=\"round\" d=\""
+        "<path fill=\"none\" {stroke} stroke-linejoin=\"round\" d=\""
     )?;
     for point in &curve.points {
         let step = if point.joined { "L" } else { "M" };
         let (x, y) = (place.x(point.x).moved(curve.shift), place.y(point.y));
         write!(writer, "{step}{x} {y}")?;
     }
-    writer.write_all(b"\"><title>")?;
-    put_text(curve.tip.as_str(), writer)?;
-    writer.write_all(b"</title></path>\n")
+    let tip = Escaped(curve.tip.as_str());
+    writeln!(writer, "\"><title>{tip}</title></path>")
 }
 
 // Writes an error bar at x.
 fn put_bar<W: Write>(
     bar: &Bar,
     x: Pixels,
-    stroke: &str,
+    colour: &str,
     place: &Place,
     writer: &mut W,
 ) -> io::Result<()> {
@@ -105,30 +75,21 @@ fn put_bar<W: Write>(
     let wide = Pixels(SIDE.saturating_mul(2));
     writeln!(
         writer,
-        "<path fill=\"none\" stroke=\"{stroke}\" d=\"M{x} {low}V{high}M{left} {low}h{wide}M{left} {high}h{wide}\"/>"
+        "<path fill=\"none\" stroke=\"{colour}\" d=\"M{x} {low}V{high}M{left} {low}h{wide}M{left} {high}h{wide}\"/>"
     )
-}
-
-// Writes the marks of a curve.
-fn put_marks<W: Write>(curve: &Curve, place: &Place, writer: &mut W) -> io::Result<()> {
-    let fill = colour(curve.style);
-    for mark in &curve.marks {
-        let (x, y) = (place.x(mark.x).moved(curve.shift), place.y(mark.y));
-        if let Some(bar) = &mark.bar {
-            put_bar(bar, x, fill, place, writer)?;
-        }
-        write!(
-            writer,
-            "<circle cx=\"{x}\" cy=\"{y}\" r=\"3.5\" fill=\"{fill}\"><title>"
-        )?;
-        put_text(mark.tip.as_str(), writer)?;
-        writer.write_all(b"</title></circle>\n")?;
-    }
-    Ok(())
 }
 
 /// Writes a curve with its marks.
 pub fn put_curve<W: Write>(curve: &Curve, place: &Place, writer: &mut W) -> io::Result<()> {
     put_line(curve, place, writer)?;
-    put_marks(curve, place, writer)
+    let colour = stroke_of(curve.style).colour;
+    for mark in &curve.marks {
+        let (x, y) = (place.x(mark.x).moved(curve.shift), place.y(mark.y));
+        if let Some(bar) = &mark.bar {
+            put_bar(bar, x, colour, place, writer)?;
+        }
+        let look = format_args!("r=\"3.5\" fill=\"{colour}\"");
+        put_tip(x, y, look, Escaped(mark.tip.as_str()), writer)?;
+    }
+    Ok(())
 }

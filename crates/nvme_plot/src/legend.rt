@@ -1,7 +1,7 @@
 // The legend below the panels: a line for each curve, with numbers.
-use crate::curve::{colour, dashes};
+use crate::colours::stroke_of;
 use crate::pixels::{LEFT, SPAN};
-use crate::words::put_text;
+use crate::svg::{Escaped, Stand, put_path, put_text, put_text_line};
 use std::io::{self, Write};
 
 // From one line to the next, in pixels.
@@ -56,34 +56,28 @@ fn edge_of(column: usize, columns: usize) -> u64 {
     (LEFT + SPAN).saturating_sub(behind.saturating_mul(COLUMN))
 }
 
-// Writes a text that ends at the right edge of a column.
-fn put_cell<W: Write>(text: &str, edge: u64, y: u64, writer: &mut W) -> io::Result<()> {
-    write!(writer, "<text x=\"{edge}\" y=\"{y}\" text-anchor=\"end\">")?;
-    put_text(text, writer)?;
-    writer.write_all(b"</text>")
-}
-
 // Writes what stands above the columns.
 fn put_heads<W: Write>(legend: &Legend, y: u64, writer: &mut W) -> io::Result<()> {
     for (column, title) in legend.titles.iter().enumerate() {
-        put_cell(title, edge_of(column, legend.titles.len()), y, writer)?;
-        writer.write_all(b"\n")?;
+        let edge = edge_of(column, legend.titles.len());
+        put_text_line(edge, y, Stand::Ends, Escaped(title), writer)?;
     }
     Ok(())
 }
 
 // Writes the line of a curve.
 fn put_entry<W: Write>(entry: &Entry, y: u64, writer: &mut W) -> io::Result<()> {
-    let (stroke, dashes) = (colour(entry.style), dashes(entry.style));
-    let line = y.saturating_sub(4);
-    write!(
-        writer,
-        "<path d=\"M{LEFT} {line}h40\" fill=\"none\" stroke=\"{stroke}\" stroke-width=\"2\" stroke-dasharray=\"{dashes}\"/><text x=\"{NAMES}\" y=\"{y}\">"
-    )?;
-    put_text(entry.name.as_str(), writer)?;
-    writer.write_all(b"</text>")?;
+    let (stroke, line) = (stroke_of(entry.style), y.saturating_sub(4));
+    let (steps, strokes) = (
+        format_args!("M{LEFT} {line}h40"),
+        format_args!("fill=\"none\" {stroke}"),
+    );
+    put_path(steps, strokes, writer)?;
+    let name = Escaped(entry.name.as_str());
+    put_text(NAMES, y, Stand::Begins, name, writer)?;
     for (column, cell) in entry.cells.iter().enumerate() {
-        put_cell(cell.as_str(), edge_of(column, entry.cells.len()), y, writer)?;
+        let edge = edge_of(column, entry.cells.len());
+        put_text(edge, y, Stand::Ends, Escaped(cell.as_str()), writer)?;
     }
     writer.write_all(b"\n")
 }

@@ -1,10 +1,13 @@
 // Panels: curves between two axes.
 use crate::axis::{Axis, Tick};
 use crate::curve::{Curve, put_curve};
-use crate::pixels::{Frame, HEIGHT, Pixels};
+use crate::pixels::{Frame, HEIGHT};
 use crate::place::Place;
-use crate::words::put_text;
+use crate::svg::{AXIS, Escaped, GRID, Stand, put_path, put_path_line, put_text_line};
 use std::io::{self, Write};
+
+// How far below the middle of a label its letters stand, in hundredths of a pixel.
+const LOWER: u64 = 400;
 
 /// A value of the vertical axis that a dotted line marks.
 #[derive(Clone, Copy, Debug, PartialEq, Eq)]
@@ -30,15 +33,12 @@ fn put_tick_below<W: Write>(tick: &Tick, place: &Place, writer: &mut W) -> io::R
     let (x, frame) = (place.x(tick.at), &place.frame);
     let (top, bottom) = (frame.top, frame.bottom());
     let Some(label) = &tick.label else {
-        return writeln!(writer, "<path d=\"M{x} {bottom}v4\" stroke=\"#777777\"/>");
+        return put_path_line(format_args!("M{x} {bottom}v4"), AXIS, writer);
     };
-    let low = bottom.saturating_add(18);
-    write!(
-        writer,
-        "<path d=\"M{x} {top}V{bottom}\" stroke=\"#dddddd\"/><path d=\"M{x} {bottom}v6\" stroke=\"#777777\"/><text x=\"{x}\" y=\"{low}\" text-anchor=\"middle\">"
-    )?;
-    put_text(label.as_str(), writer)?;
-    writer.write_all(b"</text>\n")
+    put_path(format_args!("M{x} {top}V{bottom}"), GRID, writer)?;
+    put_path(format_args!("M{x} {bottom}v6"), AXIS, writer)?;
+    let (low, label) = (bottom.saturating_add(18), Escaped(label.as_str()));
+    put_text_line(x, low, Stand::Centred, label, writer)
 }
 
 // Writes a tick of the vertical axis.
@@ -46,34 +46,23 @@ fn put_tick_beside<W: Write>(tick: &Tick, place: &Place, writer: &mut W) -> io::
     let (y, frame) = (place.y(tick.at), &place.frame);
     let (left, right) = (frame.left, frame.right());
     let Some(label) = &tick.label else {
-        return writeln!(writer, "<path d=\"M{left} {y}h-4\" stroke=\"#777777\"/>");
+        return put_path_line(format_args!("M{left} {y}h-4"), AXIS, writer);
     };
-    let (end, low) = (left.saturating_sub(9), Pixels(y.0.saturating_add(400)));
-    write!(
-        writer,
-        "<path d=\"M{left} {y}H{right}\" stroke=\"#dddddd\"/><path d=\"M{left} {y}h-6\" stroke=\"#777777\"/><text x=\"{end}\" y=\"{low}\" text-anchor=\"end\">"
-    )?;
-    put_text(label.as_str(), writer)?;
-    writer.write_all(b"</text>\n")
+    put_path(format_args!("M{left} {y}H{right}"), GRID, writer)?;
+    put_path(format_args!("M{left} {y}h-6"), AXIS, writer)?;
+    let (end, label) = (left.saturating_sub(9), Escaped(label.as_str()));
+    put_text_line(end, y.below(LOWER), Stand::Ends, label, writer)
 }
 
 // Writes the titles of the axes.
 fn put_titles<W: Write>(panel: &Panel, frame: &Frame, writer: &mut W) -> io::Result<()> {
+    let (across, up) = (panel.x.title.as_str(), panel.y.title.as_str());
     let middle = frame.left.saturating_add(frame.width / 2);
     let low = frame.bottom().saturating_add(38);
-    write!(
-        writer,
-        "<text x=\"{middle}\" y=\"{low}\" text-anchor=\"middle\">"
-    )?;
-    put_text(panel.x.title.as_str(), writer)?;
+    put_text_line(middle, low, Stand::Centred, Escaped(across), writer)?;
     let x = frame.left.saturating_sub(62);
     let y = frame.top.saturating_add(HEIGHT / 2);
-    write!(
-        writer,
-        "</text>\n<text x=\"{x}\" y=\"{y}\" text-anchor=\"middle\" transform=\"rotate(-90 {x} {y})\">"
-    )?;
-    put_text(panel.y.title.as_str(), writer)?;
-    writer.write_all(b"</text>\n")
+    put_text_line(x, y, Stand::Upward, Escaped(up), writer)
 }
 
 // Writes both axes.
@@ -87,10 +76,8 @@ fn put_axes<W: Write>(panel: &Panel, place: &Place, writer: &mut W) -> io::Resul
     let frame = &place.frame;
     let (left, top) = (frame.left, frame.top);
     let (right, bottom) = (frame.right(), frame.bottom());
-    writeln!(
-        writer,
-        "<path d=\"M{left} {top}V{bottom}H{right}\" fill=\"none\" stroke=\"#777777\"/>"
-    )?;
+    let steps = format_args!("M{left} {top}V{bottom}H{right}");
+    put_path_line(steps, format_args!("fill=\"none\" {AXIS}"), writer)?;
     put_titles(panel, frame, writer)
 }
 
@@ -99,11 +86,10 @@ fn put_guides<W: Write>(panel: &Panel, place: &Place, writer: &mut W) -> io::Res
     let (left, right) = (place.frame.left, place.frame.right());
     for guide in &panel.guides {
         let (y, label) = (place.y(guide.at), guide.label);
-        let (text, low) = (right.saturating_add(6), Pixels(y.0.saturating_add(400)));
-        writeln!(
-            writer,
-            "<path d=\"M{left} {y}H{right}\" stroke=\"#777777\" stroke-dasharray=\"1 3\"/><text x=\"{text}\" y=\"{low}\" fill=\"#555555\">{label}</text>"
-        )?;
+        let strokes = format_args!("{AXIS} stroke-dasharray=\"1 3\"");
+        put_path(format_args!("M{left} {y}H{right}"), strokes, writer)?;
+        let x = right.saturating_add(6);
+        put_text_line(x, y.below(LOWER), Stand::Pale, label, writer)?;
     }
     Ok(())
 }

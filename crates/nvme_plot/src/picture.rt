@@ -2,7 +2,7 @@
 use crate::legend::{Legend, put_legend};
 use crate::panel::{Panel, put_panel};
 use crate::pixels::{CHARACTER, Frame, HEIGHT, LEFT, MARGIN, SPAN};
-use crate::words::put_text;
+use crate::svg::{Escaped, Stand, put_begin, put_end, put_text_line};
 use nvme_output::WriteFault;
 use std::io::{self, Write};
 
@@ -43,23 +43,14 @@ impl Picture {
     }
 
     // Writes the beginning, with the title and the notes.
-    fn put_begin<W: Write>(&self, writer: &mut W) -> io::Result<()> {
-        let width = self.width();
+    fn put_head<W: Write>(&self, writer: &mut W) -> io::Result<()> {
         let height = self.legend_top().saturating_add(self.legend.height());
-        let height = height.saturating_add(LINE);
-        writeln!(
-            writer,
-            "<svg xmlns=\"http://www.w3.org/2000/svg\" width=\"{width}\" height=\"{height}\" viewBox=\"0 0 {width} {height}\" font-family=\"sans-serif\" font-size=\"12\">"
-        )?;
-        writer.write_all(b"<rect width=\"100%\" height=\"100%\" fill=\"#ffffff\"/>\n")?;
-        writer.write_all(b"<text x=\"8\" y=\"22\" font-size=\"16\">")?;
-        put_text(self.title.as_str(), writer)?;
-        writer.write_all(b"</text>\n")?;
+        put_begin(self.width(), height.saturating_add(LINE), None, writer)?;
+        let title = Escaped(self.title.as_str());
+        put_text_line(8, 22, Stand::Sized(16), title, writer)?;
         let mut y = NOTE;
         for note in &self.notes {
-            write!(writer, "<text x=\"8\" y=\"{y}\">")?;
-            put_text(note.as_str(), writer)?;
-            writer.write_all(b"</text>\n")?;
+            put_text_line(8, y, Stand::Begins, Escaped(note.as_str()), writer)?;
             y = y.saturating_add(LINE);
         }
         Ok(())
@@ -77,17 +68,14 @@ impl Picture {
 
     // Writes the picture.
     fn put<W: Write>(&self, writer: &mut W) -> io::Result<()> {
-        self.put_begin(writer)?;
+        self.put_head(writer)?;
         self.put_panels(writer)?;
         put_legend(&self.legend, self.legend_top(), writer)?;
-        writer.write_all(b"</svg>\n")
+        put_end(writer)
     }
 
     /// Writes the picture as SVG. `WriteFault` where a write failed.
     pub fn write_svg<W: Write>(&self, writer: &mut W) -> Result<(), WriteFault> {
-        match self.put(writer) {
-            Ok(()) => Ok(()),
-            Err(_) => Err(WriteFault),
-        }
+        self.put(writer).or(Err(WriteFault))
     }
 }

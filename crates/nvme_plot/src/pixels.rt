@@ -13,6 +13,11 @@ impl Pixels {
     pub fn moved(self, shift: i64) -> Pixels {
         Pixels(self.0.saturating_add_signed(shift))
     }
+
+    /// So many hundredths further down.
+    pub fn below(self, by: u64) -> Pixels {
+        Pixels(self.0.saturating_add(by))
+    }
 }
 
 impl fmt::Display for Pixels {
@@ -74,5 +79,16 @@ impl Frame {
     /// Its lower edge.
     pub fn bottom(&self) -> u64 {
         self.top.saturating_add(HEIGHT)
+    }
+}
+
+/// Tenths of a pixel.
+#[derive(Clone, Copy, Debug, PartialEq, Eq)]
+pub struct Tenths(pub u64);
+
+impl fmt::Display for Tenths {
+    fn fmt<W: fmt::Write>(&self, f: &mut fmt::Formatter<W>) -> fmt::Result {
+        let (whole, part) = (self.0 / 10, self.0 % 10);
+        write!(f, "{whole}.{part}")
     }
 }

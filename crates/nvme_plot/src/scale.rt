@@ -21,6 +21,18 @@ pub struct Range {
 }
 
 impl Range {
+    /// Values as far apart as they differ.
+    pub fn linear(low: u64, high: u64) -> Range {
+        let scale = Scale::Linear;
+        Range { scale, low, high }
+    }
+
+    /// Values as far apart as their logarithms differ.
+    pub fn logarithmic(low: u64, high: u64) -> Range {
+        let scale = Scale::Logarithmic;
+        Range { scale, low, high }
+    }
+
     // How far a value is from the lower end, and the upper end is.
     fn parts(&self, value: u64) -> (u64, u64) {
         let (low, high) = (self.low, self.high);

@@ -1,33 +1,17 @@
 // Numbers in words.
 use std::fmt;
-use std::io::{self, Write};
 
 /// A number with commas between its groups of three digits.
 #[derive(Clone, Copy, Debug, PartialEq, Eq)]
 pub struct Grouped(pub u64);
 
-// The greatest power of a thousand that isn't above a number, at least 1.
-fn group_of(number: u64) -> u64 {
-    let mut power = 1u64;
-    for _ in 0..6 {
-        if number / power.max(1) >= 1_000 {
-            power = power.saturating_mul(1_000);
-        }
-    }
-    power
-}
-
 impl fmt::Display for Grouped {
     fn fmt<W: fmt::Write>(&self, f: &mut fmt::Formatter<W>) -> fmt::Result {
-        let mut power = group_of(self.0);
-        let first = self.0 / power.max(1);
+        let groups = self.0.checked_ilog10().unwrap_or(0) / 3;
+        let first = self.0 / 1_000u64.saturating_pow(groups).max(1);
         write!(f, "{first}")?;
-        for _ in 0..6 {
-            power /= 1_000;
-            if power == 0 {
-                break;
-            }
-            let group = self.0 / power.max(1) % 1_000;
+        for below in (0..groups).rev() {
+            let group = self.0 / 1_000u64.saturating_pow(below).max(1) % 1_000;
             write!(f, ",{group:03}")?;
         }
         Ok(())
@@ -46,44 +30,21 @@ impl fmt::Display for Micros {
     }
 }
 
-/// A unit of time.
-#[derive(Clone, Copy, Debug, PartialEq, Eq)]
-pub struct TimeUnit {
-    pub picoseconds: u64,
-    pub name: &'static str,
-}
-
-const PICOSECOND: TimeUnit = TimeUnit {
-    picoseconds: 1,
-    name: "ps",
-};
-
-// The other units, from the shortest to the longest.
-const UNITS: [TimeUnit; 4] = [
-    TimeUnit {
-        picoseconds: 1_000,
-        name: "ns",
-    },
-    TimeUnit {
-        picoseconds: 1_000_000,
-        name: "us",
-    },
-    TimeUnit {
-        picoseconds: 1_000_000_000,
-        name: "ms",
-    },
-    TimeUnit {
-        picoseconds: 1_000_000_000_000,
-        name: "s",
-    },
+// The units of time in picoseconds, from the shortest to the longest.
+const UNITS: [(u64, &str); 5] = [
+    (1, "ps"),
+    (1_000, "ns"),
+    (1_000_000, "us"),
+    (1_000_000_000, "ms"),
+    (1_000_000_000_000, "s"),
 ];
 
-/// The longest unit that isn't longer than a time in picoseconds.
-pub fn unit_of(time: u64) -> TimeUnit {
-    let mut found = PICOSECOND;
-    for unit in &UNITS {
-        if unit.picoseconds <= time {
-            found = *unit;
+/// The longest unit that isn't longer than a time in picoseconds, and its name.
+pub fn unit_of(time: u64) -> (u64, &'static str) {
+    let mut found = (1, "ps");
+    for unit in UNITS {
+        if unit.0 <= time {
+            found = unit;
         }
     }
     found
@@ -95,22 +56,8 @@ pub struct Time(pub u64);
 
 impl fmt::Display for Time {
     fn fmt<W: fmt::Write>(&self, f: &mut fmt::Formatter<W>) -> fmt::Result {
-        let unit = unit_of(self.0);
-        let (number, name) = (Grouped(self.0 / unit.picoseconds.max(1)), unit.name);
+        let (unit, name) = unit_of(self.0);
+        let number = Grouped(self.0 / unit.max(1));
         write!(f, "{number} {name}")
     }
-}
-
-/// Writes a text of XML. What no XML may have is written as a question mark.
-pub fn put_text<W: Write>(text: &str, writer: &mut W) -> io::Result<()> {
-    for byte in text.as_bytes() {
-        match byte {
-            b'&' => writer.write_all(b"&amp;")?,
-            b'<' => writer.write_all(b"&lt;")?,
-            b'>' => writer.write_all(b"&gt;")?,
-            0..=0x1f => writer.write_all(b"?")?,
-            _ => writer.write_all(&[*byte])?,
-        }
-    }
-    Ok(())
 }

@@ -11,15 +11,6 @@ pub const IO_QUEUES: usize = QUEUE_LIMIT - 1;
 /// The number of rows: the admin queue, and each I/O queue in each other class.
 pub const LANES: usize = 1 + 4 * IO_QUEUES;
 
-/// The classes, in the order of their rows.
-pub const CLASSES: [Class; 5] = [
-    Class::Admin,
-    Class::Urgent,
-    Class::High,
-    Class::Medium,
-    Class::Low,
-];
-
 // The number of I/O classes before a class.
 fn rank(class: Class) -> Option<usize>
     ensures some { IfSome result (λ rank. (rank < 4) × ((qid : ℕ) → IsIoQueue qid → IsRow class qid (rank * 64 + qid))) }

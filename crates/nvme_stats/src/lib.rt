@@ -3,7 +3,6 @@
 #![tactic(auto)]
 
 mod behind;
-mod fairness;
 mod heading;
 mod histogram;
 mod lanes;
@@ -15,8 +14,8 @@ mod tally;
 mod waits;
 mod watch;
 
-pub use heading::{plural, put_counts, put_settings};
-pub use lanes::{CLASSES, IO_QUEUES, LANES, class_of_lane, lane_of, queue_of_lane};
+pub use heading::Heading;
+pub use lanes::{IO_QUEUES, LANES, class_of_lane, lane_of, queue_of_lane};
 pub use selection::{Part, Selection};
 pub use series::{Series, Window};
 pub use shares::{millionths, share};

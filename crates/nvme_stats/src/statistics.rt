@@ -13,28 +13,31 @@ ghost use Rattle.nvme_stats.specs.Counted.{IsCounted};
 ghost use Rattle.nvme_stats.specs.Looked.{IsCountedPart};
 ghost use Rattle.nvme_stats.specs.declared.selection.Selection.{Selection};
 
+mod fields;
 mod object;
 mod sheet;
 mod table;
 
 use crate::behind::{Behind, NOT_BEHIND};
-use crate::fairness::NO_PART;
-use crate::lanes::{
-    CLASSES, IO_QUEUES, LANES, class_of_lane, lane_of_pick, lanes_of_queue, queue_of_lane,
-};
+use crate::lanes::{IO_QUEUES, LANES, class_of_lane, lane_of_pick, lanes_of_queue};
 use crate::selection::{Part, Selection};
 use crate::series::Series;
 use crate::tally::{NO_TALLY, Tally, count_pick, note_seen, wait, wait_anew};
 use crate::waits::Waits;
 use crate::watch::{Watch, more, show};
+use arrayvec::ArrayVec;
 use nvme_arbiter::{Class, Mechanism, Pick, QUEUE_LIMIT, Seen, Settings};
+use nvme_cells::jain;
 use nvme_output::WriteFault;
 use nvme_trace::{Head, Trace, TraceError, TraceEvent};
-use object::put_object;
+use object::put_statistics;
 use sheet::put_sheet;
 use std::alloc::Global;
 use std::io::{Read, Write};
 use table::put_table;
+
+// What a write comes to.
+type Written = Result<(), WriteFault>;
 
 // The most windows.
 const WINDOWS: usize = 4_096;
@@ -164,14 +167,14 @@ impl Statistics {
 
     // Jain's index of the commands of the I/O queues, in ten thousandths. `None` where none was picked.
     fn jain(&self) -> Option<u128> {
-        let mut parts = NO_PART;
+        let mut parts = ArrayVec::<u128, IO_QUEUES>::new();
         for qid in 1..=IO_QUEUES as u16 {
             let tally = self.of_queue(qid);
             if tally.seen {
-                parts.add(u128::from(tally.commands));
+                let _fits = parts.try_push(u128::from(tally.commands));
             }
         }
-        parts.index()
+        jain(parts.as_slice())
     }
 
     // The number of queues of a class.
@@ -209,15 +212,15 @@ impl Statistics {
         if self.mechanism == Mechanism::RoundRobin || self.mixed {
             return None;
         }
-        let mut parts = NO_PART;
+        let mut parts = ArrayVec::<u128, LANES>::new();
         for (lane, tally) in self.tallies.iter().enumerate() {
             if tally.seen
                 && let Some(part) = self.part_by_weight(class_of_lane(lane), tally.commands)
             {
-                parts.add(part);
+                let _fits = parts.try_push(part);
             }
         }
-        parts.index()
+        jain(parts.as_slice())
     }
 
     // Whether queues of levels were seen, and none was picked.
@@ -246,27 +249,18 @@ impl Statistics {
     /// stays in a lawful run. The second tells for each queue how many commands others got between two
     /// services of it. Where windows are asked for, the third has a row for each. `WriteFault` where a write failed.
     pub fn write_text<W: Write>(&self, writer: &mut W) -> Result<(), WriteFault> {
-        match put_table(self, writer) {
-            Ok(()) => Ok(()),
-            Err(_) => Err(WriteFault),
-        }
+        put_table(self, writer)
     }
 
     /// Writes the same as one JSON object and a newline. `WriteFault` where a write failed.
     pub fn write_json<W: Write>(&self, writer: &mut W) -> Result<(), WriteFault> {
-        match put_object(self, writer) {
-            Ok(()) => Ok(()),
-            Err(_) => Err(WriteFault),
-        }
+        put_statistics(self, writer)
     }
 
     /// Writes a line of comma-separated values for each queue, over all classes, or where windows are asked for, a line
     /// for each window. The first line has the names. `WriteFault` where a write failed.
     pub fn write_csv<W: Write>(&self, writer: &mut W) -> Result<(), WriteFault> {
-        match put_sheet(self, writer) {
-            Ok(()) => Ok(()),
-            Err(_) => Err(WriteFault),
-        }
+        put_sheet(self, writer)
     }
 }
 

@@ -1,11 +1,15 @@
 // The picture of a short trace: a bar for each pick.
 use super::Picture;
-use super::colours::ROUND;
+use super::colours::{INK, ROUND};
 use super::frame::{
-    numbers_in, put_begin, put_change, put_change_mark, put_colours, put_left_out, put_mark,
-    put_nothing, put_number, put_title, stride_of, width_of,
+    numbers_in, put_change, put_change_mark, put_colours, put_mark, put_meaning, put_nothing,
+    put_title, width_of,
 };
-use nvme_stats::{Window, plural};
+use super::names::Picks;
+use nvme_plot::{
+    Grouped, Stand, put_begin, put_end, put_path_line, put_text, put_text_line, stride_of,
+};
+use nvme_terms::count_of;
 use std::io::{self, Write};
 
 // Measures of the picture, in pixels.
@@ -43,31 +47,6 @@ fn measures_of(rows: u64) -> Measures {
     Measures { row, bar, scale }
 }
 
-// The width of a column, in pixels.
-fn column_width(picture: &Picture) -> u64 {
-    let columns = picture.series.all.len() as u64;
-    if columns == 0 {
-        return WIDE;
-    }
-    (COLUMNS / columns).max(1).min(WIDE)
-}
-
-// The left edge of a column, in pixels.
-fn left_of(picture: &Picture, at: usize) -> u64 {
-    LEFT.saturating_add(column_width(picture).saturating_mul(at as u64))
-}
-
-// The right edge of the columns, in pixels.
-fn right_of(picture: &Picture) -> u64 {
-    left_of(picture, picture.series.all.len())
-}
-
-// The lower edge of the rows, in pixels.
-fn bottom_of(picture: &Picture) -> u64 {
-    let rows = picture.row_count();
-    TOP.saturating_add(measures_of(rows).row.saturating_mul(rows))
-}
-
 // Chooses marks, or numbers, from left to right: those that are far enough from the last one.
 #[derive(Clone, Copy)]
 struct Chooser {
@@ -78,6 +57,11 @@ struct Chooser {
 }
 
 impl Chooser {
+    // Chooses those that are so far apart.
+    fn of(apart: u64) -> Chooser {
+        Chooser { apart, last: None }
+    }
+
     // Whether the next one, at x, is chosen.
     fn takes(&mut self, x: u64) -> bool {
         let apart = self.apart;
@@ -101,32 +85,6 @@ enum Rounds {
     TooMany,
 }
 
-// Which starts of rounds have a mark.
-fn rounds_of(picture: &Picture) -> Rounds {
-    let (mut rounds, mut marks) = (0u64, 0u64);
-    let mut chooser = Chooser {
-        apart: APART,
-        last: None,
-    };
-    for (at, window) in picture.series.all.iter().enumerate() {
-        if window.fresh {
-            rounds = rounds.saturating_add(1);
-            if chooser.takes(left_of(picture, at)) {
-                marks = marks.saturating_add(1);
-            }
-        }
-    }
-    if rounds == 0 {
-        Rounds::Absent
-    } else if marks == rounds {
-        Rounds::All
-    } else if marks.saturating_mul(2) >= rounds {
-        Rounds::Most
-    } else {
-        Rounds::TooMany
-    }
-}
-
 // The most commands of a bar, at least 1.
 fn most_of(picture: &Picture) -> u64 {
     let mut most = 1;
@@ -138,200 +96,207 @@ fn most_of(picture: &Picture) -> u64 {
     most
 }
 
-// Writes what a bar is of.
-fn put_tip<W: Write>(
-    picture: &Picture,
-    row: usize,
-    window: &Window,
-    commands: u64,
-    writer: &mut W,
-) -> io::Result<()> {
-    let (first, last, of_commands) = (window.first, window.last, plural(commands));
-    if first == last {
-        write!(writer, "<title>pick {first}: ")?;
-    } else {
-        write!(writer, "<title>picks {first} to {last}: ")?;
-    }
-    picture.put_name(row, writer)?;
-    write!(writer, ", {commands} command{of_commands}</title>")
-}
-
-// Writes the bars of a row, which ends at y.
-fn put_bars<W: Write>(
-    picture: &Picture,
-    row: usize,
-    y: u64,
+// A picture with its measures, in pixels.
+#[derive(Clone, Copy)]
+struct Bars<'a> {
+    picture: &'a Picture,
+    // Those of a row.
+    row: Measures,
+    // The width of a column.
+    column: u64,
+    // The right edge of the columns, and the lower edge of the rows.
+    right: u64,
+    bottom: u64,
+    // The most commands of a bar, at least 1.
     most: u64,
-    writer: &mut W,
-) -> io::Result<()> {
-    let width = column_width(picture);
-    let bar = if width > 2 { width - 1 } else { width };
-    let highest = measures_of(picture.row_count()).bar;
-    for (at, window) in picture.series.all.iter().enumerate() {
-        let commands = window.rows.get(row).copied().unwrap_or(0);
-        if commands > 0 {
-            let long = (commands.saturating_mul(highest) / most.max(1)).max(2);
-            let (x, top) = (left_of(picture, at), y.saturating_sub(long));
-            write!(
-                writer,
-                "<rect x=\"{x}\" y=\"{top}\" width=\"{bar}\" height=\"{long}\">"
-            )?;
-            put_tip(picture, row, window, commands, writer)?;
-            writer.write_all(b"</rect>\n")?;
+}
+
+impl<'a> Bars<'a> {
+    // The bars of a picture.
+    fn of(picture: &'a Picture) -> Bars<'a> {
+        let (columns, rows) = (picture.series.all.len() as u64, picture.row_count());
+        let column = (COLUMNS / columns.max(1)).max(1).min(WIDE);
+        let row = measures_of(rows);
+        Bars {
+            picture,
+            row,
+            column,
+            right: LEFT.saturating_add(column.saturating_mul(columns)),
+            bottom: TOP.saturating_add(row.row.saturating_mul(rows)),
+            most: most_of(picture),
         }
     }
-    Ok(())
-}
 
-// Writes the scale of a row, which ends at y, and whose highest bar is so high.
-fn put_scale<W: Write>(y: u64, bar: u64, most: u64, writer: &mut W) -> io::Result<()> {
-    let (x, high) = (LEFT - 6, y.saturating_sub(bar.saturating_sub(8)));
-    writeln!(
-        writer,
-        "<g font-size=\"9\" text-anchor=\"end\"><text x=\"{x}\" y=\"{high}\">{most}</text><text x=\"{x}\" y=\"{y}\">0</text></g>"
-    )
-}
-
-// Writes a row, which ends at y and is the nth of its class.
-fn put_row<W: Write>(
-    picture: &Picture,
-    row: usize,
-    nth: usize,
-    y: u64,
-    most: u64,
-    writer: &mut W,
-) -> io::Result<()> {
-    let (fill, right) = (picture.colour_of(row, nth), right_of(picture));
-    let measures = measures_of(picture.row_count());
-    let text = y.saturating_sub(measures.bar.saturating_sub(9) / 2);
-    write!(writer, "<text x=\"8\" y=\"{text}\">")?;
-    picture.put_name(row, writer)?;
-    writeln!(
-        writer,
-        "</text>\n<g fill=\"{fill}\"><path d=\"M{LEFT} {y}H{right}\" stroke=\"#cccccc\"/>"
-    )?;
-    put_bars(picture, row, y, most, writer)?;
-    writer.write_all(b"</g>\n")?;
-    if measures.scale {
-        put_scale(y, measures.bar, most, writer)?;
+    // The left edge of a column.
+    fn left_of(&self, at: usize) -> u64 {
+        LEFT.saturating_add(self.column.saturating_mul(at as u64))
     }
-    Ok(())
-}
 
-// Writes the rows.
-fn put_rows<W: Write>(picture: &Picture, writer: &mut W) -> io::Result<()> {
-    let (most, measures) = (most_of(picture), measures_of(picture.row_count()));
-    let (mut y, mut nth) = (TOP, 0usize);
-    for (at, row) in picture.rows.iter().enumerate() {
-        if row.seen {
-            y = y.saturating_add(measures.row);
-            put_row(picture, at, nth, y, most, writer)?;
-            // (the admin queue has a class of its own)
-            nth = if at == 0 { 0 } else { nth.saturating_add(1) };
+    // Which starts of rounds have a mark.
+    fn rounds(&self) -> Rounds {
+        let (mut rounds, mut marks) = (0u64, 0u64);
+        let mut chooser = Chooser::of(APART);
+        for (at, window) in self.picture.series.all.iter().enumerate() {
+            if window.fresh {
+                rounds = rounds.saturating_add(1);
+                if chooser.takes(self.left_of(at)) {
+                    marks = marks.saturating_add(1);
+                }
+            }
+        }
+        if rounds == 0 {
+            Rounds::Absent
+        } else if marks == rounds {
+            Rounds::All
+        } else if marks.saturating_mul(2) >= rounds {
+            Rounds::Most
+        } else {
+            Rounds::TooMany
         }
     }
-    Ok(())
-}
 
-// Writes the marks: where a round starts, and where settings change. A change after the last pick is at the end.
-fn put_marks<W: Write>(picture: &Picture, rounds: Rounds, writer: &mut W) -> io::Result<()> {
-    let mut chooser = Chooser {
-        apart: APART,
-        last: None,
-    };
-    let bottom = bottom_of(picture);
-    for (at, window) in picture.series.all.iter().enumerate() {
-        let x = left_of(picture, at);
-        if window.fresh && rounds != Rounds::TooMany && chooser.takes(x) {
-            writeln!(writer, "<path d=\"M{x} 84V{bottom}\" {ROUND}/>")?;
+    // Writes the bars of a row, which ends at y.
+    fn put_bars<W: Write>(&self, row: usize, y: u64, writer: &mut W) -> io::Result<()> {
+        let (width, name) = (self.column, self.picture.name_of(row));
+        let bar = if width > 2 { width - 1 } else { width };
+        for (at, window) in self.picture.series.all.iter().enumerate() {
+            let commands = window.rows.get(row).copied().unwrap_or(0);
+            if commands > 0 {
+                let high = commands.saturating_mul(self.row.bar) / self.most.max(1);
+                let (x, high) = (self.left_of(at), high.max(2));
+                let top = y.saturating_sub(high);
+                let (picks, commands) = (Picks::of(window), count_of(commands, "command"));
+                writeln!(
+                    writer,
+                    "<rect x=\"{x}\" y=\"{top}\" width=\"{bar}\" height=\"{high}\"><title>{picks}: {name}, {commands}</title></rect>"
+                )?;
+            }
         }
-        if window.change.is_some() {
-            put_change(x, bottom, writer)?;
+        Ok(())
+    }
+
+    // Writes the scale of a row, which ends at y.
+    fn put_scale<W: Write>(&self, y: u64, writer: &mut W) -> io::Result<()> {
+        let (x, high) = (LEFT - 6, y.saturating_sub(self.row.bar.saturating_sub(8)));
+        writer.write_all(b"<g font-size=\"9\" text-anchor=\"end\">")?;
+        put_text(x, high, Stand::Begins, self.most, writer)?;
+        put_text(x, y, Stand::Begins, 0, writer)?;
+        writer.write_all(b"</g>\n")
+    }
+
+    // Writes a row, which ends at y and is the nth of its class.
+    fn put_row<W: Write>(&self, row: usize, nth: usize, y: u64, writer: &mut W) -> io::Result<()> {
+        let (fill, right) = (self.picture.colour_of(row, nth), self.right);
+        let text = y.saturating_sub(self.row.bar.saturating_sub(9) / 2);
+        put_text_line(8, text, Stand::Begins, self.picture.name_of(row), writer)?;
+        write!(writer, "<g fill=\"{fill}\">")?;
+        let steps = format_args!("M{LEFT} {y}H{right}");
+        put_path_line(steps, "stroke=\"#cccccc\"", writer)?;
+        self.put_bars(row, y, writer)?;
+        writer.write_all(b"</g>\n")?;
+        if self.row.scale {
+            self.put_scale(y, writer)?;
         }
+        Ok(())
     }
-    if picture.set {
-        put_change(right_of(picture), bottom, writer)?;
-    }
-    Ok(())
-}
 
-// Writes round numbers of picks below their columns, and what they are.
-fn put_numbers<W: Write>(picture: &Picture, writer: &mut W) -> io::Result<()> {
-    let (first, last) = picture.ends();
-    let width = right_of(picture).saturating_sub(LEFT);
-    let stride = stride_of(last.saturating_sub(first), numbers_in(width, last)).max(1);
-    let mut chooser = Chooser {
-        apart: width_of(last),
-        last: None,
-    };
-    let (y, half) = (
-        bottom_of(picture).saturating_add(16),
-        column_width(picture) / 2,
-    );
-    for (at, window) in picture.series.all.iter().enumerate() {
-        let number = (window.last / stride).saturating_mul(stride);
-        let x = left_of(picture, at).saturating_add(half);
-        if number >= window.first.max(1) && chooser.takes(x) {
-            write!(writer, "<text x=\"{x}\" y=\"{y}\" text-anchor=\"middle\">")?;
-            put_number(number, writer)?;
-            writer.write_all(b"</text>\n")?;
+    // Writes the rows.
+    fn put_rows<W: Write>(&self, writer: &mut W) -> io::Result<()> {
+        let (mut y, mut nth) = (TOP, 0usize);
+        for (at, row) in self.picture.rows.iter().enumerate() {
+            if row.seen {
+                y = y.saturating_add(self.row.row);
+                self.put_row(at, nth, y, writer)?;
+                // (the admin queue has a class of its own)
+                nth = if at == 0 { 0 } else { nth.saturating_add(1) };
+            }
         }
+        Ok(())
     }
-    let low = y.saturating_add(18);
-    writeln!(writer, "<text x=\"{LEFT}\" y=\"{low}\">picks</text>")?;
-    writeln!(
-        writer,
-        "<text x=\"{LEFT}\" y=\"88\" text-anchor=\"end\">commands</text>"
-    )
-}
 
-// Writes what a bar is.
-fn put_meaning<W: Write>(picture: &Picture, writer: &mut W) -> io::Result<()> {
-    if picture.series.all.is_empty() {
-        return put_nothing(picture, writer);
+    // Writes the marks: where a round starts, and where settings change. A change after the last pick is at the end.
+    fn put_marks<W: Write>(&self, rounds: Rounds, writer: &mut W) -> io::Result<()> {
+        let (mut chooser, bottom) = (Chooser::of(APART), self.bottom);
+        for (at, window) in self.picture.series.all.iter().enumerate() {
+            let x = self.left_of(at);
+            if window.fresh && rounds != Rounds::TooMany && chooser.takes(x) {
+                put_path_line(format_args!("M{x} 84V{bottom}"), ROUND, writer)?;
+            }
+            if window.change.is_some() {
+                put_change(x, bottom, writer)?;
+            }
+        }
+        if self.picture.set {
+            put_change(self.right, bottom, writer)?;
+        }
+        Ok(())
     }
-    let (step, most) = (picture.series.step, most_of(picture));
-    writer.write_all(b"<text x=\"8\" y=\"40\">")?;
-    if step == 1 {
-        writer.write_all(b"A bar is one pick, as high as its number of commands;")?;
-    } else {
-        write!(
-            writer,
-            "A bar sums up {step} picks in a row, as high as their number of commands of its queue;"
-        )?;
-    }
-    write!(writer, " the highest has {most}.")?;
-    put_left_out(picture, writer)?;
-    writer.write_all(b"</text>\n")
-}
 
-// Writes the legend: the colours of the classes and the marks that occur.
-fn put_legend<W: Write>(picture: &Picture, rounds: Rounds, writer: &mut W) -> io::Result<()> {
-    let x = put_colours(picture, writer)?;
-    let x = put_change_mark(x, picture, writer)?;
-    let text = match rounds {
-        Rounds::Absent => return Ok(()),
-        Rounds::All => "a round starts",
-        Rounds::Most => "a round starts (some left out)",
-        Rounds::TooMany => "rounds are too close to mark",
-    };
-    put_mark(x, ROUND, text, writer)?;
-    Ok(())
+    // Writes round numbers of picks below their columns, and what they are.
+    fn put_numbers<W: Write>(&self, writer: &mut W) -> io::Result<()> {
+        let (first, last) = self.picture.ends();
+        let most = numbers_in(self.right.saturating_sub(LEFT), last);
+        let stride = stride_of(last.saturating_sub(first), most).max(1);
+        let mut chooser = Chooser::of(width_of(last));
+        let y = self.bottom.saturating_add(16);
+        for (at, window) in self.picture.series.all.iter().enumerate() {
+            let number = (window.last / stride).saturating_mul(stride);
+            let x = self.left_of(at).saturating_add(self.column / 2);
+            if number >= window.first.max(1) && chooser.takes(x) {
+                put_text_line(x, y, Stand::Centred, Grouped(number), writer)?;
+            }
+        }
+        put_text_line(LEFT, y.saturating_add(18), Stand::Begins, "picks", writer)?;
+        put_text_line(LEFT, 88, Stand::Ends, "commands", writer)
+    }
+
+    // Writes what a bar is.
+    fn put_meaning<W: Write>(&self, writer: &mut W) -> io::Result<()> {
+        let (picture, most) = (self.picture, self.most);
+        let step = picture.series.step;
+        if picture.series.all.is_empty() {
+            return put_nothing(picture, writer);
+        }
+        if step == 1 {
+            let meaning = format_args!(
+                "A bar is one pick, as high as its number of commands; the highest has {most}."
+            );
+            return put_meaning(picture, meaning, writer);
+        }
+        let meaning = format_args!(
+            "A bar sums up {step} picks in a row, as high as their number of commands of its queue; the highest has {most}."
+        );
+        put_meaning(picture, meaning, writer)
+    }
+
+    // Writes the legend: the colours of the classes and the marks that occur.
+    fn put_legend<W: Write>(&self, rounds: Rounds, writer: &mut W) -> io::Result<()> {
+        let x = put_colours(self.picture, writer)?;
+        let x = put_change_mark(x, self.picture, writer)?;
+        let text = match rounds {
+            Rounds::Absent => return Ok(()),
+            Rounds::All => "a round starts",
+            Rounds::Most => "a round starts (some left out)",
+            Rounds::TooMany => "rounds are too close to mark",
+        };
+        put_mark(x, ROUND, text, writer)?;
+        Ok(())
+    }
 }
 
 /// Writes the picture of a short trace.
 pub fn put_bars_picture<W: Write>(picture: &Picture, writer: &mut W) -> io::Result<()> {
-    let (_, last) = picture.ends();
+    let (bars, (_, last)) = (Bars::of(picture), picture.ends());
     let margin = (width_of(last) / 2).saturating_add(8).max(40);
-    let width = right_of(picture).saturating_add(margin).max(LEAST);
-    let height = bottom_of(picture).saturating_add(46);
-    let rounds = rounds_of(picture);
-    put_begin(width, height, writer)?;
+    let width = bars.right.saturating_add(margin).max(LEAST);
+    let height = bars.bottom.saturating_add(46);
+    let rounds = bars.rounds();
+    put_begin(width, height, Some(INK), writer)?;
     put_title(picture, writer)?;
-    put_meaning(picture, writer)?;
-    put_legend(picture, rounds, writer)?;
-    put_marks(picture, rounds, writer)?;
-    put_rows(picture, writer)?;
-    put_numbers(picture, writer)?;
-    writer.write_all(b"</svg>\n")
+    bars.put_meaning(writer)?;
+    bars.put_legend(rounds, writer)?;
+    bars.put_marks(rounds, writer)?;
+    bars.put_rows(writer)?;
+    bars.put_numbers(writer)?;
+    put_end(writer)
 }

@@ -1,5 +1,6 @@
-// The colours: those of Okabe and Ito, which colour-blind readers tell apart. Dashes are a second sign.
+// The colours of classes and queues. Dashes are a second sign.
 use nvme_arbiter::Class;
+use nvme_plot::{BLACK, BLUE, GREEN, ORANGE, SKY, VERMILION};
 
 /// The colour of texts, on a white ground.
 pub const INK: &str = "#222222";
@@ -17,10 +18,10 @@ pub const DASHES: usize = 5;
 pub fn colour_of_class(class: Class) -> &'static str {
     match class {
         Class::Admin => "#555555",
-        Class::Urgent => "#d55e00",
-        Class::High => "#e69f00",
-        Class::Medium => "#009e73",
-        Class::Low => "#0072b2",
+        Class::Urgent => VERMILION,
+        Class::High => ORANGE,
+        Class::Medium => GREEN,
+        Class::Low => BLUE,
     }
 }
 
@@ -38,12 +39,12 @@ pub fn darker_of_class(class: Class) -> &'static str {
 /// The colour of the nth I/O queue, from 0 on, under round robin, which has no classes.
 pub fn colour_of_queue(nth: usize) -> &'static str {
     match nth % 6 {
-        0 => "#0072b2",
-        1 => "#e69f00",
-        2 => "#009e73",
-        3 => "#d55e00",
-        4 => "#56b4e9",
-        _ => "#000000",
+        0 => BLUE,
+        1 => ORANGE,
+        2 => GREEN,
+        3 => VERMILION,
+        4 => SKY,
+        _ => BLACK,
     }
 }
 

@@ -1,11 +1,12 @@
 // The curves of a picture: what each is of, and how it looks.
 use super::Picture;
-use super::colours::{DASHES, colour_of_class, darker_of_class};
+use super::colours::{DASHES, colour_of_class, darker_of_class, dashes_of};
+use super::names::{Name, Share};
 use arrayvec::ArrayVec;
 use nvme_arbiter::{Class, Mechanism};
-use nvme_stats::{CLASSES, IO_QUEUES, Window, class_of_lane, queue_of_lane, share};
-use nvme_trace::class_name;
-use std::io::{self, Write};
+use nvme_plot::Stroke;
+use nvme_stats::{IO_QUEUES, Window, class_of_lane, queue_of_lane, share};
+use nvme_terms::CLASSES;
 
 /// The most curves: one of each queue.
 pub const CURVES: usize = 1 + IO_QUEUES;
@@ -78,13 +79,14 @@ impl Curve {
         share(self.commands(window), window.commands).min(10_000) as u64
     }
 
-    /// Its commands in all windows.
-    pub fn all_commands(&self, picture: &Picture) -> u64 {
-        let mut sum = 0u64;
+    /// Its share in the commands of all windows.
+    pub fn share_in_all(&self, picture: &Picture) -> Share {
+        let (mut part, mut whole) = (0u64, 0u64);
         for window in &picture.series.all {
-            sum = sum.saturating_add(self.commands(window));
+            part = part.saturating_add(self.commands(window));
+            whole = whole.saturating_add(window.commands);
         }
-        sum
+        Share { part, whole }
     }
 
     /// The colour.
@@ -97,12 +99,21 @@ impl Curve {
         }
     }
 
-    /// Writes the name.
-    pub fn put_name<W: Write>(&self, picture: &Picture, writer: &mut W) -> io::Result<()> {
+    /// The stroke.
+    pub fn stroke(&self, picture: &Picture) -> Stroke {
+        Stroke {
+            colour: self.colour(picture),
+            width: if self.is_thin { 1 } else { 2 },
+            dashes: dashes_of(self.nth),
+        }
+    }
+
+    /// The name.
+    pub fn name(&self, picture: &Picture) -> Name {
         match self.row {
-            Some(row) if self.is_thin => write!(writer, "q{}", queue_of_lane(row).qid),
-            Some(row) => picture.put_name(row, writer),
-            None => writer.write_all(class_name(self.class).as_bytes()),
+            Some(row) if self.is_thin => Name::Queue(queue_of_lane(row).qid),
+            Some(row) => picture.name_of(row),
+            None => Name::Class(self.class),
         }
     }
 }

@@ -1,8 +1,10 @@
 // What stands around bars and curves.
 use super::Picture;
-use super::colours::{CHANGE, INK, colour_of_class};
-use nvme_stats::{CLASSES, put_counts, put_settings};
-use nvme_trace::class_name;
+use super::colours::{CHANGE, colour_of_class};
+use nvme_plot::{Stand, put_path, put_text_line};
+use nvme_stats::Heading;
+use nvme_terms::{CLASSES, SettingsInWords, class_name};
+use std::fmt::Display;
 use std::io::{self, Write};
 
 // The most that a character of a number, and one of another text, has of the width, in pixels.
@@ -13,52 +15,11 @@ const LETTER: u64 = 7;
 // The least from one number of an axis to the next, in pixels.
 const GAP: u64 = 12;
 
-/// Writes the beginning of a picture of this size, in pixels. Its ground is white and its texts are dark, whatever a
-/// viewer has around it.
-pub fn put_begin<W: Write>(width: u64, height: u64, writer: &mut W) -> io::Result<()> {
-    writeln!(
-        writer,
-        "<svg xmlns=\"http://www.w3.org/2000/svg\" width=\"{width}\" height=\"{height}\" viewBox=\"0 0 {width} {height}\" font-family=\"sans-serif\" font-size=\"12\" fill=\"{INK}\">"
-    )?;
-    writer.write_all(b"<rect width=\"100%\" height=\"100%\" fill=\"#ffffff\"/>\n")
-}
-
-// The greatest power of a thousand that isn't above a number, at least 1.
-fn group_of(number: u64) -> u64 {
-    let mut power = 1u64;
-    for _ in 0..6 {
-        if number / power.max(1) >= 1_000 {
-            power = power.saturating_mul(1_000);
-        }
-    }
-    power.max(1)
-}
-
-/// Writes a number with commas between its groups of three digits.
-pub fn put_number<W: Write>(number: u64, writer: &mut W) -> io::Result<()> {
-    let mut power = group_of(number);
-    write!(writer, "{}", number / power.max(1))?;
-    for _ in 0..6 {
-        if power <= 1 {
-            return Ok(());
-        }
-        power /= 1_000;
-        write!(writer, ",{:03}", number / power.max(1) % 1_000)?;
-    }
-    Ok(())
-}
-
 /// The most that a number with its commas has of the width, in pixels.
 pub fn width_of(number: u64) -> u64 {
-    let (mut digits, mut rest) = (1u64, number / 10);
-    for _ in 0..20 {
-        if rest > 0 {
-            digits = digits.saturating_add(1);
-            rest /= 10;
-        }
-    }
-    let commas = digits.saturating_sub(1) / 3;
-    digits.saturating_add(commas).saturating_mul(DIGIT)
+    let behind = u64::from(number.checked_ilog10().unwrap_or(0));
+    let characters = behind.saturating_add(behind / 3).saturating_add(1);
+    characters.saturating_mul(DIGIT)
 }
 
 /// How many numbers up to the last one have room along an axis of this width in pixels, at least 1.
@@ -66,54 +27,56 @@ pub fn numbers_in(width: u64, last: u64) -> u64 {
     (width / width_of(last).saturating_add(GAP).max(1)).max(1)
 }
 
-/// How many picks are from one number of an axis to the next: 1, 2 or 5 times a power of ten, of which at most so many
-/// are in that many picks.
-pub fn stride_of(picks: u64, most: u64) -> u64 {
-    let mut power = 1u64;
-    for _ in 0..20 {
-        for times in [1u64, 2, 5] {
-            let stride = power.saturating_mul(times).max(1);
-            if picks / stride <= most {
-                return stride;
-            }
-        }
-        power = power.saturating_mul(10);
-    }
-    power.max(1)
+// Writes the line of what a picture means.
+fn put_meaning_line<T: Display + Drop, W: Write>(meaning: T, writer: &mut W) -> io::Result<()> {
+    put_text_line(8, 40, Stand::Begins, meaning, writer)
 }
 
-/// Writes why a picture has no pick, in the line of what it means.
-pub fn put_nothing<W: Write>(picture: &Picture, writer: &mut W) -> io::Result<()> {
-    writer.write_all(b"<text x=\"8\" y=\"40\">")?;
-    match picture.last_before() {
-        Some(last) => {
-            let first = picture.part.selection.first;
-            write!(writer, "--from {first} is behind the last pick, {last}")?;
-        }
-        None => writer.write_all(b"There is no pick to draw.")?,
-    }
-    writer.write_all(b"</text>\n")
-}
-
-/// Writes what a picture leaves out, behind what it means.
-pub fn put_left_out<W: Write>(picture: &Picture, writer: &mut W) -> io::Result<()> {
+/// Writes what a picture means, and what it leaves out.
+pub fn put_meaning<T: Display + Drop, W: Write>(
+    picture: &Picture,
+    meaning: T,
+    writer: &mut W,
+) -> io::Result<()> {
     if picture.style.admin {
-        Ok(())
-    } else {
-        writer.write_all(b" The admin queue is left out.")
+        return put_meaning_line(meaning, writer);
     }
+    put_meaning_line(
+        format_args!("{meaning} The admin queue is left out."),
+        writer,
+    )
+}
+
+/// Writes why a picture has no pick, in place of what it means.
+pub fn put_nothing<W: Write>(picture: &Picture, writer: &mut W) -> io::Result<()> {
+    let Some(last) = picture.last_before() else {
+        return put_meaning_line("There is no pick to draw.", writer);
+    };
+    let first = picture.part.selection.first;
+    put_meaning_line(
+        format_args!("--from {first} is behind the last pick, {last}"),
+        writer,
+    )
 }
 
 /// Writes the title: how many picks and commands there are, and under which settings.
 pub fn put_title<W: Write>(picture: &Picture, writer: &mut W) -> io::Result<()> {
-    writer.write_all(b"<text x=\"8\" y=\"22\" font-size=\"14\">")?;
-    put_counts(picture.mechanism, picture.picks, picture.commands, writer)?;
-    writer.write_all(b"; ")?;
-    if picture.has_change() {
-        writer.write_all(b"at first ")?;
-    }
-    put_settings(picture.mechanism, &picture.begun, writer)?;
-    writer.write_all(b"</text>\n")
+    let heading = Heading {
+        mechanism: picture.mechanism,
+        picks: picture.picks,
+        commands: picture.commands,
+    };
+    let settings = SettingsInWords {
+        mechanism: picture.mechanism,
+        settings: picture.begun,
+    };
+    let when = if picture.has_change() {
+        "at first "
+    } else {
+        ""
+    };
+    let title = format_args!("{heading}; {when}{settings}");
+    put_text_line(8, 22, Stand::Sized(14), title, writer)
 }
 
 /// The line of the legend.
@@ -124,12 +87,13 @@ pub fn put_colours<W: Write>(picture: &Picture, writer: &mut W) -> io::Result<u6
     let (mut x, top) = (8u64, LEGEND - 10);
     for class in CLASSES {
         if picture.has_class(class) {
-            let (name, fill) = (class_name(class), colour_of_class(class));
-            let text = x.saturating_add(16);
-            writeln!(
+            let fill = colour_of_class(class);
+            write!(
                 writer,
-                "<rect x=\"{x}\" y=\"{top}\" width=\"12\" height=\"12\" fill=\"{fill}\"/><text x=\"{text}\" y=\"{LEGEND}\">{name}</text>"
+                "<rect x=\"{x}\" y=\"{top}\" width=\"12\" height=\"12\" fill=\"{fill}\"/>"
             )?;
+            let (text, name) = (x.saturating_add(16), class_name(class));
+            put_text_line(text, LEGEND, Stand::Begins, name, writer)?;
             x = x.saturating_add(80);
         }
     }
@@ -141,10 +105,8 @@ pub fn put_colours<W: Write>(picture: &Picture, writer: &mut W) -> io::Result<u6
 pub fn put_mark<W: Write>(x: u64, strokes: &str, text: &str, writer: &mut W) -> io::Result<u64> {
     let (mark, left) = (x.saturating_add(4), x.saturating_add(12));
     let (top, low) = (LEGEND - 12, LEGEND + 4);
-    writeln!(
-        writer,
-        "<path d=\"M{mark} {top}V{low}\" {strokes}/><text x=\"{left}\" y=\"{LEGEND}\">{text}</text>"
-    )?;
+    put_path(format_args!("M{mark} {top}V{low}"), strokes, writer)?;
+    put_text_line(left, LEGEND, Stand::Begins, text, writer)?;
     let width = LETTER.saturating_mul(text.len() as u64);
     Ok(left.saturating_add(width).saturating_add(16))
 }

@@ -1,8 +1,9 @@
 // The plane of the curves: picks from left to right, shares from the bottom up.
 use super::Picture;
 use super::curve::Curve;
-use super::frame::{numbers_in, put_number, stride_of};
+use super::frame::numbers_in;
 use super::heights::{Heights, tenths_down};
+use nvme_plot::{AXIS, GRID, Grouped, Stand, Tenths, put_path, put_text_line, stride_of};
 use nvme_stats::Window;
 use std::io::{self, Write};
 
@@ -91,14 +92,10 @@ impl Plane {
     }
 
     /// Where the nth curve is in a window, of which this is the number from 0 on: how far to the right in pixels, and how
-    /// far down in pixels and tenths.
-    pub fn point(&self, at: usize, window: &Window, nth: usize) -> (u64, u64, u64) {
-        let down = self.heights.down(at, nth);
-        (
-            self.middle_of(window.first, window.last),
-            down / 10,
-            down % 10,
-        )
+    /// far down.
+    pub fn point(&self, at: usize, window: &Window, nth: usize) -> (u64, Tenths) {
+        let x = self.middle_of(window.first, window.last);
+        (x, Tenths(self.heights.down(at, nth)))
     }
 
     /// Writes the axis of the shares.
@@ -110,17 +107,13 @@ impl Plane {
             let y = self.down(percent.saturating_mul(100)) / 10;
             let low = y.saturating_add(4);
             if percent.saturating_mul(100) <= self.highest {
-                writeln!(
-                    writer,
-                    "<path d=\"M{LEFT} {y}H{right}\" stroke=\"#dddddd\"/><text x=\"{text}\" y=\"{low}\" text-anchor=\"end\">{percent} %</text>"
-                )?;
+                put_path(format_args!("M{LEFT} {y}H{right}"), GRID, writer)?;
+                let share = format_args!("{percent} %");
+                put_text_line(text, low, Stand::Ends, share, writer)?;
             }
         }
         let middle = TOP + HEIGHT / 2;
-        writeln!(
-            writer,
-            "<text x=\"20\" y=\"{middle}\" text-anchor=\"middle\" transform=\"rotate(-90 20 {middle})\">share of commands</text>"
-        )
+        put_text_line(20, middle, Stand::Upward, "share of commands", writer)
     }
 
     /// Writes the axis of the picks.
@@ -132,19 +125,12 @@ impl Plane {
         for _ in 0..13 {
             if self.first <= number && number <= self.last {
                 let x = self.middle_of(number, number);
-                write!(
-                    writer,
-                    "<path d=\"M{x} {BOTTOM}V{tick}\" stroke=\"#777777\"/><text x=\"{x}\" y=\"{text}\" text-anchor=\"middle\">"
-                )?;
-                put_number(number, writer)?;
-                writer.write_all(b"</text>\n")?;
+                put_path(format_args!("M{x} {BOTTOM}V{tick}"), AXIS, writer)?;
+                put_text_line(x, text, Stand::Centred, Grouped(number), writer)?;
             }
             number = number.saturating_add(stride);
         }
         let middle = LEFT + WIDTH / 2;
-        writeln!(
-            writer,
-            "<text x=\"{middle}\" y=\"{low}\" text-anchor=\"middle\">picks</text>"
-        )
+        put_text_line(middle, low, Stand::Centred, "picks", writer)
     }
 }

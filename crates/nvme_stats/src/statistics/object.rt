@@ -1,198 +1,160 @@
 // Statistics as one JSON object.
-use super::Statistics;
-use crate::histogram::Histogram;
-use crate::lanes::{CLASSES, IO_QUEUES, queue_of_lane};
-use crate::selection::Selection;
+use super::fields::{looked_at, number, passed_over, picked, share, waited};
+use super::{Statistics, Written};
+use crate::lanes::{IO_QUEUES, queue_of_lane};
 use crate::series::{Series, Window};
-use crate::shares::millionths;
-use crate::tally::Tally;
 use nvme_arbiter::{Class, Settings};
-use nvme_trace::{class_name, mechanism_name};
-use std::io::{self, Write};
+use nvme_cells::{Cell, Field, Places, put_members, put_object};
+use nvme_output::put;
+use nvme_terms::{CLASSES, class_name, mechanism_name};
+use std::io::Write;
 
 // The number of this form, which is another where a member gets another meaning or is left out.
-const FORM: u8 = 1;
-
-// Writes what was counted as the rest of an object.
-fn put_members<W: Write>(counted: &Statistics, tally: &Tally, writer: &mut W) -> io::Result<()> {
-    let share = millionths(tally.commands, counted.commands);
-    let (whole, part) = (share / 1_000_000, share % 1_000_000);
-    let (picks, commands, longest) = (tally.picks, tally.commands, tally.longest);
-    let bound = counted.bound();
-    write!(
-        writer,
-        "\"picks\":{picks},\"commands\":{commands},\"share\":{whole}.{part:06},\"wait\":{longest},\"below\":{bound}}}"
-    )
-}
+const FORM: u64 = 1;
 
 // Writes the queues as objects.
-fn put_queues<W: Write>(counted: &Statistics, writer: &mut W) -> io::Result<()> {
+fn put_queues<W: Write>(counted: &Statistics, writer: &mut W) -> Written {
+    put(b",\"queues\":[", writer)?;
     let mut between = "";
     for (lane, tally) in counted.tallies.iter().enumerate() {
         if tally.seen {
             let queue = queue_of_lane(lane);
-            let (qid, class) = (queue.qid, class_name(queue.class));
-            write!(writer, "{between}{{\"queue\":{qid},\"class\":\"{class}\",")?;
-            put_members(counted, tally, writer)?;
+            let first = number("queue", u64::from(queue.qid));
+            let class = [Field::of("class", Cell::Word(class_name(queue.class)))];
+            let (picked, passed) = (picked(counted, tally), passed_over(counted, tally));
+            put_object(between, &first, &[&class, &picked, &passed], writer)?;
             between = ",";
         }
     }
-    Ok(())
+    put(b"]", writer)
 }
 
 // Writes the classes as objects.
-fn put_classes<W: Write>(counted: &Statistics, writer: &mut W) -> io::Result<()> {
+fn put_classes<W: Write>(counted: &Statistics, writer: &mut W) -> Written {
+    put(b",\"classes\":[", writer)?;
     let mut between = "";
     for class in CLASSES {
         let tally = counted.of_class(class);
         if tally.seen {
-            let name = class_name(class);
-            write!(writer, "{between}{{\"class\":\"{name}\",")?;
-            put_members(counted, &tally, writer)?;
+            let (picked, passed) = (picked(counted, &tally), passed_over(counted, &tally));
+            let first = Field::of("class", Cell::Word(class_name(class)));
+            put_object(between, &first, &[&picked, &passed], writer)?;
             between = ",";
         }
     }
-    Ok(())
-}
-
-// Writes settings under a name.
-fn put_settings<W: Write>(name: &str, settings: &Settings, writer: &mut W) -> io::Result<()> {
-    write!(writer, ",\"{name}\":{{\"burst\":")?;
-    match settings.burst() {
-        Some(burst) => write!(writer, "{burst}")?,
-        None => writer.write_all(b"null")?,
-    }
-    let high = settings.weight(Class::High);
-    let medium = settings.weight(Class::Medium);
-    let low = settings.weight(Class::Low);
-    write!(
-        writer,
-        ",\"high\":{high},\"medium\":{medium},\"low\":{low}}}"
-    )
-}
-
-// Writes the waits of a queue.
-fn put_wait<W: Write>(qid: u16, waits: &Histogram, writer: &mut W) -> io::Result<()> {
-    let count = waits.count();
-    write!(writer, "{{\"queue\":{qid},\"waits\":{count},")?;
-    if count == 0 {
-        return writer.write_all(
-            b"\"mean\":null,\"p50\":null,\"p95\":null,\"p99\":null,\"max\":null}",
-        );
-    }
-    let mean = waits.mean();
-    let (whole, part) = (mean / 100, mean % 100);
-    let (half, most) = (waits.percentile(50), waits.most());
-    let (p95, p99) = (waits.percentile(95), waits.percentile(99));
-    write!(
-        writer,
-        "\"mean\":{whole}.{part:02},\"p50\":{half},\"p95\":{p95},\"p99\":{p99},\"max\":{most}}}"
-    )
+    put(b"]", writer)
 }
 
 // Writes the waits of the queues.
-fn put_waits<W: Write>(counted: &Statistics, writer: &mut W) -> io::Result<()> {
-    writer.write_all(b",\"waits\":[")?;
+fn put_waits<W: Write>(counted: &Statistics, writer: &mut W) -> Written {
+    put(b",\"waits\":[", writer)?;
     let mut between = "";
     for qid in 0..=IO_QUEUES as u16 {
         if counted.of_queue(qid).seen
             && let Some(waits) = counted.waits.of_queue(qid)
         {
-            writer.write_all(between.as_bytes())?;
-            put_wait(qid, waits, writer)?;
+            let first = number("queue", u64::from(qid));
+            put_object(between, &first, &[&waited(waits)], writer)?;
             between = ",";
         }
     }
-    writer.write_all(b"]")
+    put(b"]", writer)
 }
 
-// Writes a window.
-fn put_window<W: Write>(counted: &Statistics, window: &Window, writer: &mut W) -> io::Result<()> {
-    let (first, last, all) = (window.first, window.last, window.commands);
-    write!(
-        writer,
-        "{{\"from\":{first},\"to\":{last},\"commands\":{all},\"shares\":["
-    )?;
+// Writes the share of a queue in a window, behind what stands before it.
+fn put_share<W: Write>(before: &str, qid: u16, window: &Window, writer: &mut W) -> Written {
+    let share = [share(window.of_queue(qid), window.commands)];
+    let first = number("queue", u64::from(qid));
+    put_object(before, &first, &[&share], writer)
+}
+
+// Writes the shares of the queues in a window.
+fn put_shares<W: Write>(counted: &Statistics, window: &Window, writer: &mut W) -> Written {
+    put(b",\"shares\":[", writer)?;
     let mut between = "";
     for qid in 0..=IO_QUEUES as u16 {
         if counted.of_queue(qid).seen {
-            let share = millionths(window.of_queue(qid), all);
-            let (whole, part) = (share / 1_000_000, share % 1_000_000);
-            write!(
-                writer,
-                "{between}{{\"queue\":{qid},\"share\":{whole}.{part:06}}}"
-            )?;
+            put_share(between, qid, window, writer)?;
             between = ",";
         }
     }
-    writer.write_all(b"]}")
+    put(b"]", writer)
+}
+
+// Writes a window, behind what stands before it.
+fn put_window<W: Write>(
+    counted: &Statistics,
+    before: &str,
+    window: &Window,
+    writer: &mut W,
+) -> Written {
+    let rest = [
+        number("to", window.last),
+        number("commands", window.commands),
+    ];
+    put(before.as_bytes(), writer)?;
+    put_members("{", &number("from", window.first), &[&rest], writer)?;
+    put_shares(counted, window, writer)?;
+    put(b"}", writer)
 }
 
 // Writes the windows.
-fn put_windows<W: Write>(counted: &Statistics, series: &Series, writer: &mut W) -> io::Result<()> {
-    let step = series.step;
-    write!(writer, ",\"window\":{step},\"windows\":[")?;
+fn put_windows<W: Write>(counted: &Statistics, series: &Series, writer: &mut W) -> Written {
+    put_members(",", &number("window", series.step), &[], writer)?;
+    put(b",\"windows\":[", writer)?;
     let mut between = "";
     for window in &series.all {
-        writer.write_all(between.as_bytes())?;
-        put_window(counted, window, writer)?;
+        put_window(counted, between, window, writer)?;
         between = ",";
     }
-    writer.write_all(b"]")
+    put(b"]", writer)
 }
 
-// Writes which picks were looked at.
-fn put_part<W: Write>(selection: &Selection, writer: &mut W) -> io::Result<()> {
-    let (first, backlogged) = (selection.first, selection.backlogged);
-    write!(writer, ",\"from\":{first},\"to\":")?;
-    if selection.is_open() {
-        writer.write_all(b"null")?;
-    } else {
-        write!(writer, "{}", selection.last)?;
-    }
-    write!(writer, ",\"backlogged\":{backlogged}")
-}
-
-// Writes an index under a name.
-fn put_index<W: Write>(name: &str, index: Option<u128>, writer: &mut W) -> io::Result<()> {
-    let Some(index) = index else {
-        return write!(writer, ",\"{name}\":null");
+// Writes settings behind what stands before them.
+fn put_settings<W: Write>(before: &str, settings: &Settings, writer: &mut W) -> Written {
+    let burst = match settings.burst() {
+        Some(burst) => number("burst", u64::from(burst)),
+        None => Field::of("burst", Cell::Empty),
     };
-    let (whole, part) = (index / 10_000, index % 10_000);
-    write!(writer, ",\"{name}\":{whole}.{part:04}")
+    let weights = [
+        number("high", u64::from(settings.weight(Class::High))),
+        number("medium", u64::from(settings.weight(Class::Medium))),
+        number("low", u64::from(settings.weight(Class::Low))),
+    ];
+    put_object(before, &burst, &[&weights], writer)
 }
 
 // Writes what is told of all queues together.
-fn put_of_all<W: Write>(counted: &Statistics, writer: &mut W) -> io::Result<()> {
-    let (longest, bound) = (counted.behind.longest, counted.behind.bound);
-    write!(
-        writer,
-        ",\"low_behind\":{{\"commands\":{longest},\"at_most\":{bound}}}"
-    )?;
-    put_index("jain", counted.jain(), writer)?;
-    put_index("jain_by_weight", counted.jain_by_weight(), writer)?;
-    put_settings("settings", &counted.begun, writer)?;
-    put_settings("settings_at_end", &counted.settings, writer)
+fn put_of_all<W: Write>(counted: &Statistics, writer: &mut W) -> Written {
+    let behind = [number("at_most", counted.behind.bound)];
+    let longest = number("commands", counted.behind.longest);
+    put_object(",\"low_behind\":", &longest, &[&behind], writer)?;
+    let by_weight = Cell::decimal(counted.jain_by_weight(), Places::Four);
+    let by_weight = [Field::of("jain_by_weight", by_weight)];
+    let jain = Field::of("jain", Cell::decimal(counted.jain(), Places::Four));
+    put_members(",", &jain, &[&by_weight], writer)?;
+    put_settings(",\"settings\":", &counted.begun, writer)?;
+    put_settings(",\"settings_at_end\":", &counted.settings, writer)
 }
 
 /// Writes one object for tools.
-pub fn put_object<W: Write>(counted: &Statistics, writer: &mut W) -> io::Result<()> {
-    let mechanism = mechanism_name(counted.mechanism);
-    let (picks, commands, changes) = (counted.picks, counted.commands, counted.changes);
-    write!(
-        writer,
-        "{{\"mechanism\":\"{mechanism}\",\"picks\":{picks},\"commands\":{commands},\"changes\":{changes},\"form\":{FORM}"
-    )?;
-    put_part(&counted.part.selection, writer)?;
-    writer.write_all(b",\"queues\":[")?;
+pub fn put_statistics<W: Write>(counted: &Statistics, writer: &mut W) -> Written {
+    let mechanism = Cell::Word(mechanism_name(counted.mechanism));
+    let counts = [
+        number("picks", counted.picks),
+        number("commands", counted.commands),
+        number("changes", counted.changes),
+        number("form", FORM),
+    ];
+    let part = looked_at(&counted.part.selection);
+    let first = Field::of("mechanism", mechanism);
+    put_members("{", &first, &[&counts, &part], writer)?;
     put_queues(counted, writer)?;
-    writer.write_all(b"],\"classes\":[")?;
     put_classes(counted, writer)?;
-    writer.write_all(b"]")?;
     put_of_all(counted, writer)?;
     put_waits(counted, writer)?;
     if let Some(series) = &counted.windows {
         put_windows(counted, series, writer)?;
     }
-    writer.write_all(b"}\n")
+    put(b"}\n", writer)
 }

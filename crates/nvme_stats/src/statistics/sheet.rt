@@ -1,101 +1,115 @@
 // Statistics as comma-separated values.
-use super::Statistics;
+use super::fields::{looked_at, number, picked, share, waited};
+use super::{Statistics, Written};
 use crate::histogram::Histogram;
 use crate::lanes::{IO_QUEUES, lanes_of_queue, queue_of_lane};
-use crate::selection::Selection;
 use crate::series::{Series, Window};
-use crate::shares::millionths;
-use nvme_trace::class_name;
-use std::io::{self, Write};
+use crate::tally::{NO_TALLY, Tally};
+use arrayvec::ArrayString;
+use nvme_cells::{Cell, Field, put_names, put_values};
+use nvme_output::{Piece, put, put_pieces};
+use nvme_terms::class_name;
+use std::io::Write;
 
-// Writes the classes of a queue, with a space between two.
-fn put_classes<W: Write>(counted: &Statistics, qid: u16, writer: &mut W) -> io::Result<()> {
-    let mut between = "";
+// Room for the names of all classes.
+const NAMES: usize = 32;
+
+// How many queues there are, with the admin queue.
+const QUEUES: usize = IO_QUEUES + 1;
+
+// The classes of a queue, with a space between two.
+fn classes_of(counted: &Statistics, qid: u16) -> ArrayString<NAMES> {
+    let mut classes = ArrayString::new();
     for lane in lanes_of_queue(qid) {
         if counted.tallies.get(lane).is_some_and(|tally| tally.seen) {
-            let class = class_name(queue_of_lane(lane).class);
-            write!(writer, "{between}{class}")?;
-            between = " ";
+            let between = if classes.is_empty() { "" } else { " " };
+            let _fits = classes.try_push_str(between);
+            let _fits = classes.try_push_str(class_name(queue_of_lane(lane).class));
         }
     }
-    Ok(())
+    classes
 }
 
-// Writes the waits of a queue.
-fn put_wait<W: Write>(waits: &Histogram, writer: &mut W) -> io::Result<()> {
-    let count = waits.count();
-    if count == 0 {
-        return writer.write_all(b",0,,,,,");
-    }
-    let mean = waits.mean();
-    let (whole, part) = (mean / 100, mean % 100);
-    let (half, most) = (waits.percentile(50), waits.most());
-    let (p95, p99) = (waits.percentile(95), waits.percentile(99));
-    write!(
+// The classes of a line.
+fn of_classes(classes: &str) -> Field<'_> {
+    Field::of("class", Cell::Word(classes))
+}
+
+// Writes the line of the names.
+fn put_title<W: Write>(counted: &Statistics, writer: &mut W) -> Written {
+    let (class, picks) = ([of_classes("")], picked(counted, &NO_TALLY));
+    let waits = waited(&Histogram::new(counted.alloc));
+    let part = looked_at(&counted.part.selection);
+    put_names(
+        &number("queue", 0),
+        &[&class, &picks, &waits, &part],
         writer,
-        ",{count},{whole}.{part:02},{half},{p95},{p99},{most}"
     )
 }
 
-// Writes which picks were looked at, and ends the line.
-fn put_part<W: Write>(selection: &Selection, writer: &mut W) -> io::Result<()> {
-    let (first, last, backlogged) = (selection.first, selection.last, selection.backlogged);
-    if selection.is_open() {
-        writeln!(writer, ",{first},,{backlogged}")
-    } else {
-        writeln!(writer, ",{first},{last},{backlogged}")
-    }
-}
-
-// Writes a share after a comma.
-fn put_share<W: Write>(part: u64, all: u64, writer: &mut W) -> io::Result<()> {
-    let share = millionths(part, all);
-    let (whole, part) = (share / 1_000_000, share % 1_000_000);
-    write!(writer, ",{whole}.{part:06}")
+// Writes the line of a queue.
+fn put_queue<W: Write>(
+    counted: &Statistics,
+    qid: u16,
+    (tally, waits): (&Tally, &Histogram),
+    writer: &mut W,
+) -> Written {
+    let (classes, queue) = (classes_of(counted, qid), number("queue", u64::from(qid)));
+    let (class, picks) = ([of_classes(classes.as_str())], picked(counted, tally));
+    let (waits, part) = (waited(waits), looked_at(&counted.part.selection));
+    put_values(&queue, &[&class, &picks, &waits, &part], writer)
 }
 
 // Writes a line for each queue.
-fn put_queues<W: Write>(counted: &Statistics, writer: &mut W) -> io::Result<()> {
-    writer.write_all(
-        b"queue,class,picks,commands,share,waits,mean,p50,p95,p99,max,from,to,backlogged\n",
-    )?;
+fn put_queues<W: Write>(counted: &Statistics, writer: &mut W) -> Written {
+    put_title(counted, writer)?;
     for qid in 0..=IO_QUEUES as u16 {
         let tally = counted.of_queue(qid);
         if tally.seen
             && let Some(waits) = counted.waits.of_queue(qid)
         {
-            write!(writer, "{qid},")?;
-            put_classes(counted, qid, writer)?;
-            write!(writer, ",{},{}", tally.picks, tally.commands)?;
-            put_share(tally.commands, counted.commands, writer)?;
-            put_wait(waits, writer)?;
-            put_part(&counted.part.selection, writer)?;
+            put_queue(counted, qid, (&tally, waits), writer)?;
         }
     }
     Ok(())
 }
 
 // Writes a line for a window.
-fn put_window<W: Write>(counted: &Statistics, window: &Window, writer: &mut W) -> io::Result<()> {
-    let (first, last, commands) = (window.first, window.last, window.commands);
-    write!(writer, "{first},{last},{commands}")?;
+fn put_window<W: Write>(counted: &Statistics, window: &Window, writer: &mut W) -> Written {
+    let (mut parts, mut count) = ([0u64; QUEUES], 0usize);
     for qid in 0..=IO_QUEUES as u16 {
-        if counted.of_queue(qid).seen {
-            put_share(window.of_queue(qid), commands, writer)?;
+        if counted.of_queue(qid).seen
+            && let Some(place) = parts.get_mut(count)
+        {
+            *place = window.of_queue(qid);
+            count = count.saturating_add(1);
         }
     }
-    writeln!(writer, ",{}", counted.part.selection.backlogged)
+    let shares = parts.map(|part| share(part, window.commands));
+    let (from, rest) = (
+        number("from", window.first),
+        [
+            number("to", window.last),
+            number("commands", window.commands),
+        ],
+    );
+    let [_, _, backlogged] = looked_at(&counted.part.selection);
+    let shares = &shares[..count.min(QUEUES)];
+    put_values(&from, &[&rest, shares, &[backlogged]], writer)
 }
 
 // Writes a line for each window, with the share of each queue.
-fn put_windows<W: Write>(counted: &Statistics, series: &Series, writer: &mut W) -> io::Result<()> {
-    writer.write_all(b"from,to,commands")?;
+fn put_windows<W: Write>(counted: &Statistics, series: &Series, writer: &mut W) -> Written {
+    put(b"from,to,commands", writer)?;
     for qid in 0..=IO_QUEUES as u16 {
         if counted.of_queue(qid).seen {
-            write!(writer, ",q{qid}")?;
+            put_pieces(
+                &[Piece::Words(",q"), Piece::Number(u128::from(qid))],
+                writer,
+            )?;
         }
     }
-    writer.write_all(b",backlogged\n")?;
+    put(b",backlogged\n", writer)?;
     for window in &series.all {
         put_window(counted, window, writer)?;
     }
@@ -103,7 +117,7 @@ fn put_windows<W: Write>(counted: &Statistics, series: &Series, writer: &mut W) 
 }
 
 /// Writes the lines.
-pub fn put_sheet<W: Write>(counted: &Statistics, writer: &mut W) -> io::Result<()> {
+pub fn put_sheet<W: Write>(counted: &Statistics, writer: &mut W) -> Written {
     match &counted.windows {
         Some(series) => put_windows(counted, series, writer),
         None => put_queues(counted, writer),
