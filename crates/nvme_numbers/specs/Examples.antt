@@ -1,11 +1,15 @@
 -- Worked examples of the definitions. Times are in picoseconds. (profile)
 use Rattle.std.proofs.Common.{arith}
-use Rattle.std.specs.Prelude.{◌≡◌, ℕ, List, [], ◌∷◌, Some, None}
+use Rattle.std.specs.Prelude.{◌≡◌, ℕ, List, [], ◌∷◌, Some, None, codes}
+use Rattle.nvme_cells.specs.Tables.{row_text}
 use Rattle.nvme_load.specs.declared.mix.Operation.TheVariants.{Read}
 use Rattle.nvme_model.specs.declared.finished.Finished.{Finished}
 use Rattle.nvme_numbers.specs.Feeding.{Comes, Ends, Event, amount_of, done_in, fed_in, fed_time, first_in, last_in}
 use Rattle.nvme_numbers.specs.Quotients.{jain_of, rounded}
 use Rattle.nvme_numbers.specs.Rows.{above}
+use Rattle.nvme_numbers.specs.Tables.{all_row, began_row, channels_row, count_row, latencies_row, line_text}
+use Rattle.nvme_numbers.specs.declared.answer.table.Columns.TheVariants.{Rates}
+use Rattle.nvme_numbers.specs.declared.row.Row.{Row}
 
 pub record NumberExamples : Type 0 where
   pub half_up : rounded 5 2 ≡ 3
@@ -60,3 +64,23 @@ pub record FeedExamples : Type 0 where
   pub no_warm_up : fed_in 0 1 events ≡ command 1 8 20 ∷ command 1 4 10 ∷ []
   pub none_counts : first_in 3 events ≡ None
   pub none_fed : fed_in 3 1 events ≡ []
+
+-- three of four commands, 12 a second
+abbrev pub three_quarters : Row
+three_quarters = record {
+  commands = 3;
+  share = Some 750_000;
+  iops = Some 12;
+  bytes_per_second = None;
+  spread = None;
+  fed = record { iops = None; bytes_per_second = None; time = 0 };
+}
+
+pub record TextExamples : Type 0 where
+  pub rounded_up : row_text (began_row (Some 1_234_567)) ≡ codes " from 1.235 us on"
+  pub one : row_text (count_row 1) ≡ codes "1 command"
+  pub two : row_text (count_row 2) ≡ codes "2 commands"
+  pub ninth : row_text (channels_row 8) ≡ codes "\nchannels from 8 on:"
+  pub tenth : row_text (channels_row 9) ≡ []
+  pub line : line_text Rates all_row three_quarters ≡ codes "all                    3  75.0000%              12               -\n"
+  pub no_time : row_text (latencies_row None) ≡ codes "            -"

@@ -12,6 +12,7 @@ pub mod Quotients
 pub mod Rows
 pub mod Sheets
 pub mod Sums
+pub mod Tables
 pub mod Texts
 pub mod Told
 pub mod ToldFed

@@ -1,13 +1,7 @@
--- Numbers and lines as texts. (profile)
-use Rattle.std.specs.Prelude.{ℕ, ◌/◌, ◌%◌, ◌++◌, List, [], ◌∷◌, codes, decimal}
+-- Lines as texts. (profile)
+use Rattle.std.specs.Prelude.{ℕ, ◌++◌, List, [], ◌∷◌, codes, decimal}
 use Rattle.nvme_model.specs.declared.finished.Finished.{Finished}
 use Rattle.nvme_numbers.specs.Names.{operation_text}
-use Rattle.nvme_numbers.specs.Quotients.{rounded}
-use Rattle.nvme_numbers.specs.declared.answer.wording.Micros.{Micros}
-
--- picoseconds as microseconds, rounded to the nearest nanosecond, and half of one up
-abbrev pub micros_of : ℕ → Micros
-micros_of time = record { whole = rounded time 1_000 / 1_000; part = rounded time 1_000 % 1_000 }
 
 -- cells with commas between them
 abbrev pub cells_behind : List (List ℕ) → List ℕ

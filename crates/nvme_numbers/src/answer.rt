@@ -26,7 +26,7 @@ use sheet::put_sheet;
 use std::alloc::{AllocError, Global};
 use std::io::Write;
 use table::put_table;
-pub use wording::{Micros, micros_of};
+pub use wording::{comma_before, micros};
 
 // All classes, in the order of their rows.
 const CLASSES: [Class; 5] = [
@@ -395,6 +395,7 @@ impl Answer<'_> {
     ghost use Rattle.nvme_numbers.specs.Quotients.{IsQuotient};
     ghost use Rattle.nvme_numbers.specs.Objects.{answer_json, answer_open_json};
     ghost use Rattle.nvme_numbers.specs.Sheets.{answer_csv};
+    ghost use Rattle.nvme_numbers.specs.Tables.{answer_text};
     ghost use Rattle.nvme_output.specs.Written.{Writes};
 
     /// The part of the simulated time in which a channel ran commands, in thousandths of a percent, rounded. `None` where no
@@ -415,11 +416,10 @@ impl Answer<'_> {
 
     /// Writes tables for people: the rates of each queue, each class and all, then their latencies and then the means of the
     /// parts of these, in microseconds. `WriteFault` where a write failed.
-    pub fn write_text<W: Write>(&self, writer: &mut W) -> Result<(), WriteFault> {
-        match put_table(self, writer) {
-            Ok(()) => Ok(()),
-            Err(_) => Err(WriteFault),
-        }
+    pub fn write_text<W: Write>(&self, writer: &mut W) -> Result<(), WriteFault>
+        ensures { Writes (W.contents writer.old) (W.contents writer.new) result (answer_text self.now) }
+    {
+        put_table(self, writer)
     }
 
     /// Writes the same as one JSON object and a newline. Times are in picoseconds. `WriteFault` where a write failed.

@@ -1,5 +1,5 @@
 //! Laws over the definitions alone. Each function does nothing: its contract is the law.
-ghost use Rattle.nvme_numbers.specs.Examples.{AboveExamples, FeedExamples, NumberExamples};
+ghost use Rattle.nvme_numbers.specs.Examples.{AboveExamples, FeedExamples, NumberExamples, TextExamples};
 
 /// Quotients and Jain's index of a few numbers.
 pub fn worked_numbers()
@@ -14,4 +14,9 @@ pub fn worked_above()
 /// What is done while a few commands come.
 pub fn worked_feeds()
     ensures { FeedExamples }
+{}
+
+/// Parts of the tables of an answer.
+pub fn worked_tables()
+    ensures { TextExamples }
 {}

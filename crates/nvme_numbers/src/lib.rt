@@ -16,7 +16,8 @@ mod row;
 mod sums;
 mod tally;
 
-pub use answer::{About, Answer, Member, Micros, micros_of};
+pub use answer::{About, Answer, Member, comma_before, micros};
+pub use columns::column;
 pub use finish_log::{log_header, log_line};
 pub use names::{PickingWords, class_name};
 pub use numbers::Numbers;

@@ -1,3 +1,4 @@
+pub mod Answers
 pub mod Chosen
 pub mod Examples
 pub mod Loads

@@ -1,5 +1,10 @@
 // Runs a model to its end.
-ghost use Rattle.std.specs.Prelude.{◌≡◌, IfOk, OnOk};
+ghost use Rattle.std.specs.Prelude.{◌≡◌, IfOk, None, OnOk, Option};
+ghost use Rattle.nvme_model.specs.declared.model.Model.{Model};
+ghost use Rattle.nvme_output.specs.Written.{Writes};
+ghost use Rattle.nvme_simulate.specs.Answers.{IsToldOf, answer_in, answer_with, bounded_in};
+ghost use Rattle.nvme_simulate.specs.declared.runs.Form.TheVariants as form;
+ghost use Rattle.nvme_waits.specs.declared.bounds.Bounds.{Bounds};
 ghost use Rattle.nvme_simulate.specs.Played.{AddsIf, HasRun, IsMeasured, IsPlayed, Takes, done_behind, is_over};
 ghost use Rattle.nvme_simulation.specs.Simulations.{IsSimulation};
 ghost use Rattle.nvme_simulation.specs.Stepping.{GoesOn};
@@ -13,6 +18,7 @@ use crate::streams::Streams;
 use crate::watch::Watch;
 use nvme_model::{Finished, Model};
 use nvme_numbers::{About, Answer, Member, Numbers, Row};
+use nvme_output::WriteFault;
 use nvme_simulation::{Happening, Simulation, SimulationFault};
 use nvme_version::VERSION;
 use nvme_waits::Bounds;
@@ -31,29 +37,64 @@ pub enum Form {
 }
 
 impl Form {
-    // Writes an answer so, and what is proved about waits, where that is wanted: behind the tables, or as one more key of the
-    // object. Lines of comma-separated values have no place for it.
-    fn put<W: Write>(
-        self,
-        answer: &Answer,
-        bounds: Option<&Bounds>,
-        output: &mut W,
-    ) -> Result<(), SimulateFault> {
-        let is_written = match (self, bounds) {
-            (Form::Text, None) => answer.write_text(output).is_ok(),
-            (Form::Text, Some(bounds)) => answer.write_text(output).is_ok()
-                && bounds.write_text(output).is_ok(),
-            (Form::Json, None) => answer.write_json(output).is_ok(),
-            (Form::Json, Some(bounds)) => answer.write_open_json(output).is_ok()
-                && bounds.write_json(output).is_ok(),
-            (Form::Csv, _) => answer.write_csv(output).is_ok(),
-        };
-        if is_written {
-            Ok(())
-        } else {
-            Err(SimulateFault::Write(Stream::Answer))
+    // Writes an answer so.
+    fn put<W: Write>(self, answer: &Answer, output: &mut W) -> Result<(), WriteFault>
+        ensures { Writes (W.contents output.old) (W.contents output.new) result (answer_in self answer.now) }
+    {
+        match self {
+            Form::Text => answer.write_text(output),
+            Form::Json => answer.write_json(output),
+            Form::Csv => answer.write_csv(output),
         }
     }
+
+    // Writes an answer and what is proved about waits: behind the tables, or as one more key of the object. Lines of
+    // comma-separated values have no place for it.
+    fn put_bounded<W: Write>(
+        self,
+        answer: &Answer,
+        bounds: &Bounds,
+        output: &mut W,
+    ) -> Result<(), WriteFault>
+        ensures { Writes (W.contents output.old) (W.contents output.new) result (bounded_in self answer.now bounds.now) }
+    {
+        match self {
+            Form::Text => put_tables(answer, bounds, output),
+            Form::Json => put_object(answer, bounds, output),
+            Form::Csv => answer.write_csv(output),
+        }
+    }
+
+    // Writes an answer, and what is proved about waits where that is wanted.
+    fn put_with<W: Write>(
+        self,
+        answer: &Answer,
+        bounds: &Option<Bounds>,
+        output: &mut W,
+    ) -> Result<(), WriteFault>
+        ensures { Writes (W.contents output.old) (W.contents output.new) result (answer_with self answer.now bounds.now) }
+    {
+        match bounds {
+            Some(bounds) => self.put_bounded(answer, bounds, output),
+            None => self.put(answer, output),
+        }
+    }
+}
+
+// Writes tables, and behind them what is proved about waits.
+fn put_tables<W: Write>(answer: &Answer, bounds: &Bounds, output: &mut W) -> Result<(), WriteFault>
+    ensures { Writes (W.contents output.old) (W.contents output.new) result (bounded_in form.Text answer.now bounds.now) }
+{
+    answer.write_text(output)?;
+    bounds.write_text(output)
+}
+
+// Writes an object, whose last key is what is proved about waits.
+fn put_object<W: Write>(answer: &Answer, bounds: &Bounds, output: &mut W) -> Result<(), WriteFault>
+    ensures { Writes (W.contents output.old) (W.contents output.new) result (bounded_in form.Json answer.now bounds.now) }
+{
+    answer.write_open_json(output)?;
+    bounds.write_json(output)
 }
 
 // Numbers add a command that is done, where it counts.
@@ -233,33 +274,54 @@ fn put_chart<W: Write>(
     }
 }
 
-// Runs a model to its end, and writes its picture, where one is wanted, and its answer, with its bounds where there are any.
-fn simulated<L: Write, T: Write, P: Write, W: Write, C: Write>(
+// Runs a model to its end, and writes its picture, where one is wanted.
+fn drawn<L: Write, T: Write, P: Write, C: Write>(
     alloc: Global,
     model: Model,
-    mut bounds: Option<Bounds>,
+    bounds: &mut Option<Bounds>,
+    origin: &Origin,
+    streams: &mut Streams<L, T, P>,
+    chart: &mut Option<C>,
+) -> Result<Played, SimulateFault>
+    ensures { IfOk result (λ p. IsPlayed model p.simulation p.numbers p.end) }
+{
+    let subject = Subject::of(alloc, &model)?;
+    let played = played_to_end(alloc, model, bounds, streams)?;
+    if let Some(chart) = chart {
+        put_chart(alloc, &subject, &played.numbers, origin, chart)?;
+    }
+    Ok(played)
+}
+
+// What an answer tells of its origin.
+fn about(origin: &Origin) -> About<'_> {
+    About {
+        version: VERSION,
+        digest: origin.digest.as_str(),
+        options: origin.options.as_str(),
+    }
+}
+
+// What is told of a model that ran to its end, and what is proved about its waits where that is wanted.
+fn put_played<W: Write>(
+    played: Played,
     origin: &Origin,
     form: Form,
-    streams: &mut Streams<L, T, P>,
+    bounds: &Option<Bounds>,
     output: &mut W,
-    chart: &mut Option<C>,
-) -> Result<(), SimulateFault> {
-    let subject = Subject::of(alloc, &model)?;
+) -> Result<(), SimulateFault>
+    ensures { (model : Model) → IsPlayed model played.simulation played.numbers played.end → OnOk result (IsToldOf model form bounds.now (W.contents output.old) (W.contents output.new)) }
+{
     let Played {
         simulation,
         numbers,
         end,
-    } = played_to_end(alloc, model, &mut bounds, streams)?;
-    let about = About {
-        version: VERSION,
-        digest: origin.digest.as_str(),
-        options: origin.options.as_str(),
-    };
-    if let Some(chart) = chart {
-        put_chart(alloc, &subject, &numbers, origin, chart)?;
+    } = played;
+    let answer = numbers.answer(end, simulation.channels(), about(origin))?;
+    match form.put_with(&answer, bounds, output) {
+        Ok(()) => Ok(()),
+        Err(_) => Err(SimulateFault::Write(Stream::Answer)),
     }
-    let answer = numbers.answer(end, simulation.channels(), about)?;
-    form.put(&answer, bounds.as_ref(), output)
 }
 
 /// Runs a model to its end, and writes its answer, which tells its origin. What happens is written to the streams
@@ -273,8 +335,11 @@ pub fn simulate<L: Write, T: Write, P: Write, W: Write, C: Write>(
     streams: &mut Streams<L, T, P>,
     output: &mut W,
     chart: &mut Option<C>,
-) -> Result<(), SimulateFault> {
-    simulated(alloc, model, None, origin, form, streams, output, chart)
+) -> Result<(), SimulateFault>
+    ensures { OnOk result (IsToldOf model form None (W.contents output.old) (W.contents output.new)) }
+{
+    let played = drawn(alloc, model, &mut None, origin, streams, chart)?;
+    put_played(played, origin, form, &None, output)
 }
 
 /// Does the same, and tells beside the longest waits for arbitration what is proved about them, but in comma-separated values.
@@ -286,10 +351,12 @@ pub fn simulate_bounded<L: Write, T: Write, P: Write, W: Write, C: Write>(
     streams: &mut Streams<L, T, P>,
     output: &mut W,
     chart: &mut Option<C>,
-) -> Result<(), SimulateFault> {
-    let bounds = Bounds::of(alloc, &model)?;
-    let bounds = Some(bounds);
-    simulated(alloc, model, bounds, origin, form, streams, output, chart)
+) -> Result<(), SimulateFault>
+    ensures { OnOk result ((bounds : Option Bounds) × IsToldOf model form bounds (W.contents output.old) (W.contents output.new)) }
+{
+    let mut bounds = Some(Bounds::of(alloc, &model)?);
+    let played = drawn(alloc, model, &mut bounds, origin, streams, chart)?;
+    put_played(played, origin, form, &bounds, output)
 }
 
 /// The numbers of a run.

@@ -1,5 +1,6 @@
 -- Worked examples. (profile)
-use Rattle.std.specs.Prelude.{◌≡◌, ℕ, [], ◌∷◌, Option, Some, None, Ok, Err}
+use Rattle.std.specs.Prelude.{◌≡◌, ℕ, [], ◌∷◌, Option, Some, None, Ok, Err, codes}
+use Rattle.nvme_cells.specs.Tables.{row_text}
 use Rattle.std.proofs.Common.{lit<, lit≤}
 use Rattle.nvme_channels.specs.declared.placement.Placement.{Placement}
 use Rattle.nvme_channels.specs.declared.placement.Placement.TheVariants.{Pool, Striped}
@@ -9,6 +10,8 @@ use Rattle.nvme_model.specs.declared.device.Pauses.{Pauses}
 use Rattle.nvme_waits.specs.declared.bounds.NoBound.TheVariants as reason
 use Rattle.nvme_waits.specs.Bounds.{time_of}
 use Rattle.nvme_waits.specs.Longest.{greatest_by}
+use Rattle.nvme_waits.specs.Texts.{queue_row, reason_row}
+use Rattle.nvme_arbiter.specs.declared.settings.Class.TheVariants.{Low}
 
 -- four channels and a depth of 16
 abbrev pub device : Placement → Option Pauses → Device
@@ -34,3 +37,7 @@ pub record BoundExamples : Type 0 where
   pub pausing : time_of (device Pool (Some pauses)) (Some 24) 80 ≡ Err reason.Pauses
   pub greatest : greatest_by (λ (n : ℕ). n) (3 ∷ 7 ∷ 5 ∷ []) ≡ 7
   pub greatest_of_none : greatest_by (λ (n : ℕ). n) [] ≡ 0
+
+pub record TextExamples : Type 0 where
+  pub line : row_text (queue_row 0 (record { class = Low; before = Some 24; time = Err reason.Pauses }) (Some 1_500_000)) ≡ codes "q1    low             1.500            -            24"
+  pub why : row_text (reason_row (Err reason.Pauses)) ≡ codes "  no bound: none is told of devices that pause"

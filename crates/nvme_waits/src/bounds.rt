@@ -3,6 +3,7 @@ ghost use Rattle.std.specs.Prelude.{◌≡◌, ◌≤◌, if◌then◌else◌, I
 ghost use Rattle.nvme_bounds.specs.Before.{most_before};
 ghost use Rattle.nvme_arbiter.specs.ByClass.{of_class};
 ghost use Rattle.nvme_waits.specs.Bounds.{count_in, counts_in, is_in, time_of, unbounded};
+ghost use Rattle.nvme_waits.specs.Texts.{reason_name, reason_words};
 ghost use Rattle.nvme_waits.specs.Longest.{longest_drawn, longest_drawn_of, longest_in, longest_listed, longest_of, share_of};
 
 use crate::texts::{put_key, put_table};
@@ -12,7 +13,7 @@ use nvme_bounds::{Queues, time_behind};
 use nvme_channels::Placement;
 use nvme_load::{Arrivals, Operation, Request, Services};
 use nvme_model::{Device, Finished, Model, Queue};
-use nvme_numbers::WriteFault;
+use nvme_output::WriteFault;
 use std::alloc::{AllocError, Global};
 use std::io::Write;
 
@@ -32,7 +33,9 @@ pub enum NoBound {
 
 impl NoBound {
     /// Its name for tools.
-    pub(crate) fn name(&self) -> &'static str {
+    pub(crate) fn name(&self) -> &'static str
+        ensures { result.now ≡ reason_name self.now }
+    {
         match self {
             NoBound::Urgent => "urgent",
             NoBound::Striped => "striped",
@@ -41,7 +44,9 @@ impl NoBound {
     }
 
     /// The same for people.
-    pub(crate) fn words(&self) -> &'static str {
+    pub(crate) fn words(&self) -> &'static str
+        ensures { result.now ≡ reason_words self.now }
+    {
         match self {
             NoBound::Urgent => "urgent commands may come without end",
             NoBound::Striped => "none is told of striped devices",
@@ -215,6 +220,8 @@ fn bound_of(all: &Queues, device: &Device, service: u64, class: Class) -> Bound
 impl Bounds {
     ghost use Rattle.nvme_waits.specs.Bounds.{bound_of, waits_in};
     ghost use Rattle.nvme_waits.specs.Longest.{longest_of};
+    ghost use Rattle.nvme_output.specs.Written.{Writes};
+    ghost use Rattle.nvme_waits.specs.Texts.{bounds_json, bounds_text};
     ghost use Rattle.nvme_waits.specs.Waits.{Ends, HasNoWait, Picks, longest_seen};
 
     /// Those of a model, of which no wait was seen.
@@ -267,19 +274,17 @@ impl Bounds {
 
     /// Writes a table for people: for each queue the longest wait, its bound, and how many commands come before one at most.
     /// Times are in microseconds. `WriteFault` where a write failed.
-    pub fn write_text<W: Write>(&self, writer: &mut W) -> Result<(), WriteFault> {
-        match put_table(self, writer) {
-            Ok(()) => Ok(()),
-            Err(_) => Err(WriteFault),
-        }
+    pub fn write_text<W: Write>(&self, writer: &mut W) -> Result<(), WriteFault>
+        ensures { Writes (W.contents writer.old) (W.contents writer.new) result (bounds_text self.now) }
+    {
+        put_table(self, writer)
     }
 
     /// Writes the same as a key of an object that is still open, and ends the object and the line. `WriteFault` where a write
     /// failed.
-    pub fn write_json<W: Write>(&self, writer: &mut W) -> Result<(), WriteFault> {
-        match put_key(self, writer) {
-            Ok(()) => Ok(()),
-            Err(_) => Err(WriteFault),
-        }
+    pub fn write_json<W: Write>(&self, writer: &mut W) -> Result<(), WriteFault>
+        ensures { Writes (W.contents writer.old) (W.contents writer.new) result (bounds_json self.now) }
+    {
+        put_key(self, writer)
     }
 }

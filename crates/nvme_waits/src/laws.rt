@@ -1,5 +1,5 @@
 //! Laws over the definitions alone. Each function does nothing: its contract is the law.
-ghost use Rattle.nvme_waits.specs.Examples.{BoundExamples};
+ghost use Rattle.nvme_waits.specs.Examples.{BoundExamples, TextExamples};
 ghost use Rattle.nvme_waits.specs.Laws.{NoneTakesLonger};
 
 /// No command that may come takes longer than the longest service that `Bounds::of` tells.
@@ -10,4 +10,9 @@ pub fn none_takes_longer()
 /// Bounds in time, worked by hand.
 pub fn worked_bounds()
     ensures { BoundExamples }
+{}
+
+/// A line of the table, and why there is no bound.
+pub fn worked_texts()
+    ensures { TextExamples }
 {}

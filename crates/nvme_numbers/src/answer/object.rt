@@ -6,6 +6,7 @@ ghost use Rattle.nvme_arbiter.specs.Settings.{burst_of};
 ghost use Rattle.nvme_numbers.specs.Objects.{about_text, all_text, answer_json, answer_open_json, channel_count, channel_object, channels_text, class_column, class_object, classes_text, comma_before, device_text, devices, every_of, fairness_text, form, length_of, listed, numbers, pickings, queue_object, queues_text, sources, stripe_of, times, utilization_text};
 ghost use Rattle.nvme_output.specs.Written.{Writes};
 
+use super::wording::comma_before;
 use super::{Answer, Member};
 use crate::columns::{aboves, column, commands, feeds, latencies, parts, rates};
 use crate::names::{class_name, mechanism_name};
@@ -152,13 +153,6 @@ fn put_device<W: Write>(device: &Device, writer: &mut W) -> Result<(), WriteFaul
 {
     let channels = channel_count(device);
     put_object(",\"device\":", &channels, &[&devices(device)], writer)
-}
-
-// What stands before the element of a list at a place.
-fn comma_before(place: usize) -> &'static str
-    ensures { result.now ≡ comma_before place }
-{
-    if place == 0 { "" } else { "," }
 }
 
 // Writes a channel behind what stands before it.

@@ -1,38 +1,29 @@
-// Numbers as texts.
+// Times in microseconds, and commas.
 ghost use Rattle.std.specs.Prelude.{◌≡◌};
-ghost use Rattle.nvme_numbers.specs.Texts.{micros_of};
+ghost use Rattle.nvme_cells.specs.Values.{value_of};
+ghost use Rattle.nvme_numbers.specs.Objects.{comma_before};
+ghost use Rattle.nvme_numbers.specs.Quotients.{rounded};
+ghost use Rattle.nvme_numbers.specs.Tables.{micros};
 
-use std::io::{self, Write};
+use nvme_cells::{Cell, Places};
 
-/// A time in microseconds with three digits behind the point, rounded.
-#[derive(Clone, Copy)]
-pub struct Micros {
-    pub whole: u128,
-    pub part: u128,
-}
-
-/// A time in picoseconds as microseconds.
-pub fn micros_of(time: u128) -> Micros
-    ensures { result ≡ micros_of time }
+// Picoseconds as nanoseconds.
+fn nanos_of(time: u128) -> u128
+    ensures { result ≡ rounded time 1_000 }
 {
-    let nanos = time / 1_000 + (time % 1_000 + 500) / 1_000;
-    Micros {
-        whole: nanos / 1_000,
-        part: nanos % 1_000,
-    }
+    time / 1_000 + (time % 1_000 + 500) / 1_000
 }
 
-/// Writes a time in microseconds.
-pub fn put_micros<W: Write>(time: u128, writer: &mut W) -> io::Result<()> {
-    let Micros { whole, part } = micros_of(time);
-    write!(writer, "{whole}.{part:03}")
+/// A time in picoseconds as microseconds with three digits behind the point, rounded.
+pub fn micros<'a>(time: u128) -> Cell<'a>
+    ensures { value_of result ≡ micros time }
+{
+    Cell::Decimal(nanos_of(time), Places::Three)
 }
 
-/// Writes an index in ten thousandths, or what stands for none.
-pub fn put_index<W: Write>(index: Option<u128>, none: &str, writer: &mut W) -> io::Result<()> {
-    let Some(index) = index else {
-        return writer.write_all(none.as_bytes());
-    };
-    let (whole, part) = (index / 10_000, index % 10_000);
-    write!(writer, "{whole}.{part:04}")
+/// What stands before the element of a list at a place.
+pub fn comma_before(place: usize) -> &'static str
+    ensures { result.now ≡ comma_before place }
+{
+    if place == 0 { "" } else { "," }
 }
