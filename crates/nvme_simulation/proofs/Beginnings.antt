@@ -1,8 +1,8 @@
 -- The hosts of queues.
-use Rattle.std.proofs.Common.{◌≡◌, ◌∙◌, ◌<◌, ◌≤◌, ℕ, ◌+◌, ◌%◌, List, [], ◌∷◌, ◌++◌, length, map, get_or, All, Option, Some, None, option_map, refl, sym, ap, subst, arith, inl, inr}
-use Rattle.std.specs.Prelude.{IfSome, slice_get, slice_set}
+use Rattle.std.proofs.Common.{◌≡◌, ◌∙◌, ◌<◌, ◌≤◌, ℕ, ◌+◌, ◌%◌, Bool, true, not, List, [], ◌∷◌, ◌++◌, length, map, get_or, All, Option, Some, None, option_map, refl, sym, ap, subst, arith, inl, inr}
+use Rattle.std.specs.Prelude.{IfSome, is_some, slice_get, slice_set}
 use Rattle.std.proofs.Math.Seq.{map-set_same}
-use Rattle.std.proofs.lemmas.Bool.{cases_eq, cases_lt}
+use Rattle.std.proofs.lemmas.Bool.{cases_eq, cases_lt, true≢false}
 use Rattle.std.proofs.lemmas.List.{append_assoc, append-nil, length-map, map-append}
 use Rattle.std.proofs.lemmas.List.Elements.{All-push, All-set}
 use Rattle.std.proofs.lemmas.Option.{get_or_from_slice_get, slice_get-map, slice_get_past, slice_get_within}
@@ -11,7 +11,7 @@ use Rattle.nvme_arbiter.specs.declared.settings.Class.{Class}
 use Rattle.nvme_clock.specs.Held.{Held}
 use Rattle.nvme_model.specs.declared.queue.Queue.{Queue}
 use Rattle.nvme_simulation.specs.Asking.{Asking, asking_of}
-use Rattle.nvme_simulation.specs.Beginnings.{DrawAsking, DrawTheirStreams, HasAskingStreams, HasStreams, IsUnused, Shows, ShowsAll, ShowsQueues, StayUnused, qid_at}
+use Rattle.nvme_simulation.specs.Beginnings.{DrawAsking, DrawTheirStreams, HasAskingStreams, HasStreams, IsUnused, Shows, ShowsAll, ShowsNone, ShowsQueues, StayUnused, qid_at}
 use Rattle.nvme_simulation.specs.First.{BeginsQueues}
 use Rattle.nvme_simulation.specs.Loads.{Load, load_in, load_of}
 use Rattle.nvme_simulation.specs.Stages.{none_came}
@@ -130,10 +130,11 @@ draw_asking seed before after asking few draw k = at (slice_get after k) refl wh
       of w (slice_get before k) l refl there
 
 -- there are as many hosts as queues
+pub as_many : (queues : List Queue) (hosts : List Host) → map load_of hosts ≡ map load_in queues → length hosts ≡ length queues
+as_many queues hosts loads = sym (length-map hosts load_of) ∙ ap (λ (ls : List Load). length ls) loads ∙ length-map queues load_in
+
 pub few_hosts : (queues : List Queue) (hosts : List Host) (n : ℕ) → map load_of hosts ≡ map load_in queues → length queues ≤ n → length hosts ≤ n
-few_hosts queues hosts n loads few =
-    let same : length hosts ≡ length queues = sym (length-map hosts load_of) ∙ ap (λ (ls : List Load). length ls) loads ∙ length-map queues load_in in
-    omega (arith, same, few)
+few_hosts queues hosts n loads few = let same = as_many queues hosts loads in omega (arith, same, few)
 
 -- the streams of a model's hosts
 pub model_streams : (seed : ℕ) (hosts : List Host) → length hosts ≤ 64 → DrawTheirStreams seed hosts → (k : ℕ) → IfSome (slice_get hosts k) (HasStreams seed (k + 1))
@@ -175,3 +176,15 @@ unused_self hs = record { asking = refl; loads = refl; none = λ unused. unused 
 pub unused_then : (a b c : Hosts) → StayUnused a b → StayUnused b c → StayUnused a c
 unused_then a b c first second =
     record { asking = second.asking ∙ first.asking; loads = second.loads ∙ first.loads; none = λ unused. second.none (first.none unused) }
+
+-- what holds of so many identifiers holds of one more
+pub left_out_more : (front : Front) (count n : ℕ) → ((k : ℕ) → k < n → count < k → ShowsNone front k) → (count < n → ShowsNone front n)
+    → (k : ℕ) → k < n + 1 → count < k → ShowsNone front k
+left_out_more front count n before is k l = elim (cases_eq k n) [
+  | inl same ↦ subst (λ (m : ℕ). count < m → ShowsNone front m) (sym same) is
+  | inr other ↦ before k (omega (arith, l, other))
+]
+
+pub none_is : {X : Type 0} (o : Option X) (b : Bool) → is_some o ≡ not b → b ≡ true → o ≡ None
+none_is None b told is = refl
+none_is (Some x) b told is = absurd (true≢false (told ∙ ap not is))

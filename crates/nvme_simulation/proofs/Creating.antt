@@ -1,7 +1,7 @@
 -- Admin commands that were done.
 use Rattle.std.proofs.Common.{◌≡◌, ◌≢◌, ◌∙◌, ◌<◌, ◌≤◌, ℕ, ◌+◌, ◌*◌, ◌/◌, ◌%◌, ◌==◌, ◌&&◌, if◌then◌else◌, Bool, true, false, All, List, [], ◌∷◌, ◌++◌, length, map, get_or, Option, Some, None, refl, sym, ap, subst, arith, inl, inr}
 use Rattle.std.specs.Prelude.{IfSome, slice_get}
-use Rattle.std.proofs.lemmas.Bool.{cases_Bool, cases_eq}
+use Rattle.std.proofs.lemmas.Bool.{cases_Bool}
 use Rattle.std.proofs.lemmas.Bool.Decides.{nat_tests}
 use Rattle.std.proofs.lemmas.List.{append_assoc, append-nil, length-append, length-map, map-append}
 use Rattle.std.proofs.lemmas.List.Elements.{All-push}
@@ -13,6 +13,7 @@ use Rattle.nvme_admin.specs.declared.effect.Effect.{Effect}
 use Rattle.nvme_admin.specs.declared.effect.Effect.TheVariants as effect
 use Rattle.nvme_admin.specs.declared.verdict.Verdict.{Verdict}
 use Rattle.nvme_admin.specs.declared.verdict.Verdict.TheVariants as verdict
+use Rattle.nvme_arbiter.specs.History.{History, settings_after}
 use Rattle.nvme_arbiter.specs.Settings.{ArbitrationFields}
 use Rattle.nvme_arbiter.specs.declared.pick.Pick.{Pick}
 use Rattle.nvme_arbiter.specs.declared.settings.Class.{Class}
@@ -31,14 +32,14 @@ use Rattle.nvme_entry.specs.declared.admin.AdminCommand.TheVariants as command
 use Rattle.nvme_entry.specs.declared.completion.Cqe.{Cqe}
 use Rattle.nvme_entry.specs.declared.submission.Sqe.{Sqe}
 use Rattle.nvme_log.specs.Answers.{Answer}
+use Rattle.nvme_log.specs.Histories.{arbitration_of}
 use Rattle.nvme_log.specs.Places.{entry_at, fetched}
 use Rattle.nvme_log.specs.Rules.{FrontRules, Past}
 use Rattle.nvme_log.specs.declared.event.Event.{Event}
 use Rattle.nvme_log.specs.declared.event.Event.TheVariants as event
 use Rattle.nvme_placing.specs.Telling.{IsToldBy, unplaced_verdict}
 use Rattle.nvme_simulation.specs.Creating.{Does, HasDone, KeepsDone, StandsAfter, WasDone, creates_from, creates_of, opens}
-use Rattle.nvme_simulation.specs.Fronts.{IsFrontOf}
-use Rattle.nvme_simulation.specs.Loads.{Load, load_in, load_of}
+use Rattle.nvme_simulation.specs.Loads.{Load, load_of}
 use Rattle.nvme_simulation.specs.declared.front.Front.{Front}
 use Rattle.nvme_simulation.specs.declared.host.Host.{Host}
 use Rattle.nvme_slots.specs.declared.slot.Slot.{Slot}
@@ -76,14 +77,16 @@ fetch_done r i cookie entry notes c d = record {
 
 pub noted : (mechanism : Mechanism) (settings : ArbitrationFields) (done : List AdminCommand) (before after : Controller) (old slots : List Slot)
     (a : StandsAfter mechanism settings done before old) (notes : Notes) → Stands a.rules a.late notes after slots
-    → ((c : AdminCommand) → WasDone a.notes c → WasDone notes c) → StandsAfter mechanism settings done after slots
-noted mechanism settings done before after old slots a notes stands keeps = record {
+    → arbitration_of (logged notes) ≡ arbitration_of (logged a.notes) → ((c : AdminCommand) → WasDone a.notes c → WasDone notes c) → StandsAfter mechanism settings done after slots
+noted mechanism settings done before after old slots a notes stands same keeps = record {
   rules = a.rules;
   late = a.late;
   notes = notes;
   stands = stands;
+  in_time = a.in_time;
   mechanism_is = a.mechanism_is;
   settings_are = a.settings_are;
+  in_force = ap (λ (past : History). settings_after a.rules.start.settings past) same ∙ a.in_force;
   done = λ i d l. keeps (get_or done i d) (a.done i d l);
 }
 
@@ -165,10 +168,11 @@ made_new index e notes pick entry same there =
     }
 
 opened : (mechanism : Mechanism) (settings : ArbitrationFields) (done : List AdminCommand) (rules : FrontRules) (late : Bool) (notes : Notes) (pick : Pick) (index : ℕ)
-    (e : Event) (entry : Sqe) (c : Controller) (slots : List Slot) → ((past : Past) → fetched (e ∷ past) 0 ≡ fetched past 0) → rules.mechanism ≡ mechanism
-    → rules.start.settings ≡ settings → All (WasDone notes) done → entry_at (logged notes) 0 index ≡ Some entry → (answer : Option Answer) → answer ≡ Some ok
+    (e : Event) (entry : Sqe) (c : Controller) (slots : List Slot) → ((past : Past) → fetched (e ∷ past) 0 ≡ fetched past 0)
+    → ((past : Past) → arbitration_of (e ∷ past) ≡ arbitration_of past) → late ≡ false → rules.mechanism ≡ mechanism → rules.start.settings ≡ settings
+    → settings_after rules.start.settings (arbitration_of (logged notes)) ≡ settings → All (WasDone notes) done → entry_at (logged notes) 0 index ≡ Some entry → (answer : Option Answer) → answer ≡ Some ok
     → Stands rules late (with_answer index answer (Logged e ∷ picked_notes notes pick)) c slots → StandsAfter mechanism settings (done ++ admin_command_of entry ∷ []) c slots
-opened mechanism settings done rules late notes pick index e entry c slots same mechanism_is settings_are all there answer is stands =
+opened mechanism settings done rules late notes pick index e entry c slots same quiet in_time mechanism_is settings_are in_force all there answer is stands =
     let after : Notes = answered_by index e notes pick in
     let kept : All (WasDone after) done = λ i d l. made_more index e notes pick same (get_or done i d) (all i d l) in
     record {
@@ -176,47 +180,39 @@ opened mechanism settings done rules late notes pick index e entry c slots same 
       late = late;
       notes = after;
       stands = subst (λ (a : Option Answer). Stands rules late (with_answer index a (Logged e ∷ picked_notes notes pick)) c slots) is stands;
+      in_time = in_time;
       mechanism_is = mechanism_is;
       settings_are = settings_are;
+      in_force = ap (λ (past : History). settings_after rules.start.settings past) (quiet (logged (picked_notes notes pick))) ∙ in_force;
       done = All-push (WasDone after) done (admin_command_of entry) kept (made_new index e notes pick entry same there);
     }
 
 carried : (mechanism : Mechanism) (settings : ArbitrationFields) (done : List AdminCommand) (rules : FrontRules) (late : Bool) (notes : Notes) (v : Verdict) (entry : Sqe)
-    (c : Controller) (slots : List Slot) → makes v ≡ true → rules.mechanism ≡ mechanism → rules.start.settings ≡ settings → All (WasDone notes) done
-    → (h : HasCarriedOut rules late notes v c slots) → entry_at (logged notes) 0 h.index ≡ Some entry
+    (c : Controller) (slots : List Slot) → makes v ≡ true → late ≡ false → rules.mechanism ≡ mechanism → rules.start.settings ≡ settings
+    → settings_after rules.start.settings (arbitration_of (logged notes)) ≡ settings → All (WasDone notes) done → (h : HasCarriedOut rules late notes v c slots) → entry_at (logged notes) 0 h.index ≡ Some entry
     → StandsAfter mechanism settings (done ++ admin_command_of entry ∷ []) c slots
-carried mechanism settings done rules late notes (verdict.OpenCq q r) entry c slots is mechanism_is settings_are all h there =
-    opened mechanism settings done rules late notes h.pick h.index (event.OpenCq q r) entry c slots (λ past. refl) mechanism_is settings_are all there h.answer h.answered h.stands
-carried mechanism settings done rules late notes (verdict.OpenSq q r cq class) entry c slots is mechanism_is settings_are all h there =
-    opened mechanism settings done rules late notes h.pick h.index (event.OpenSq q r cq class) entry c slots (λ past. refl) mechanism_is settings_are all there h.answer
+carried mechanism settings done rules late notes (verdict.OpenCq q r) entry c slots is in_time mechanism_is settings_are in_force all h there =
+    opened mechanism settings done rules late notes h.pick h.index (event.OpenCq q r) entry c slots (λ past. refl) (λ past. refl) in_time mechanism_is settings_are in_force all there h.answer h.answered h.stands
+carried mechanism settings done rules late notes (verdict.OpenSq q r cq class) entry c slots is in_time mechanism_is settings_are in_force all h there =
+    opened mechanism settings done rules late notes h.pick h.index (event.OpenSq q r cq class) entry c slots (λ past. refl) (λ past. refl) in_time mechanism_is settings_are in_force all there h.answer
     h.answered h.stands
-carried mechanism settings done rules late notes (verdict.Done status dw0) entry c slots is mechanism_is settings_are all h there = absurd (cc is)
-carried mechanism settings done rules late notes (verdict.BeginDelete q) entry c slots is mechanism_is settings_are all h there = absurd (cc is)
-carried mechanism settings done rules late notes (verdict.CloseCq q) entry c slots is mechanism_is settings_are all h there = absurd (cc is)
-carried mechanism settings done rules late notes (verdict.Abort q cid) entry c slots is mechanism_is settings_are all h there = absurd (cc is)
-carried mechanism settings done rules late notes (verdict.SetArbitration set) entry c slots is mechanism_is settings_are all h there = absurd (cc is)
+carried mechanism settings done rules late notes (verdict.Done status dw0) entry c slots is in_time mechanism_is settings_are in_force all h there = absurd (cc is)
+carried mechanism settings done rules late notes (verdict.BeginDelete q) entry c slots is in_time mechanism_is settings_are in_force all h there = absurd (cc is)
+carried mechanism settings done rules late notes (verdict.CloseCq q) entry c slots is in_time mechanism_is settings_are in_force all h there = absurd (cc is)
+carried mechanism settings done rules late notes (verdict.Abort q cid) entry c slots is in_time mechanism_is settings_are in_force all h there = absurd (cc is)
+carried mechanism settings done rules late notes (verdict.SetArbitration set) entry c slots is in_time mechanism_is settings_are in_force all h there = absurd (cc is)
 
 -- a Create that is picked
 pub made : (mechanism : Mechanism) (settings : ArbitrationFields) (done : List AdminCommand) (before after : Controller) (old slots : List Slot)
     (a : StandsAfter mechanism settings done before old) (e : Effect) (entry : Sqe) → opens e ≡ true → HasMade a.rules a.late a.notes e entry after slots
     → StandsAfter mechanism settings (done ++ admin_command_of entry ∷ []) after slots
 made mechanism settings done before after old slots a e entry is h =
+    let first : (placed h.verdict entry a.rules).start.settings ≡ a.rules.start.settings = placed_settings (placing_in a.rules) h.verdict entry a.rules in
     carried mechanism settings done (placed h.verdict entry a.rules) a.late a.notes h.verdict entry after slots (told_makes (placing_in a.rules) e h.verdict h.told is)
-    (placed_mechanism (placing_in a.rules) h.verdict entry a.rules ∙ a.mechanism_is) (placed_settings (placing_in a.rules) h.verdict entry a.rules ∙ a.settings_are) a.done
-    h.carried_out h.its_entry
+    a.in_time (placed_mechanism (placing_in a.rules) h.verdict entry a.rules ∙ a.mechanism_is) (first ∙ a.settings_are)
+    (ap (λ (x : ArbitrationFields). settings_after x (arbitration_of (logged a.notes))) first ∙ a.in_force) a.done h.carried_out h.its_entry
 
 -- controllers
-pub none_done : (mechanism : Mechanism) (settings : ArbitrationFields) (f : Front) → IsFrontOf mechanism settings f → HasDone mechanism settings [] f
-none_done mechanism settings f is = record {
-  rules = is.rules;
-  late = is.late;
-  notes = is.notes;
-  stands = is.stands;
-  mechanism_is = is.mechanism_is;
-  settings_are = is.settings_are;
-  done = λ i d l. absurd (omega (arith, l));
-}
-
 pub keeps_self : (f : Front) → KeepsDone f f
 keeps_self f m s done h = h
 

@@ -12,7 +12,6 @@ use Rattle.nvme_simulation.specs.Pausing.{GoesOn, PausesFor}
 use Rattle.nvme_simulation.specs.Plans.{events_of}
 use Rattle.nvme_simulation.specs.Progress.{AllGoOn, OneComes}
 use Rattle.nvme_simulation.specs.Quiet.{GoesFront}
-use Rattle.nvme_simulation.specs.Resting.{AllRest}
 use Rattle.nvme_simulation.specs.Starts.{AnswersAs, PlansEnd, StartsOn, started_in}
 use Rattle.nvme_simulation.specs.Steps.{cost_at}
 use Rattle.nvme_simulation.specs.Times.{now_of}

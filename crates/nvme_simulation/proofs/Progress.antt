@@ -166,6 +166,7 @@ ended number at now flight before after m = record {
   found = m.found;
   gone = gone_one now m.old flight (ended_at at now m.old flight m.stood m.gone);
   done = m.stage;
+  here = becomes_kept now (Some flight) (flight_at after number) m.here;
   times = λ n other. becomes_kept now (flight_at before n) (flight_at after n) (m.there n other);
 }
 
@@ -210,6 +211,7 @@ ends_after number now flight a b c first e =
       found = it.is;
       gone = gone_then now it.before e.old flight it.gone e.gone;
       done = e.done;
+      here = e.here;
       times = λ n other. becomes_then now (flight_at a n) (flight_at b n) (flight_at c n) (first.times n) (e.times n other);
     }
 
@@ -223,6 +225,7 @@ ends_before number now flight a b c e second = record {
   found = e.found;
   gone = e.gone;
   done = e.done;
+  here = becomes_then now (Some flight) (flight_at b number) (flight_at c number) e.here (second.times number);
   times = λ n other. becomes_then now (flight_at a n) (flight_at b n) (flight_at c n) (e.times n other) (second.times n);
 }
 

@@ -1,12 +1,14 @@
 -- Controllers that note nothing that arbitration goes by.
-use Rattle.std.proofs.Common.{◌≡◌, ◌∙◌, ◌++◌, ◌∷◌, [], ℕ, Bool, true, List, Option, Some, None, refl, sym, subst}
+use Rattle.std.proofs.Common.{◌≡◌, ◌≢◌, ◌∙◌, ◌++◌, ◌∷◌, [], ℕ, Bool, true, nat_lt, List, Option, Some, None, refl, sym, subst, arith}
 use Rattle.std.specs.Prelude.{IfSome}
+use Rattle.std.proofs.lemmas.Bool.{lt-ltb}
 use Rattle.std.proofs.lemmas.List.{append_assoc}
 use Rattle.std.proofs.lemmas.List.Elements.{All-append, All-cons, All-nil}
+use Rattle.nvme_log.specs.Queues.{Queue, open_sq}
 use Rattle.nvme_log.specs.Rules.{FrontRules}
 use Rattle.nvme_log.specs.Answers.{Answer}
 use Rattle.nvme_entry.specs.declared.submission.Sqe.{Sqe}
-use Rattle.nvme_ctrl_log.specs.Notes.{Note, Notes}
+use Rattle.nvme_ctrl_log.specs.Notes.{Note, Notes, logged}
 use Rattle.nvme_ctrl_log.specs.declared.status_flags.StatusFlags.{StatusFlags}
 use Rattle.nvme_ctrl.specs.Calls.{HasAnswered, HasFetched}
 use Rattle.nvme_ctrl.specs.Standing.{Stands}
@@ -53,12 +55,27 @@ pub behind_told : {R : Type 0} (rules : FrontRules) (late : Bool) (notes : Notes
 behind_told rules late notes before after old slots P None same h f s = behind_same rules late notes before after old slots (same refl) s
 behind_told rules late notes before after old slots P (Some x) same h f s = f x h
 
-pub behind_fetch : (rules : FrontRules) (late : Bool) (notes : Notes) (c : Controller) (slots : List Slot) (qid : ℕ) (entry : Sqe) (cookie : ℕ)
+-- another open queue than the admin queue is on another region
+pub io_region : (rules : FrontRules) (late : Bool) (notes : Notes) (c : Controller) (slots : List Slot) (qid : ℕ) (queue : Queue) → Stands rules late notes c slots
+    → open_sq (logged notes) qid ≡ Some queue → qid ≢ 0 → queue.region ≢ 0
+io_region rules late notes c slots qid queue s is io zero =
+    let ids = s.numbers.sqs.ids in
+    let its : s.content.sq_id queue.region ≡ Some qid = ids.ids_are qid queue.region (s.holds.lives.sqs qid queue is) in
+    let admin : s.content.sq_id 0 ≡ Some 0 = ids.ids_are 0 0 ids.admin in
+    io (cc (its, admin, zero))
+
+some_is : (r : ℕ) → r ≢ 0 → nat_lt 0 r ≡ true
+some_is r other = lt-ltb 0 r (omega (arith, other))
+
+-- a command that is read of another queue than the admin queue
+pub behind_fetch : (rules : FrontRules) (late : Bool) (notes : Notes) (c : Controller) (slots : List Slot) (qid : ℕ) (entry : Sqe) (cookie : ℕ) → qid ≢ 0
     → HasFetched rules late notes qid entry cookie c slots → StandsBehind rules late notes c slots
-behind_fetch rules late notes c slots qid entry cookie h =
+behind_fetch rules late notes c slots qid entry cookie io h =
     let first = behind_one rules late _ c slots _ refl h.stands in
+    let other : h.may.queue.region ≢ 0 = io_region rules late _ c slots qid h.may.queue h.stands h.may.is_open io in
     behind_more rules late notes c slots (_ ∷ [])
-    (All-cons (λ (note : Note). is_quiet note ≡ true) _ [] refl (All-nil (λ (note : Note). is_quiet note ≡ true))) first
+    (All-cons (λ (note : Note). is_quiet note ≡ true) _ [] (some_is h.may.queue.region other)
+    (All-nil (λ (note : Note). is_quiet note ≡ true))) first
 
 pub behind_answer : (rules : FrontRules) (late : Bool) (notes : Notes) (c : Controller) (slots : List Slot) (tag : ℕ) (answer : Answer) (flags : StatusFlags)
     → HasAnswered rules late notes tag answer flags c slots → StandsBehind rules late notes c slots

@@ -1,5 +1,5 @@
 -- Commands that wait for a slot of the ring.
-use Rattle.std.proofs.Common.{◌≡◌, ◌≢◌, ◌∙◌, ◌<◌, ◌≤◌, ℕ, zero, suc, ◌+◌, ◌-◌, Bool, true, false, cond, not, nat_le, nat_lt, List, [], ◌∷◌, length, Option, Some, None, option_map, refl, sym, ap, subst, arith, inl, inr}
+use Rattle.std.proofs.Common.{◌≡◌, ◌≢◌, ◌∙◌, ◌<◌, ◌≤◌, ℕ, suc, ◌+◌, ◌-◌, Bool, true, false, cond, not, nat_le, nat_lt, List, [], ◌∷◌, length, Option, Some, None, option_map, refl, sym, ap, arith, inl, inr}
 use Rattle.std.specs.Prelude.{count_by, slice_get, slice_set, unwrap_or}
 use Rattle.std.proofs.lemmas.Bool.{cases_eq, cases_lt}
 use Rattle.std.proofs.lemmas.Bool.Decides.{nat_tests}

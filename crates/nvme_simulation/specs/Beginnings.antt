@@ -1,6 +1,8 @@
 -- How a simulation begins. (profile)
-use Rattle.std.specs.Prelude.{◌≡◌, ℕ, ◌+◌, ◌%◌, Bool, false, List, None, Some, IfSome, length, map, replicate, slice_get, All}
+use Rattle.std.specs.Prelude.{◌≡◌, ◌<◌, ℕ, ◌+◌, ◌%◌, Bool, false, List, None, Some, IfSome, length, map, replicate, slice_get, All}
+use Rattle.nvme_arbiter.specs.Limits.{queue_limit}
 use Rattle.nvme_arbiter.specs.declared.settings.Class.{Class}
+use Rattle.nvme_arbiter.specs.declared.settings.Class.TheVariants.{Admin}
 use Rattle.nvme_channels.specs.Devices.{new_device}
 use Rattle.nvme_clock.specs.Held.{Held, nothing}
 use Rattle.nvme_clock.specs.Streams.{stream_state}
@@ -74,6 +76,15 @@ ShowsAll front hosts = (k : ℕ) → IfSome (slice_get hosts k) (λ h. Shows fro
 abbrev pub ShowsQueues : Front → List Queue → Type 0
 ShowsQueues front queues = (k : ℕ) → IfSome (slice_get queues k) (λ q. Shows front (k + 1) q.class)
 
+-- the controller shows arbitration no queue of an identifier
+abbrev pub ShowsNone : Front → (qid : ℕ) → Type 0
+ShowsNone front qid = (rules : FrontRules) (late : Bool) (notes : Notes) → StandsBy rules late notes front → seen_in notes qid ≡ None
+
+-- beside so many I/O queues it shows the admin queue, with no command that waits, and no other one
+pub record ShowsNoOther (front : Front) (count : ℕ) : Type 0 where
+  pub admin : Shows front 0 Admin
+  pub none : (qid : ℕ) → count < qid → qid < queue_limit → ShowsNone front qid
+
 -- hosts do what they did and draw for no command, and to no more of them a command came
 pub record StayUnused (before after : Hosts) : Type 0 where
   pub asking : map asking_of after.all.items ≡ map asking_of before.all.items
@@ -91,13 +102,14 @@ pub record IsBegun (model : Model) (s : Simulation) : Type 0 where
   pub pauses : BeginsPauses model.device.pauses model.device.channels events (events_of s.machine.agenda)
 
 -- a simulation of a model, at time 0: its controller arbitrates by the model's mechanism and settings and has its queues, each in its class, which it made by the Creates of the
--- model's queues, with their slots, one after another: it answered each with success. Its device is the model's, where nothing runs, and its hosts are those of the model's queues, which draw from the streams of seed and queue
+-- model's queues, with their slots, one after another: it answered each with success. It shows arbitration no other I/O queue. Its device is the model's, where nothing runs, and its hosts are those of the model's queues, which draw from the streams of seed and queue
 pub record IsNewOf (model : Model) (s : Simulation) : Type 0 where
   pub front : IsFrontOf model.mechanism model.settings s.machine.front
   pub depths : HasDepths s.machine.front
   pub device : device_in s.machine.device ≡ new_device model.device.placement model.device.depth model.device.channels
   pub started : started_in s.machine.device ≡ replicate model.device.channels None
   pub queues : ShowsQueues s.machine.front model.queues.items
+  pub alone : ShowsNoOther s.machine.front (length model.queues.items)
   pub creates : HasDone model.mechanism model.settings (creates_from 1 (map load_in model.queues.items)) s.machine.front
   pub hosts : AreHostsOf model.queues.items s.machine.hosts.all.items
   pub streams : DrawAsking model.seed s.machine.hosts.all.items

@@ -2,6 +2,7 @@
 use Rattle.std.specs.Prelude.{◌≡◌, ℕ, ◌+◌, ◌-◌, ◌*◌, Bool, true, false, All, List, [], ◌∷◌, ◌++◌, Some}
 use Rattle.nvme_admin.specs.declared.effect.Effect.{Effect}
 use Rattle.nvme_admin.specs.declared.effect.Effect.TheVariants.{OpenCq, OpenSq}
+use Rattle.nvme_arbiter.specs.History.{settings_after}
 use Rattle.nvme_arbiter.specs.Settings.{ArbitrationFields}
 use Rattle.nvme_arbiter.specs.declared.settings.Class.{Class}
 use Rattle.nvme_arbiter.specs.declared.settings.Mechanism.{Mechanism}
@@ -14,6 +15,7 @@ use Rattle.nvme_entry.specs.Status.{success}
 use Rattle.nvme_entry.specs.declared.admin.AdminCommand.{AdminCommand}
 use Rattle.nvme_entry.specs.declared.admin.AdminCommand.TheVariants.{CreateCq, CreateSq}
 use Rattle.nvme_entry.specs.declared.submission.Sqe.{Sqe}
+use Rattle.nvme_log.specs.Histories.{arbitration_of}
 use Rattle.nvme_log.specs.Places.{entry_at}
 use Rattle.nvme_log.specs.Rules.{FrontRules}
 use Rattle.nvme_simulation.specs.Entries.{priority_of}
@@ -29,14 +31,16 @@ pub record WasDone (notes : Notes) (command : AdminCommand) : Type 0 where
   pub is : admin_command_of entry ≡ command
   pub answered : answer_of notes 0 index ≡ Some (record { status = success; dw0 = 0 })
 
--- a controller stands at notes of such commands, and arbitrates by this mechanism with these first settings
+-- a controller stands at notes of such commands, and arbitrates by this mechanism with these settings, which are still in force
 pub record StandsAfter (mechanism : Mechanism) (settings : ArbitrationFields) (commands : List AdminCommand) (c : Controller) (slots : List Slot) : Type 0 where
   pub rules : FrontRules
   pub late : Bool
   pub notes : Notes
   pub stands : Stands rules late notes c slots
+  pub in_time : late ≡ false
   pub mechanism_is : rules.mechanism ≡ mechanism
   pub settings_are : rules.start.settings ≡ settings
+  pub in_force : settings_after rules.start.settings (arbitration_of (logged notes)) ≡ settings
   pub done : All (WasDone notes) commands
 
 abbrev pub HasDone : Mechanism → ArbitrationFields → List AdminCommand → Front → Type 0

@@ -43,7 +43,7 @@ pub record ComesOne (now : ℕ) (request : Request) (before after : Flights) : T
   pub comes : Becomes now (Some (arrived now request)) (flight_at after (came_in before))
   pub others : (n : ℕ) → n ≢ came_in before → Becomes now (flight_at before n) (flight_at after n)
 
--- so, but for the command of a number, which is done now and wasn't: then it was this
+-- so, but for the command of a number, which is done now and wasn't: then it was this, which it stays where it is kept
 pub record EndsOne (number : ℕ) (now : ℕ) (flight : Flight) (before after : Flights) : Type 0 where
   pub rises : (n : ℕ) → rank (stage_at before n) ≤ rank (stage_at after n)
   pub was : stage_at before number ≢ Some Done
@@ -53,6 +53,7 @@ pub record EndsOne (number : ℕ) (now : ℕ) (flight : Flight) (before after : 
   pub found : flight_at before number ≡ Some old
   pub gone : HasGone now old flight
   pub done : flight.stage ≡ Done
+  pub here : Becomes now (Some flight) (flight_at after number)
   pub times : (n : ℕ) → n ≢ number → Becomes now (flight_at before n) (flight_at after n)
 
 -- a command of a number asks for this

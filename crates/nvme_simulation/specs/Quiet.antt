@@ -1,5 +1,5 @@
 -- What a controller notes between picks: nothing that arbitration goes by, but which commands wait. (profile)
-use Rattle.std.specs.Prelude.{◌≡◌, ◌++◌, Bool, true, false, All, List}
+use Rattle.std.specs.Prelude.{◌≡◌, ◌++◌, Bool, true, false, nat_lt, All, List}
 use Rattle.nvme_arbiter.specs.Settings.{ArbitrationFields}
 use Rattle.nvme_arbiter.specs.declared.settings.Mechanism.{Mechanism}
 use Rattle.nvme_log.specs.Rules.{FrontRules}
@@ -15,10 +15,10 @@ use Rattle.nvme_simulation.specs.declared.front.Front.{Front}
 use Rattle.nvme_simulation.specs.declared.happening.Happening.{Happening}
 use Rattle.nvme_simulation.specs.declared.happening.Happening.TheVariants.{Picked}
 
--- a command is read, taken, answered or completed, or a doorbell is rung: no command is picked, no queue is opened, closed, held or given a class, and the
--- settings stay
+-- a command is read, none of the admin queue, or one is taken, answered or completed, or a doorbell is rung: no command is picked, no queue is opened, closed,
+-- held or given a class, and the settings stay
 abbrev pub is_quiet : Note → Bool
-is_quiet (Logged (Fetch r i entry)) = true
+is_quiet (Logged (Fetch r i entry)) = nat_lt 0 r
 is_quiet (Logged (Post c r i cqe)) = true
 is_quiet (Logged event) = false
 is_quiet (Passed i) = false

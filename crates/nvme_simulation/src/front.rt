@@ -39,11 +39,11 @@ pub(crate) struct Front {
 }
 
 impl Front {
-    ghost use Rattle.std.specs.Prelude.{◌≡◌, [], ◌∷◌, Bool, IfOk, IfSome, None, Some, true};
+    ghost use Rattle.std.specs.Prelude.{◌≡◌, ◌≢◌, [], ◌∷◌, Bool, IfOk, IfSome, None, Some, true};
     ghost use Rattle.nvme_admin.specs.declared.effect.Effect.{Effect};
     ghost use Rattle.nvme_entry.specs.AdminCommand.{admin_command_of};
     ghost use Rattle.nvme_entry.specs.declared.submission.Sqe.{Sqe};
-    ghost use Rattle.nvme_simulation.specs.Creating.{Does, KeepsDone, opens};
+    ghost use Rattle.nvme_simulation.specs.Creating.{Does, HasDone, KeepsDone, opens};
     ghost use Rattle.nvme_arbiter.specs.declared.pick.Pick.{Pick};
     ghost use Rattle.nvme_log.specs.Rules.{FrontRules};
     ghost use Rattle.nvme_ctrl_log.specs.Notes.{Notes};
@@ -63,6 +63,7 @@ impl Front {
     ) -> Result<Front, SimulationFault>
         ensures front { IfOk result (IsFrontOf mechanism settings) }
         ensures depths { IfOk result HasDepths }
+        ensures done { IfOk result (HasDone mechanism settings []) }
     {
         let mut pool = Vec::new(alloc);
         if pool.resize(POOL, Slot::free()).is_err() {
@@ -108,7 +109,7 @@ impl Front {
         requires front { IsFront self.old }
         ensures keeps { KeepsDone self.old self.new }
         ensures front { StaysFront self.old self.new }
-        ensures quiet { Quietly self.old self.new }
+        ensures quiet { qid ≢ 0 → Quietly self.old self.new }
     {
         self.controller.fetched(&mut self.pool, qid, entry, cookie)
     }

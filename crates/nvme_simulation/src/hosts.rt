@@ -1,5 +1,7 @@
 // The hosts of all queues, by the identifiers of their queues.
-ghost use Rattle.std.specs.Prelude.{◌≡◌, ◌≤◌, ◌<◌, ◌+◌, ◌-◌, ◌%◌, ℕ, None, length, IfOk, IfSome, OnOk, OnSome, map, option_map, slice_get, true, vec_len};
+ghost use Rattle.std.specs.Prelude.{◌≡◌, ◌≢◌, ◌≤◌, ◌<◌, ◌+◌, ◌-◌, ◌%◌, ℕ, None, length, IfOk, IfSome, OnOk, OnSome, map, option_map, slice_get, true, vec_len};
+ghost use Rattle.nvme_arbiter.specs.declared.settings.Class.TheVariants.{Admin};
+ghost use Rattle.nvme_simulation.specs.Beginnings.{Shows};
 ghost use Rattle.nvme_simulation.specs.Fronts.{IsFront, StaysFront};
 
 use crate::creates::AdminHost;
@@ -7,7 +9,7 @@ use crate::fault::{Broken, SimulationFault};
 use crate::flight::{Flight, Request};
 use crate::front::Front;
 use crate::host::Host;
-use nvme_arbiter::Seen;
+use nvme_arbiter::{Class, HIGHEST_QID, Seen};
 use nvme_entry::Sqe;
 use nvme_model::Queue;
 use std::alloc::Global;
@@ -20,8 +22,20 @@ pub(crate) struct Hosts {
 // What is told where there is no such command, or it isn't at the stage before.
 const NO_COMMAND: SimulationFault = SimulationFault::Broken(Broken::Command);
 
+// Whether the controller shows the admin queue with no command that waits.
+fn shows_admin(front: &Front) -> bool
+    ensures { result ≡ true → Shows front.now 0 Admin }
+{
+    let idle = Seen {
+        qid: 0,
+        class: Class::Admin,
+        count: 0,
+    };
+    front.seen(0) == Some(idle)
+}
+
 impl Hosts {
-    ghost use Rattle.nvme_simulation.specs.Beginnings.{AreHostsOf, DrawTheirStreams, Shows, ShowsAll, StayUnused, qid_at};
+    ghost use Rattle.nvme_simulation.specs.Beginnings.{AreHostsOf, DrawTheirStreams, ShowsAll, ShowsNoOther, ShowsNone, StayUnused, qid_at};
     ghost use Rattle.nvme_simulation.specs.Creating.{Does, creates_from};
     ghost use Rattle.nvme_simulation.specs.First.{starting};
     ghost use Rattle.nvme_simulation.specs.Following.{IsNextOf, closed_in, goes_on, host_of};
@@ -45,6 +59,7 @@ impl Hosts {
         ensures hosts { IfOk result (λ h. AreHostsOf queues.items h.all.items) }
         ensures streams { IfOk result (λ h. DrawTheirStreams seed h.all.items) }
         ensures shows { IfOk result (λ h. ShowsAll front.new h.all.items) }
+        ensures alone { IfOk result (λ h. ShowsNoOther front.new (length h.all.items)) }
         ensures creates { IfOk result (λ h. length h.all.items ≤ 65_535 → Does (creates_from 1 (map load_of h.all.items)) front.old front.new) }
     {
         let mut all = Vec::new(alloc);
@@ -59,6 +74,9 @@ impl Hosts {
         }
         let hosts = Hosts { all };
         if !hosts.are_shown(front) {
+            return Err(SimulationFault::Broken(Broken::Create));
+        }
+        if !hosts.are_alone(front) {
             return Err(SimulationFault::Broken(Broken::Create));
         }
         Ok(hosts)
@@ -86,6 +104,28 @@ impl Hosts {
     {
         for place in 0..self.all.len() {
             if !self.is_shown(front, place) {
+                return false;
+            }
+        }
+        true
+    }
+
+    // Whether arbitration is shown no queue of this identifier, where it is behind those of the hosts.
+    fn is_left_out(&self, front: &Front, qid: u16) -> bool
+        ensures { result ≡ true → length self.now.all.items < qid → ShowsNone front.now qid }
+    {
+        usize::from(qid) <= self.all.len() || front.seen(qid).is_none()
+    }
+
+    // Whether it is shown no other queue, but the admin queue with no command that waits.
+    fn are_alone(&self, front: &Front) -> bool
+        ensures { result ≡ true → ShowsNoOther front.now (length self.now.all.items) }
+    {
+        if !shows_admin(front) {
+            return false;
+        }
+        for qid in 0..HIGHEST_QID + 1 {
+            if !self.is_left_out(front, qid) {
                 return false;
             }
         }
@@ -209,6 +249,7 @@ impl Hosts {
     pub(crate) fn fetch(&mut self, qid: u16, slot: u16) -> Result<(u32, Sqe), SimulationFault>
         ensures goes { (now : ℕ) → AllGoOn now self.old self.new }
         ensures rests { AllRest self.old self.new }
+        ensures io { OnOk result (qid ≢ 0) }
     {
         let Some(place) = self.place(qid) else {
             return Err(NO_COMMAND);

@@ -1,7 +1,12 @@
 mod Calls
+mod Drawn
 mod Ends
 mod Histories
+mod Models
+mod Pending
+mod Served
 mod Services
+mod Shown
 mod Steps
 mod Tracks
 mod Waits

@@ -15,7 +15,7 @@ use Rattle.nvme_simulation.specs.declared.host.Host.{Host}
 use Rattle.nvme_simulation.specs.declared.hosts.Hosts.{Hosts}
 use Rattle.nvme_waits_of_runs.specs.Waits.{AllRunAtMost, RunsAtMost}
 
-request_stays : (s : Stage) (now : ℕ) (f : Flight) → (gone_from s now f).request ≡ f.request
+pub request_stays : (s : Stage) (now : ℕ) (f : Flight) → (gone_from s now f).request ≡ f.request
 request_stays Came now f = refl
 request_stays Submitted now f = refl
 request_stays Fetched now f = refl
@@ -23,7 +23,7 @@ request_stays Picked now f = refl
 request_stays Begun now f = refl
 request_stays Done now f = refl
 
-abbrev Short : ℕ → Option Flight → Type 0
+abbrev pub Short : ℕ → Option Flight → Type 0
 Short longest o = IfSome o (λ f. f.request.service ≤ longest)
 
 kept_short : (longest : ℕ) (o p : Option Flight) → Keeps o p → Short longest o → Short longest p

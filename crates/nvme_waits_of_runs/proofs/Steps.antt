@@ -78,7 +78,7 @@ comes_time a b what c = follows_time (rest_of (events_of a.machine.agenda) c.fir
 pub left_in : (a b : Simulation) (what : Event) (c : Comes a b what) (k at : ℕ) → (what ≡ End k → ⊥) → EndIn k at (events_of a.machine.agenda).events → EndIn k at c.others
 left_in a b what c k at other some = end_rest k at c.first c.others (λ e. other (sym c.is ∙ e)) (subst (EndIn k at) c.events some)
 
-rest_is : (a b : Simulation) (what : Event) (c : Comes a b what) (g : Agenda) → events_of g ≡ (popped (events_of a.machine.agenda)).1
+pub rest_is : (a b : Simulation) (what : Event) (c : Comes a b what) (g : Agenda) → events_of g ≡ (popped (events_of a.machine.agenda)).1
     → events_of g ≡ rest_of (events_of a.machine.agenda) c.first c.others
 rest_is a b what c g is = is ∙ ap (λ (es : List (Timed Event)). (first_of (events_of a.machine.agenda) es).1) c.events
 

@@ -42,7 +42,6 @@ use Rattle.nvme_simulation.specs.Simulations.{IsSimulation, StandsAt, hosts_of, 
 use Rattle.nvme_simulation.specs.Stepping.{HasStepped}
 use Rattle.nvme_simulation.specs.Waits.{IsReady}
 use Rattle.nvme_simulation.specs.declared.agenda.Event.{Event}
-use Rattle.nvme_simulation.specs.declared.agenda.Event.TheVariants as event
 use Rattle.nvme_simulation.specs.declared.happening.Happening.{Happening}
 use Rattle.nvme_simulation.specs.declared.happening.Happening.TheVariants.{Came, Picked, Settled, Finished, Paused, Resumed, Over}
 use Rattle.nvme_simulation.specs.declared.machine.Machine.{Machine}
@@ -94,7 +93,7 @@ none_ends a b h s picks planned = channel_ends (time_of b) (device_in a.machine.
 
 -- ---- a run
 -- a controller stands at notes at which the model's settings are in force
-record Arranged (model : Model) (s : Simulation) : Type 0 where
+pub record Arranged (model : Model) (s : Simulation) : Type 0 where
   pub front : IsFrontOf model.mechanism model.settings s.machine.front
   pub settings : settings_after front.rules.start.settings (arbitration_of (logged front.notes)) ≡ model.settings
 
@@ -119,7 +118,7 @@ quiet_arranged model a b quiet r =
     let f = r.front in
     arranged_behind model b f.rules f.late f.notes (quiet f.rules f.late f.notes f.stands) f.in_time f.mechanism_is f.settings_are r.settings
 
-arranged_step : (model : Model) (a b : Simulation) (h : Happening) → HasStepped a b h → Arranged model a → Arranged model b
+pub arranged_step : (model : Model) (a b : Simulation) (h : Happening) → HasStepped a b h → Arranged model a → Arranged model b
 arranged_step model a b (Came queue) s r = quiet_arranged model a b s.notes r
 arranged_step model a b Settled s r = quiet_arranged model a b s.notes r
 arranged_step model a b (Finished command counted) s r = quiet_arranged model a b s.notes r

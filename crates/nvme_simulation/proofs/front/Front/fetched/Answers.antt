@@ -1,4 +1,4 @@
-use Rattle.std.proofs.Common.{List, inl, inr, sym, subst}
+use Rattle.std.proofs.Common.{List, inl, inr, refl, sym, subst}
 use Rattle.std.proofs.lemmas.Bool.{cases_Bool}
 use Rattle.nvme_ctrl.specs.Standing.{IsController, Stands}
 use Rattle.nvme_slots.specs.declared.slot.Slot.{Slot}
@@ -18,7 +18,7 @@ returns c =
       keeps = λ m s done h. at_pool (λ (xs : List Slot). StandsAfter m s done made xs) c.args.self.now.pool _ c.fetched.new.slots value c.fetched.ensures.size
           (let stood = subst (λ (xs : List Slot). StandsAfter m s done c.args.self.now.controller xs) (sym value) h in
           elim (cases_Bool c.fetched.result) [
-            | inl done_it ↦ noted m s done _ _ _ _ stood _ (c.fetched.ensures.stands stood.rules stood.late stood.notes stood.stands done_it).stands (fetch_done _ _ _ _ _)
+            | inl done_it ↦ noted m s done _ _ _ _ stood _ (c.fetched.ensures.stands stood.rules stood.late stood.notes stood.stands done_it).stands refl (fetch_done _ _ _ _ _)
             | inr refused ↦ same_done m s done _ _ _ _ (c.fetched.ensures.refused refused) stood
           ]);
       front = record {
@@ -32,11 +32,11 @@ returns c =
               | inr refused ↦ unchanged m s _ _ _ _ (c.fetched.ensures.refused refused) stood
             ]);
       };
-      quiet = λ rules late notes s.
+      quiet = λ io rules late notes s.
           at_pool (λ (xs : List Slot). StandsBehind rules late notes made xs) c.args.self.now.pool _ c.fetched.new.slots value c.fetched.ensures.size
           (let stood = subst (λ (xs : List Slot). Stands rules late notes c.args.self.now.controller xs) (sym value) s in
           elim (cases_Bool c.fetched.result) [
-            | inl done ↦ behind_fetch rules late notes _ _ _ _ _ (c.fetched.ensures.stands rules late notes stood done)
+            | inl done ↦ behind_fetch rules late notes _ _ _ _ _ io (c.fetched.ensures.stands rules late notes stood done)
             | inr refused ↦ behind_same rules late notes _ _ _ _ (c.fetched.ensures.refused refused) stood
           ]);
     }

@@ -17,7 +17,7 @@ returns c =
       keeps = λ m s done h. at_pool (λ (xs : List Slot). StandsAfter m s done c.post.new.self xs) c.args.self.now.pool _ c.post.new.slots value c.post.ensures.size
           (let stood = subst (λ (xs : List Slot). StandsAfter m s done c.args.self.now.controller xs) (sym value) h in
           told_done m s done _ _ _ _ _ c.post.result c.post.ensures.none (c.post.ensures.stands stood.rules stood.late stood.notes stood.stands)
-          (λ x p. noted m s done _ _ _ _ stood _ p.stands (post_done _ _ _ _ _)) stood);
+          (λ x p. noted m s done _ _ _ _ stood _ p.stands refl (post_done _ _ _ _ _)) stood);
       front = record {
         is = at_pool (λ (xs : List Slot). IsController c.post.new.self xs) c.args.self.now.pool _ c.post.new.slots value c.post.ensures.size
             (c.post.ensures.front (subst (λ (xs : List Slot). IsController c.args.self.now.controller xs) (sym value) c.requires.front));

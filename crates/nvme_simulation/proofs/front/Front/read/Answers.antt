@@ -12,7 +12,7 @@ pub returns : goal.returns
 returns c = record {
   keeps = λ m s done h. elim (cases_Bool c.cq_head.result) [
     | inl rung ↦
-        noted m s done _ _ _ _ h _ (c.cq_head.ensures.stands h.rules h.late h.notes c.args.self.now.pool.items h.stands rung).stands (head_done _ _ _)
+        noted m s done _ _ _ _ h _ (c.cq_head.ensures.stands h.rules h.late h.notes c.args.self.now.pool.items h.stands rung).stands refl (head_done _ _ _)
     | inr refused ↦ subst (λ (x : Controller). StandsAfter m s done x c.args.self.now.pool.items) (sym (c.cq_head.ensures.refused refused)) h
   ];
   front = record {

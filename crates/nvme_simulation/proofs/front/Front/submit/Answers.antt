@@ -12,7 +12,7 @@ pub returns : goal.returns
 returns c = record {
   keeps = λ m s done h. elim (cases_Bool c.sq_tail.result) [
     | inl rung ↦
-        noted m s done _ _ _ _ h _ (c.sq_tail.ensures.stands h.rules h.late h.notes c.args.self.now.pool.items h.stands rung).stands (tail_done _ _ _)
+        noted m s done _ _ _ _ h _ (c.sq_tail.ensures.stands h.rules h.late h.notes c.args.self.now.pool.items h.stands rung).stands refl (tail_done _ _ _)
     | inr refused ↦ subst (λ (x : Controller). StandsAfter m s done x c.args.self.now.pool.items) (sym (c.sq_tail.ensures.refused refused)) h
   ];
   front = record {

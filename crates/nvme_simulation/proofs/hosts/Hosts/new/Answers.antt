@@ -39,6 +39,9 @@ loop-queue-preserved c = record {
 pub returns-then-not-are_shown-clause-front : goal.returns-then-not-are_shown-clause-front
 returns-then-not-are_shown-clause-front c = c.loop-queue.invariant.front
 
+pub returns-then-not-are_alone-clause-front : goal.returns-then-not-are_alone-clause-front
+returns-then-not-are_alone-clause-front c = c.loop-queue.invariant.front
+
 pub returns-clause-streams : goal.returns-clause-streams
 returns-clause-streams c = c.loop-queue.invariant.streams
 

@@ -1,5 +1,5 @@
 use Rattle.std.proofs.Common.{◌∙◌, refl, sym, arith}
-use Rattle.nvme_simulation.proofs.Machines.{front_then, goes_front}
+use Rattle.nvme_simulation.proofs.Machines.{goes_front}
 use Rattle.nvme_simulation.proofs.Quiet.{front_by, front_goes}
 use Rattle.nvme_simulation.proofs.Hosted.{all_stay}
 use Rattle.nvme_simulation.proofs.machine.Machine.collect.Goals as goal

@@ -4,7 +4,7 @@ use Rattle.nvme_simulation.specs.Reading.{HasRead}
 use Rattle.nvme_simulation.specs.Rings.{HasSubmitted}
 use Rattle.nvme_simulation.specs.declared.machine.Machine.{Machine}
 use Rattle.nvme_simulation.proofs.Hosted.{come_then}
-use Rattle.nvme_simulation.proofs.Machines.{all_at, comes_at, front_stays, goes_then, on_ok, plans_if, plans_if_not, works, on_ok_to}
+use Rattle.nvme_simulation.proofs.Machines.{all_at, comes_at, goes_then, on_ok, plans_if, plans_if_not, works}
 use Rattle.nvme_simulation.proofs.Quiet.{front_rests}
 use Rattle.nvme_simulation.proofs.Plans.{follows_self, follows_time}
 use Rattle.nvme_simulation.proofs.Rooms.{behind_none}

@@ -5,7 +5,7 @@ use Rattle.nvme_simulation.specs.Starts.{PlansEnd, StartsOn}
 use Rattle.nvme_simulation.specs.declared.agenda.Agenda.{Agenda}
 use Rattle.nvme_simulation.specs.declared.channels.Runs.{Runs}
 use Rattle.nvme_simulation.proofs.Hosted.{all_stay}
-use Rattle.nvme_simulation.proofs.Machines.{completes_from, ends_at, front_stays, goes_then}
+use Rattle.nvme_simulation.proofs.Machines.{completes_from, ends_at, goes_then}
 use Rattle.nvme_simulation.proofs.Quiet.{front_rests, stays_front}
 use Rattle.nvme_simulation.proofs.Plans.{follows_self}
 use Rattle.nvme_simulation.proofs.machine.Machine.end.Goals as goal
