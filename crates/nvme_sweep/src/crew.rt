@@ -1,8 +1,4 @@
 // Makes runs on several threads.
-ghost use Rattle.std.specs.Prelude.{◌≡◌, ℕ, All, IfOk, None};
-ghost use Rattle.nvme_points.specs.declared.sweep.Sweep.{Sweep};
-ghost use Rattle.nvme_sweep.specs.Outcomes.{AreOutcomes, IsMade, IsRunAt, IsShare};
-
 use crate::tally::Tally;
 use nvme_points::{Run, Sweep, SweepFault, add};
 use std::alloc::{AllocError, Global};
@@ -31,9 +27,6 @@ struct Made<'a> {
     outcome: Outcome<'a>,
 }
 
-// What a thread made.
-type Share<'a> = Result<Vec<Made<'a>>, AllocError>;
-
 // The runs of a batch, of which threads take one after another.
 #[derive(Drop)]
 struct Shift<'s, 'a, P> {
@@ -60,9 +53,7 @@ impl<'a, P: Write + Drop> Shift<'_, 'a, P> {
     }
 
     // Makes the run at a place.
-    fn run(&self, alloc: Global, place: usize) -> Outcome<'a>
-        ensures { IfOk result (IsRunAt self.now.sweep.now self.now.first place) }
-    {
+    fn run(&self, alloc: Global, place: usize) -> Outcome<'a> {
         let seeds = self.sweep.runs_of_each();
         let point = self.first.saturating_add(place / seeds);
         let number = (place % seeds) as u64;
@@ -70,9 +61,7 @@ impl<'a, P: Write + Drop> Shift<'_, 'a, P> {
     }
 
     // What a thread does: it makes runs until there is none to take.
-    fn work(&self, alloc: Global) -> Share<'a>
-        ensures { IsShare self.now.sweep.now self.now.first result }
-    {
+    fn work(&self, alloc: Global) -> Result<Vec<Made<'a>>, AllocError> {
         let mut made = Vec::new(alloc);
         for _ in 0..self.runs {
             let Some(place) = self.take() else {
@@ -92,9 +81,7 @@ impl<'a, P: Write + Drop> Shift<'_, 'a, P> {
 }
 
 // So many empty places for outcomes.
-fn places<'a>(alloc: Global, count: usize) -> Result<Vec<Option<Outcome<'a>>>, AllocError>
-    ensures { IfOk result (λ p. All (λ o. o ≡ None) p.items) }
-{
+fn places<'a>(alloc: Global, count: usize) -> Result<Vec<Option<Outcome<'a>>>, AllocError> {
     let mut places = Vec::new(alloc);
     for _ in 0..count {
         add(&mut places, None)?;
@@ -102,55 +89,18 @@ fn places<'a>(alloc: Global, count: usize) -> Result<Vec<Option<Outcome<'a>>>, A
     Ok(places)
 }
 
-// Puts a run that a thread made into its place.
-fn put_one<'a>(outcomes: &mut Vec<Option<Outcome<'a>>>, made: Made<'a>)
-    ensures { (sweep : Sweep) (first : ℕ) → IsMade sweep first made.entry → AreOutcomes sweep first outcomes.old.items → AreOutcomes sweep first outcomes.new.items }
-{
-    let Made { place, outcome } = made;
-    if place < outcomes.len() {
-        outcomes[place] = Some(outcome);
-    }
-}
-
 // Puts what a thread made into its places.
-fn put_made<'a>(outcomes: &mut Vec<Option<Outcome<'a>>>, made: Vec<Made<'a>>)
-    ensures { (sweep : Sweep) (first : ℕ) → All (IsMade sweep first) made.entry.items → AreOutcomes sweep first outcomes.old.items → AreOutcomes sweep first outcomes.new.items }
-{
-    for one in made {
-        put_one(outcomes, one);
+fn put_made<'a>(outcomes: &mut [Option<Outcome<'a>>], made: Vec<Made<'a>>) {
+    for Made { place, outcome } in made {
+        if let Some(slot) = outcomes.get_mut(place) {
+            *slot = Some(outcome);
+        }
     }
-}
-
-// What threads made, put into so many places.
-fn gathered<'a>(
-    alloc: Global,
-    count: usize,
-    shares: Vec<Share<'a>>,
-) -> Result<Vec<Option<Outcome<'a>>>, AllocError>
-    ensures { (sweep : Sweep) (first : ℕ) → All (IsShare sweep first) shares.entry.items → IfOk result (λ o. AreOutcomes sweep first o.items) }
-{
-    let mut outcomes = places(alloc, count)?;
-    for share in shares {
-        put_made(&mut outcomes, share?);
-    }
-    Ok(outcomes)
-}
-
-// What each thread made.
-fn shares_of<'a, R: Threads + Sync, P: Write + Drop + Send>(
-    rt: &R,
-    alloc: Global,
-    shift: &Shift<'_, 'a, P>,
-    threads: usize,
-) -> Result<Vec<Share<'a>>, AllocError>
-    ensures { IfOk result (λ s. All (IsShare shift.now.sweep.now shift.now.first) s.items) }
-{
-    thread::map_indices(rt, alloc, threads, &|_| shift.work(alloc))
 }
 
 /// Makes the runs of a batch on so many threads at most; where one can't be started, the others make all. What a run came to
-/// stands in its place, whichever thread made it: point behind point, and of each seed behind seed. Behind one that failed
-/// others may be missing, and none before it.
+/// stands in its place: point behind point, and of each seed behind seed. Behind one that failed others may be missing, and
+/// none before it.
 pub fn outcomes_of<'a, R: Threads + Sync, P: Write + Drop + Send>(
     rt: &R,
     alloc: Global,
@@ -158,9 +108,7 @@ pub fn outcomes_of<'a, R: Threads + Sync, P: Write + Drop + Send>(
     batch: Batch,
     jobs: usize,
     tally: &Tally<P>,
-) -> Result<Vec<Option<Outcome<'a>>>, AllocError>
-    ensures { IfOk result (λ o. AreOutcomes sweep.now batch.first o.items) }
-{
+) -> Result<Vec<Option<Outcome<'a>>>, AllocError> {
     let runs = batch.points.saturating_mul(sweep.runs_of_each());
     let shift = Shift {
         sweep,
@@ -170,6 +118,13 @@ pub fn outcomes_of<'a, R: Threads + Sync, P: Write + Drop + Send>(
         is_over: AtomicBool::new(false),
         tally,
     };
-    let shares = shares_of(rt, alloc, &shift, jobs.min(runs))?;
-    gathered(alloc, runs, shares)
+    let shares = thread::map_indices(rt, alloc, jobs.min(runs), &|_| shift.work(alloc))?;
+    let mut outcomes = places(alloc, runs)?;
+    for share in shares {
+        match share {
+            Ok(made) => put_made(outcomes.as_mut_slice(), made),
+            Err(error) => return Err(error),
+        }
+    }
+    Ok(outcomes)
 }
